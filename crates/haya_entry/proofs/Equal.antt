@@ -1,0 +1,83 @@
+-- The derived `==` tells whether two entries have the same view.
+use Rattle.std.proofs.Common.{◌≡◌, ℕ, suc, zero, ◌+◌, ◌≤◌, Bool, ◌&&◌, List, [], ◌∷◌, refl, ap, map, Option, arith}
+use Rattle.std.specs.Option.{option_eq}
+use Rattle.std.specs.String.{string_eq}
+use lib.Pointwise.{pointwise}
+use denote.Enum.Bare.{sameb, same_true, true_same}
+use Rattle.haya_entry.specs.declared.entry.Entry.{Entry, out-Entry}
+use Rattle.haya_entry.specs.declared.entry.Entry.TheOpen.{Entry-F}
+use Rattle.haya_entry.specs.declared.types.EntryType.{EntryType}
+use Rattle.haya_entry.specs.contracts.types.EntryType as entry_type
+use Rattle.haya_entry.specs.contracts.entry.EntryPartialEq.TheImpl as entry
+use Rattle.haya_entry.specs.contracts.entry.EntryPartialEq.TheImpl.Laws as entry_laws
+use Rattle.haya_entry.specs.contracts.entry.SerialNumberPartialEq.TheImpl as serial
+use Rattle.haya_entry.specs.Serials.{Serials, serial_entry, serial_view}
+use Rattle.haya_entry.specs.Tree.{Tree, Trees, node, trees, listed, fields_of, view, size, sizes}
+use Rattle.haya_entry.proofs.Trees.{listed-trees, view_is}
+use Rattle.haya_text.proofs.Tells.{Same, Tells, Same-both, Same-along, and-both, both-and, lists-tell, options-tell, strings-tell}
+
+serials-tell : Tells serial.ghosts.eq serial_view
+serials-tell a b = lists-tell _ serial_entry (λ p q. Same-both _ _ _ _ _ _ (strings-tell p.0 q.0) (strings-tell p.1 q.1)) a.0.entries b.0.entries
+
+-- one level of `==`
+abbrev level_eq : Entry-F Entry → Entry-F Entry → Bool
+level_eq a b =
+    string_eq a.key b.key
+    && (sameb entry_type.the_type a.entry_type b.entry_type
+    && (pointwise entry.ghosts.eq a.parents.items b.parents.items
+    && (option_eq string_eq a.language b.language
+    && option_eq serial.ghosts.eq a.serial_number b.serial_number)))
+
+one_level : (a b : Entry) → entry.ghosts.eq a b ≡ level_eq (out-Entry a) (out-Entry b)
+one_level a b = entry_laws.is a b
+
+-- a level's parts, in the order of the fields
+abbrev Parts : Type 0
+Parts = List ℕ × (EntryType × (Trees × (Option (List ℕ) × Option Serials)))
+
+abbrev whole : Parts → Tree
+whole p = node (record { key = p.0; entry_type = p.1.0; language = p.1.1.1.0; serial_number = p.1.1.1.1 }) p.1.1.0
+
+abbrev parts : Tree → Parts
+parts (node f ps) = (f.key, (f.entry_type, (ps, (f.language, f.serial_number))))
+
+level_view : Entry-F Entry → Tree
+level_view e = node (fields_of e) (trees (map view e.parents.items))
+
+levels-tell : (a b : Entry-F Entry)
+    → Same (pointwise entry.ghosts.eq a.parents.items b.parents.items) (map view a.parents.items) (map view b.parents.items)
+    → Same (level_eq a b) (level_view a) (level_view b)
+unfolding level_view
+levels-tell a b h =
+    Same-along _ whole parts _ _ refl refl
+    (Same-both _ _ _ _ _ _ (strings-tell a.key b.key)
+    (Same-both _ _ _ _ _ _ (same_true entry_type.the_type tt a.entry_type b.entry_type, true_same entry_type.the_type a.entry_type b.entry_type)
+    (Same-both _ _ _ _ _ _ (Same-along _ trees listed _ _ (listed-trees _) (listed-trees _) h)
+    (Same-both _ _ _ _ _ _ (options-tell _ _ strings-tell a.language b.language)
+    (options-tell _ _ serials-tell a.serial_number b.serial_number)))))
+
+-- the same for lists of trees of at most n entries
+lists-tell-below : (n : ℕ) → ((x y : Entry) → size (view x) ≤ n → Same (entry.ghosts.eq x y) (view x) (view y))
+    → (xs ys : List Entry) → sizes (trees (map view xs)) ≤ n → Same (pointwise entry.ghosts.eq xs ys) (map view xs) (map view ys)
+lists-tell-below n t [] [] s = (λ _. refl, λ _. refl)
+lists-tell-below n t [] (y ∷ ys) s = (λ h. cc, λ h. cc)
+lists-tell-below n t (x ∷ xs) [] s = (λ h. cc, λ h. cc)
+lists-tell-below n t (x ∷ xs) (y ∷ ys) s =
+    let here = t x y (omega arith) in
+    let rest = lists-tell-below n t xs ys (omega arith) in (
+      λ h. let p = and-both (entry.ghosts.eq x y) (pointwise entry.ghosts.eq xs ys) h in let a : view x ≡ view y = here.0 p.0 in let b : map view xs ≡ map view ys = rest.0 p.1 in ap (λ (q : Tree × List Tree). q.0 ∷ q.1) (λ i. (a i, b i)),
+      λ h. let a : view x ≡ view y = cc in let b : map view xs ≡ map view ys = cc in both-and (entry.ghosts.eq x y) (pointwise entry.ghosts.eq xs ys) (here.1 a) (rest.1 b),
+    )
+
+size_is : (x : Entry) → size (view x) ≡ 1 + sizes (trees (map view (out-Entry x).parents.items))
+size_is x = ap size (view_is x)
+
+tells-below : (n : ℕ) (x y : Entry) → size (view x) ≤ n → Same (entry.ghosts.eq x y) (view x) (view y)
+unfolding level_view
+tells-below zero x y s = absurd (omega (arith, size_is x))
+tells-below (suc n) x y s =
+    let below = lists-tell-below n (tells-below n) (out-Entry x).parents.items (out-Entry y).parents.items (omega (arith, size_is x)) in
+    rw (one_level x y, view_is x, view_is y) (levels-tell (out-Entry x) (out-Entry y) below)
+
+pub entries-tell : Tells entry.ghosts.eq view
+entries-tell x y = tells-below (size (view x)) x y (omega arith)

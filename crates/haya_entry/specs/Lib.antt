@@ -1,0 +1,4 @@
+pub mod EntryType
+pub mod Serials
+pub mod Tree
+pub mod Names

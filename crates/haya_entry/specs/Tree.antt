@@ -1,0 +1,80 @@
+-- An entry by value: a tree of plain data.
+use Rattle.std.specs.Prelude.{ℕ, ◌+◌, List, [], ◌∷◌, Option, None, Some, option_and_then, option_map, slice_get, string_bytes}
+use Rattle.haya_entry.specs.declared.entry.Entry.{Entry}
+use Rattle.haya_entry.specs.declared.entry.Entry.TheOpen.{Entry-F}
+use Rattle.haya_entry.specs.declared.entry.Entry.TheFolds.{fold-Entry}
+use Rattle.haya_entry.specs.declared.types.EntryType.{EntryType}
+use Rattle.haya_entry.specs.Serials.{Serials, serial_view}
+
+-- all of an entry but its parents
+pub record Fields : Type 0 where
+  pub key : List ℕ
+  pub entry_type : EntryType
+  pub language : Option (List ℕ)
+  pub serial_number : Option Serials
+
+mutual
+  -- fields, and parents in order
+  pub data Tree : Type 0 where
+    node : Fields → Trees → Tree
+
+  pub data Trees : Type 0 where
+    no_trees : Trees
+    one_more : Tree → Trees → Trees
+
+abbrev pub trees : List Tree → Trees
+trees [] = no_trees
+trees (t ∷ ts) = one_more t (trees ts)
+
+abbrev pub listed : Trees → List Tree
+listed no_trees = []
+listed (one_more t ts) = t ∷ listed ts
+
+abbrev pub fields : Tree → Fields
+fields (node f ps) = f
+
+abbrev pub parents : Tree → List Tree
+parents (node f ps) = listed ps
+
+-- how many entries the tree has
+abbrev mutual
+  pub size : Tree → ℕ
+  size (node f ps) = 1 + sizes ps
+
+  pub sizes : Trees → ℕ
+  sizes no_trees = 0
+  sizes (one_more t ts) = size t + sizes ts
+
+-- the entry at a path: a list of places, each among the parents of the entry before
+abbrev pub at : Tree → List ℕ → Option Tree
+at t [] = Some t
+at t (i ∷ path) = option_and_then (λ p. at p path) (slice_get (parents t) i)
+
+-- the same from a list of parents
+abbrev pub at_list : List Tree → List ℕ → Option Tree
+at_list ts [] = None
+at_list ts (i ∷ path) = option_and_then (λ p. at p path) (slice_get ts i)
+
+-- one level of an entry, but for its parents
+abbrev pub fields_of : {P : Type 0} → Entry-F P → Fields
+fields_of e = record {
+  key = string_bytes e.key;
+  entry_type = e.entry_type;
+  language = option_map string_bytes e.language;
+  serial_number = option_map serial_view e.serial_number;
+}
+
+abbrev pub view_step : Entry-F Tree → Tree
+view_step e = node (fields_of e) (trees e.parents.items)
+
+-- the value of an entry
+abbrev pub view : Entry → Tree
+view = fold-Entry Tree view_step
+
+-- the same parents under changed fields
+abbrev pub with_fields : (Fields → Fields) → Tree → Tree
+with_fields change (node f ps) = node (change f) ps
+
+-- an entry with a key and a type alone
+abbrev pub bare : List ℕ → EntryType → Tree
+bare key kind = node (record { key = key; entry_type = kind; language = None; serial_number = None }) no_trees

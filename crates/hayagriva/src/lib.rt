@@ -1,0 +1,8 @@
+//! A literature library, and the selectors that pick its entries.
+#![tactic(auto)]
+
+mod selectors;
+
+pub use haya_entry::{Entry, Steps};
+pub use haya_text::OutOfMemory;
+pub use selectors::{Selector, SelectorError};
