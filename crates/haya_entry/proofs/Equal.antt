@@ -10,13 +10,13 @@ use Rattle.haya_entry.specs.declared.types.EntryType.{EntryType}
 use Rattle.haya_entry.specs.contracts.types.EntryType as entry_type
 use Rattle.haya_entry.specs.contracts.entry.EntryPartialEq.TheImpl as entry
 use Rattle.haya_entry.specs.contracts.entry.EntryPartialEq.TheImpl.Laws as entry_laws
-use Rattle.haya_entry.specs.contracts.entry.SerialNumberPartialEq.TheImpl as serial
-use Rattle.haya_entry.specs.Serials.{Serials, serial_entry, serial_view}
+use Rattle.haya_entry.specs.contracts.types.SerialNumberPartialEq.TheImpl as serial
+use Rattle.haya_entry.specs.SerialNumber.{Serials, serial_entry, serial_view}
 use Rattle.haya_entry.specs.Tree.{Tree, Trees, node, trees, listed, fields_of, view, size, sizes}
 use Rattle.haya_entry.proofs.Trees.{listed-trees, view_is}
 use Rattle.haya_text.proofs.Tells.{Same, Tells, Same-both, Same-along, and-both, both-and, lists-tell, options-tell, strings-tell}
 
-serials-tell : Tells serial.ghosts.eq serial_view
+pub serials-tell : Tells serial.ghosts.eq serial_view
 serials-tell a b = lists-tell _ serial_entry (λ p q. Same-both _ _ _ _ _ _ (strings-tell p.0 q.0) (strings-tell p.1 q.1)) a.0.entries b.0.entries
 
 -- one level of `==`

@@ -1,4 +1,3 @@
 pub mod Trees
 pub mod Equal
 mod SerialLemmas
-mod Walked

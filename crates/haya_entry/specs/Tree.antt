@@ -4,7 +4,7 @@ use Rattle.haya_entry.specs.declared.entry.Entry.{Entry}
 use Rattle.haya_entry.specs.declared.entry.Entry.TheOpen.{Entry-F}
 use Rattle.haya_entry.specs.declared.entry.Entry.TheFolds.{fold-Entry}
 use Rattle.haya_entry.specs.declared.types.EntryType.{EntryType}
-use Rattle.haya_entry.specs.Serials.{Serials, serial_view}
+use Rattle.haya_entry.specs.SerialNumber.{Serials, serial_view, serial_text, with_serial}
 
 -- all of an entry but its parents
 pub record Fields : Type 0 where
@@ -74,6 +74,18 @@ view = fold-Entry Tree view_step
 -- the same parents under changed fields
 abbrev pub with_fields : (Fields → Fields) → Tree → Tree
 with_fields change (node f ps) = node (change f) ps
+
+-- the same fields over other parents
+abbrev pub with_parents : List Tree → Tree → Tree
+with_parents ts (node f ps) = node f (trees ts)
+
+-- the serial number under a key
+abbrev pub keyed_serial_number : List ℕ → Tree → Option (List ℕ)
+keyed_serial_number key t = serial_text key (fields t).serial_number
+
+-- the entry with this serial number under the key, in the place of the one that was there
+abbrev pub with_keyed_serial_number : List ℕ → List ℕ → Tree → Tree
+with_keyed_serial_number key text = with_fields (λ f. record f { serial_number = Some (with_serial key text f.serial_number) })
 
 -- an entry with a key and a type alone
 abbrev pub bare : List ℕ → EntryType → Tree

@@ -1,12 +1,12 @@
-ghost use Rattle.std.specs.Prelude.{◌≡◌, ℕ, ◌+◌, ◌^◌, ◌-◌, ◌<◌, min};
+ghost use Rattle.std.specs.Prelude.{◌≡◌, ℕ, ◌+◌, ◌^◌, ◌-◌, min};
 
 use std::marker::{Model, PhantomData};
 
 // A whole number that takes no bytes: contracts alone see it.
 #[derive(Drop)]
-pub struct Tally {
+struct Tally {
     marker: PhantomData<()>,
-    pub ghost count: { ℕ },
+    ghost count: { ℕ },
 }
 
 impl Model for Tally {
@@ -16,7 +16,7 @@ impl Model for Tally {
 }
 
 impl Tally {
-    pub fn zero() -> Tally
+    fn zero() -> Tally
         ensures { result.count ≡ 0 }
     {
         Tally {
@@ -24,12 +24,12 @@ impl Tally {
         }
     }
 
-    pub fn bump(&mut self)
+    fn bump(&mut self)
         ensures { self.new.count ≡ self.old.count + 1 }
     {}
 }
 
-// How many steps were taken, a whole number.
+/// A count of steps. Contracts see it as a whole number, whatever its size.
 #[derive(Drop)]
 pub struct Steps {
     seen: u64,
@@ -41,10 +41,12 @@ impl Model for Steps {
 
     ghost view = { λ s. s.tally.count };
 
+    // All of the number that there is room for.
     ghost invariant = { λ s. s.seen ≡ min s.tally.count (2 ^ 64 - 1) };
 }
 
 impl Steps {
+    /// No step yet.
     pub fn new() -> Steps
         ensures { result ≡ 0 }
     {
@@ -54,6 +56,7 @@ impl Steps {
         }
     }
 
+    /// Counts one more step.
     pub fn tick(&mut self)
         ensures { self.new ≡ self.old + 1 }
     {
@@ -61,6 +64,7 @@ impl Steps {
         self.seen = self.seen.saturating_add(1);
     }
 
+    /// The number of steps, or the greatest `u64` where there were more.
     pub fn seen(&self) -> u64
         ensures { result ≡ min self.now (2 ^ 64 - 1) }
     {

@@ -5,7 +5,7 @@ use Rattle.std.specs.Cmp.Lexicographic.{slice_cmp}
 use Rattle.std.specs.Map.{lookup}
 use Rattle.std.specs.Ordering.{nat_cmp}
 use Rattle.std.specs.Str.{bytes_eq}
-use Rattle.haya_entry.specs.declared.entry.SerialNumber.{SerialNumber}
+use Rattle.haya_entry.specs.declared.types.SerialNumber.{SerialNumber}
 
 -- keys with their texts, in the order of the keys
 abbrev pub Serials : Type 0
@@ -14,13 +14,14 @@ Serials = List (List ℕ × List ℕ)
 abbrev pub serial_entry : {B : Type 0} → String B × String B → List ℕ × List ℕ
 serial_entry e = (string_bytes e.0, string_bytes e.1)
 
+-- the value of serial numbers
 abbrev pub serial_view : SerialNumber → Serials
 serial_view s = map serial_entry s.0.entries
 
 -- the text that is kept under a key
 abbrev pub serial_text : List ℕ → Option Serials → Option (List ℕ)
 serial_text key None = None
-serial_text key (Some serials) = lookup (λ k. bytes_eq key k) serials
+serial_text key (Some serials) = lookup (bytes_eq key) serials
 
 -- the serial numbers with this text under the key, in the place of the one that was there
 abbrev pub with_serial : List ℕ → List ℕ → Option Serials → Serials
