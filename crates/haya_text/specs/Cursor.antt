@@ -1,7 +1,7 @@
 -- A place in a text, and the characters that follow it.
-use Rattle.std.specs.Prelude.{◌≡◌, ◌≢◌, ℕ, ◌+◌, List, [], ◌∷◌, length}
-use Rattle.std.specs.Char.{len_utf8}
-use Rattle.std.specs.Str.{encode_utf8_all}
+use Rattle.std.specs.Prelude.{◌≡◌, ◌≢◌, ℕ, ◌+◌, List, [], ◌∷◌, ◌++◌, length}
+use Rattle.std.specs.Char.{encode_utf8, len_utf8}
+use Rattle.std.specs.Str.{chars, encode_utf8_all}
 
 -- how many bytes stand before it, and the characters that are left
 pub record Left : Type 0 where
@@ -21,3 +21,10 @@ pub record IsPast (c : ℕ) (old new : Left) : Type 0 where
 abbrev pub StartsNotWith : ℕ → List ℕ → Type 0
 StartsNotWith c [] = Unit {0}
 StartsNotWith c (d ∷ ds) = d ≢ c
+
+-- the text is a character that meets P, and then behind
+pub record IsBehind (P : ℕ → Type 0) (text behind : List ℕ) : Type 0 where
+  pub first : ℕ
+  pub meets : P first
+  pub bytes : text ≡ encode_utf8 first ++ behind
+  pub characters : chars text ≡ first ∷ chars behind
