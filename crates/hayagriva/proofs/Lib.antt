@@ -1,1 +1,3 @@
 pub mod Syntaxes
+mod Maps
+mod Pushes

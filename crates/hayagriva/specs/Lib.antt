@@ -1,1 +1,4 @@
 pub mod Syntax
+pub mod TreeCode
+pub mod Library
+pub mod Stored
