@@ -2,3 +2,5 @@ pub mod Syntax
 pub mod TreeCode
 pub mod Library
 pub mod Stored
+pub mod Equality
+pub mod EqualityLaws

@@ -163,3 +163,16 @@ impl IntoIterator for Library {
         IntoEntries::new(self.stored.into_iter())
     }
 }
+
+impl PartialEq for Library {
+    ghost use Rattle.hayagriva.specs.Equality.{library_eq};
+    ghost use Rattle.hayagriva.specs.EqualityLaws.{library_laws};
+
+    ghost eq = { library_eq };
+
+    ghost laws = { library_laws };
+
+    fn eq(&self, other: &Library) -> bool {
+        self.stored == other.stored
+    }
+}
