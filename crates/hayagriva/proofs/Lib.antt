@@ -1,1 +1,4 @@
 pub mod Syntaxes
+mod Maps
+mod Pushes
+mod Equal

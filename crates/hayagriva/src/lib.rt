@@ -1,8 +1,10 @@
 //! A literature library, and the selectors that pick its entries.
 #![tactic(auto)]
 
+mod library;
 mod selectors;
 
 pub use haya_entry::{Entry, Steps};
 pub use haya_text::OutOfMemory;
+pub use library::{Entries, IntoEntries, Keys, Library};
 pub use selectors::{Selector, SelectorError};
