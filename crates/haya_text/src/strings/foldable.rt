@@ -1,6 +1,6 @@
 ghost use Rattle.std.specs.Prelude.{◌≡◌, List, IfOk};
 ghost use Rattle.haya_text.specs.Chunks.{Chunk};
-ghost use Rattle.haya_text.specs.Foldable.{foldable_chunk, foldable_chunks};
+ghost use Rattle.haya_text.specs.Foldable.{foldable_view, foldable_chunks};
 
 use crate::{FoldableKind, OutOfMemory, TryClone};
 use std::alloc::Global;
@@ -19,7 +19,7 @@ pub struct FoldableChunkedString(pub Vec<FoldableStringChunk>);
 impl FoldableStringChunk {
     /// A copy, equal to this chunk.
     pub fn try_clone(&self, alloc: Global) -> Result<FoldableStringChunk, OutOfMemory>
-        ensures { IfOk result (λ copy. foldable_chunk copy ≡ foldable_chunk self.now) }
+        ensures { IfOk result (λ copy. foldable_view copy ≡ foldable_view self.now) }
     {
         Ok(FoldableStringChunk {
             value: self.value.try_clone(alloc)?,
@@ -31,7 +31,7 @@ impl FoldableStringChunk {
 impl TryClone for FoldableStringChunk {
     ghost View = { Chunk };
 
-    ghost view = { foldable_chunk };
+    ghost view = { foldable_view };
 
     fn try_clone(&self, alloc: Global) -> Result<FoldableStringChunk, OutOfMemory> {
         self.try_clone(alloc)
