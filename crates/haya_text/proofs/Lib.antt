@@ -1,2 +1,4 @@
 pub mod Tells
 pub mod Characters
+pub mod Equal
+mod Pushes

@@ -1,1 +1,4 @@
 pub mod Cursor
+pub mod Chunks
+pub mod Foldable
+pub mod Texts

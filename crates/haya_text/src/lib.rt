@@ -3,9 +3,15 @@
 
 pub mod cursor;
 mod fault;
+pub mod laws;
 mod read_text;
+mod strings;
 mod try_clone;
 
 pub use fault::{OutOfMemory, ReadFault};
 pub use read_text::ReadText;
+pub use strings::{
+    ChunkKind, ChunkedString, FoldableChunkedString, FoldableKind, FoldableStringChunk,
+    FormatString, LongShortForm, StringChunk,
+};
 pub use try_clone::TryClone;

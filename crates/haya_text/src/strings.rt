@@ -1,0 +1,12 @@
+//! Texts in chunks: plain text, text that keeps its case, and math.
+mod chunk;
+mod chunked;
+mod foldable;
+mod format;
+mod kind;
+
+pub use chunk::StringChunk;
+pub use chunked::ChunkedString;
+pub use foldable::{FoldableChunkedString, FoldableStringChunk};
+pub use format::{FormatString, LongShortForm};
+pub use kind::{ChunkKind, FoldableKind};
