@@ -1,1 +1,4 @@
 pub mod Syntaxes
+pub mod Cuts
+pub mod OneCut
+pub mod Parsing
