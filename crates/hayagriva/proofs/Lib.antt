@@ -2,3 +2,6 @@ pub mod Syntaxes
 mod Maps
 mod Pushes
 mod Equal
+pub mod Cuts
+pub mod OneCut
+pub mod Parsing

@@ -4,3 +4,10 @@ pub mod Library
 pub mod Stored
 pub mod Equality
 pub mod EqualityLaws
+pub mod Fault
+pub mod Token
+pub mod Cut
+pub mod Grammar
+pub mod Reading
+pub mod ReadingLaws
+pub mod Spelled

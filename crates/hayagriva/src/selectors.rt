@@ -1,3 +1,6 @@
+mod parse;
+mod token;
+
 use haya_entry::EntryType;
 use haya_text::OutOfMemory;
 use std::alloc::{AllocError, AllocFailed};
