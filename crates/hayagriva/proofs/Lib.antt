@@ -1,1 +1,3 @@
 pub mod Syntaxes
+mod Lasts
+mod Rows

@@ -1,1 +1,5 @@
 pub mod Syntax
+pub mod Places
+pub mod Holds
+pub mod Binds
+pub mod Calls

@@ -1,3 +1,6 @@
+mod bindings;
+mod places;
+
 use haya_entry::EntryType;
 use haya_text::OutOfMemory;
 use std::alloc::{AllocError, AllocFailed};
