@@ -5,3 +5,5 @@ mod Equal
 pub mod Cuts
 pub mod OneCut
 pub mod Parsing
+mod Lasts
+mod Rows

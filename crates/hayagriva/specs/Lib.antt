@@ -11,3 +11,7 @@ pub mod Grammar
 pub mod Reading
 pub mod ReadingLaws
 pub mod Spelled
+pub mod Places
+pub mod Holds
+pub mod Binds
+pub mod Calls

@@ -1,4 +1,6 @@
+mod bindings;
 mod parse;
+mod places;
 mod token;
 
 use haya_entry::EntryType;
