@@ -7,3 +7,4 @@ pub mod OneCut
 pub mod Parsing
 mod Lasts
 mod Rows
+pub mod Queries

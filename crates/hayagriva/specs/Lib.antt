@@ -15,3 +15,4 @@ pub mod Places
 pub mod Holds
 pub mod Binds
 pub mod Calls
+pub mod Query

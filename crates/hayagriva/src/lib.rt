@@ -2,9 +2,11 @@
 #![tactic(auto)]
 
 mod library;
+mod query;
 mod selectors;
 
 pub use haya_entry::{Entry, Steps};
 pub use haya_text::OutOfMemory;
 pub use library::{Entries, IntoEntries, Keys, Library};
+pub use query::Hit;
 pub use selectors::{Selector, SelectorError};
