@@ -1,6 +1,7 @@
 //! A literature library, and the selectors that pick its entries.
 #![tactic(auto)]
 
+pub mod laws;
 mod selectors;
 
 pub use haya_entry::{Entry, Steps};
