@@ -8,3 +8,7 @@ pub mod Parsing
 mod Lasts
 mod Rows
 pub mod Queries
+pub mod Runs
+pub mod Totals
+pub mod OneOutcome
+pub mod Again

@@ -8,8 +8,9 @@ use Rattle.hayagriva.specs.Holds.{holds}
 use Rattle.hayagriva.specs.Fault.{Fault}
 use Rattle.hayagriva.specs.Query.{IsHit, AreHits}
 use Rattle.hayagriva.specs.Reading.{TextReads, TextFails}
-use Rattle.hayagriva.specs.ReadingLaws.{Selects, Refused, OneAnswer}
+use Rattle.hayagriva.specs.ReadingLaws.{Selects, Refused}
 use Rattle.hayagriva.specs.Syntax.{Syntax}
+use Rattle.hayagriva.proofs.OneOutcome.{one_answer}
 
 -- whatever hits the entries that are left have, they complete these
 pub record HitsSoFar (s : Syntax) (all left : List Tree) (hits : List Hit) : Type 0 where
@@ -41,11 +42,11 @@ module _ {A : Type 0} (f : A → ℕ) (x : A) (left rest : List A) (e : left ≡
   bounded n h t = omega (arith, ap (λ m. n * m) (ap (sum_by f) e ∙ sum_by-cons f x rest))
 
 -- a text reads as one selector, or has one fault
-module _ (one : OneAnswer) (text : List ℕ) where
+module _ (text : List ℕ) where
   pub same_selector : (s t : Syntax) → TextReads text s → TextReads text t → s ≡ t
   same_selector s t h k =
-      let same : Selects s ≡ Selects t = (one text).2 (Selects s) h ∙ sym ((one text).2 (Selects t) k) in cc
+      let same : Selects s ≡ Selects t = (one_answer text).2 (Selects s) h ∙ sym ((one_answer text).2 (Selects t) k) in cc
 
   pub never_both : (s : Syntax) (f : Fault) → TextReads text s → TextFails text f → ⊥
   never_both s f h k =
-      let same : Selects s ≡ Refused f = (one text).2 (Selects s) h ∙ sym ((one text).2 (Refused f) k) in cc
+      let same : Selects s ≡ Refused f = (one_answer text).2 (Selects s) h ∙ sym ((one_answer text).2 (Refused f) k) in cc

@@ -3,6 +3,7 @@
 
 mod library;
 mod query;
+pub mod laws;
 mod selectors;
 
 pub use haya_entry::{Entry, Steps};
