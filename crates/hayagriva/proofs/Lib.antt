@@ -2,3 +2,4 @@ pub mod Syntaxes
 mod Maps
 mod Pushes
 mod Equal
+mod SelectorsEqual

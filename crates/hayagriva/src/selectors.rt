@@ -1,3 +1,5 @@
+mod try_clone;
+
 use haya_entry::EntryType;
 use haya_text::OutOfMemory;
 use std::alloc::{AllocError, AllocFailed};
