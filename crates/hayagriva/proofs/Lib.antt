@@ -12,3 +12,4 @@ pub mod Runs
 pub mod Totals
 pub mod OneOutcome
 pub mod Again
+mod SelectorsEqual

@@ -1,4 +1,5 @@
 pub mod Syntax
+pub mod Fault
 pub mod TreeCode
 pub mod Library
 pub mod Stored

@@ -1,6 +1,7 @@
 //! A literature library, and the selectors that pick its entries.
 #![tactic(auto)]
 
+pub mod equality;
 mod library;
 mod query;
 pub mod laws;

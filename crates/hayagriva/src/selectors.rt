@@ -2,9 +2,9 @@ mod bindings;
 mod parse;
 mod places;
 mod token;
+mod try_clone;
 
 use haya_entry::{Entry, EntryType, Steps};
-use std::alloc::Global;
 use std::collections::HashMap;
 use haya_text::OutOfMemory;
 use parse::expr;
