@@ -5,7 +5,6 @@ pub mod Library
 pub mod Stored
 pub mod Equality
 pub mod EqualityLaws
-pub mod Fault
 pub mod Token
 pub mod Cut
 pub mod Grammar

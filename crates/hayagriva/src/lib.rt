@@ -1,10 +1,9 @@
 //! A literature library, and the selectors that pick its entries.
 #![tactic(auto)]
 
-pub mod equality;
+pub mod laws;
 mod library;
 mod query;
-pub mod laws;
 mod selectors;
 
 pub use haya_entry::{Entry, Steps};
