@@ -1,4 +1,5 @@
 mod bindings;
+mod evaluate;
 mod places;
 
 use haya_entry::EntryType;
