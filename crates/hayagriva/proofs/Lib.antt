@@ -5,7 +5,11 @@ mod Equal
 pub mod Cuts
 pub mod OneCut
 pub mod Parsing
+mod Bounds
+mod FreePlaces
+mod Greedy
 mod Lasts
+mod Paths
 mod Rows
 pub mod Queries
 pub mod Runs

@@ -1,10 +1,14 @@
 -- How often the evaluator is entered for a selector: once a form at each entry, or list of parents, that it is asked of.
-use Rattle.std.specs.Prelude.{ℕ, ◌+◌, if◌then◌else◌, List, [], ◌∷◌, is_some, false, sum_by}
+use Rattle.std.specs.Prelude.{◌≡◌, ◌≤◌, Result, MatchResult, ℕ, ◌+◌, Bool, ◌++◌, if◌then◌else◌, List, [], ◌∷◌, is_some, false, sum_by}
 use Rattle.std.specs.Option.{option_map_or}
 use Rattle.haya_entry.specs.Tree.{Tree, parents}
 use Rattle.hayagriva.specs.Holds.{is_type, holds, candidates, least_free}
 use Rattle.hayagriva.specs.Places.{free_places, at_place, up_to}
 use Rattle.hayagriva.specs.Syntax.{Syntax, Any, OfType, Not, Named, With, Either, Together, Under, Syntaxes, none, more}
+
+-- the calls at the places that aren't taken, up to the first where the test holds
+abbrev pub free_calls : (Tree → Bool) → (Tree → ℕ) → List Tree → List ℕ → ℕ
+free_calls test calls_at xs taken = sum_by (at_place 0 calls_at xs) (up_to (at_place false test xs) (free_places xs taken))
 
 abbrev mutual
   -- the calls for a selector at an entry
@@ -44,5 +48,8 @@ abbrev mutual
   pub greedy_calls : Syntaxes → List Tree → List ℕ → ℕ
   greedy_calls none xs taken = 0
   greedy_calls (more s ss) xs taken =
-      sum_by (at_place 0 (calls s) xs) (up_to (at_place false (holds s) xs) (free_places xs taken))
-      + option_map_or (λ i. greedy_calls ss xs (i ∷ taken)) (least_free (holds s) xs taken) 0
+      free_calls (holds s) (calls s) xs taken + option_map_or (λ i. greedy_calls ss xs (taken ++ i ∷ [])) (least_free (holds s) xs taken) 0
+
+-- a call that ends well has ticked n times, one that was refused at most n times
+abbrev pub Ticks : {T E : Type 0} → Result T E → ℕ → ℕ → ℕ → Type 0
+Ticks result old new n = MatchResult result (λ _. new ≡ old + n) (λ _. new ≤ old + n)

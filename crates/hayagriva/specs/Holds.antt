@@ -1,5 +1,5 @@
 -- Where a selector holds: at an entry, and on a list of parents, where it may have candidates.
-use Rattle.std.specs.Prelude.{ℕ, Bool, true, false, not, ◌||◌, ◌&&◌, if◌then◌else◌, List, [], ◌∷◌, Option, None, Some, is_some, option_and_then, option_map, filter, find, position}
+use Rattle.std.specs.Prelude.{ℕ, Bool, true, false, not, ◌||◌, ◌&&◌, if◌then◌else◌, List, [], ◌∷◌, ◌++◌, Option, None, Some, is_some, option_and_then, option_map, filter, find, position}
 use Rattle.std.specs.Option.{option_or}
 use denote.Enum.Bare.{sameb}
 use Rattle.haya_entry.specs.contracts.types.EntryType.{the_type}
@@ -66,4 +66,4 @@ abbrev mutual
   pub greedy : Syntaxes → List Tree → List ℕ → Option (List ℕ)
   greedy none xs taken = Some []
   greedy (more s ss) xs taken =
-      option_and_then (λ i. option_map (λ is. i ∷ is) (greedy ss xs (i ∷ taken))) (least_free (holds s) xs taken)
+      option_and_then (λ i. option_map (λ is. i ∷ is) (greedy ss xs (taken ++ i ∷ []))) (least_free (holds s) xs taken)

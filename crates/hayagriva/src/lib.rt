@@ -1,11 +1,13 @@
 //! A literature library, and the selectors that pick its entries.
 #![tactic(auto)]
 
+mod bound_select;
 pub mod laws;
 mod library;
 mod query;
 mod selectors;
 
+pub use bound_select::BoundSelect;
 pub use haya_entry::{Entry, Steps};
 pub use haya_text::OutOfMemory;
 pub use library::{Entries, IntoEntries, Keys, Library};

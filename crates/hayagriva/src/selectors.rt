@@ -1,11 +1,12 @@
+mod apply;
 mod bindings;
+mod evaluate;
 mod parse;
 mod places;
 mod token;
 mod try_clone;
 
-use haya_entry::{Entry, EntryType, Steps};
-use std::collections::HashMap;
+use haya_entry::EntryType;
 use haya_text::OutOfMemory;
 use parse::expr;
 use std::alloc::{AllocError, AllocFailed, Global};
@@ -100,30 +101,5 @@ impl<T: Drop> From<AllocFailed<T>> for SelectorError {
 
     fn from(_error: AllocFailed<T>) -> SelectorError {
         SelectorError::OutOfMemory
-    }
-}
-
-impl Selector {
-    ghost use Rattle.std.specs.Prelude.{◌≡◌, ◌+◌, ◌*◌, ◌≤◌, ℕ, List, IfOk, IfSome, OnOk, is_some, option_map};
-    ghost use Rattle.std.specs.HashMap.{get_by_text};
-    ghost use Rattle.haya_entry.specs.Tree.{view, size};
-    ghost use Rattle.hayagriva.specs.Binds.{bound_to};
-    ghost use Rattle.hayagriva.specs.Calls.{calls};
-    ghost use Rattle.hayagriva.specs.Holds.{holds};
-    ghost use Rattle.hayagriva.specs.Syntax.{syntax, nodes};
-
-    pub fn apply_counted<'e>(
-        &self,
-        alloc: Global,
-        entry: &'e Entry,
-        steps: &mut Steps,
-    ) -> Result<Option<HashMap<String, &'e Entry>>, OutOfMemory>
-        ensures answer { IfOk result (λ o. is_some o ≡ holds (syntax self.now) (view entry.now)) }
-        ensures bound { IfOk result
-            (λ o. IfSome o (λ m. (name : List ℕ) → option_map (λ e. view e.now) (get_by_text m name) ≡ bound_to (syntax self.now) (view entry.now) name)) }
-        ensures ticks { OnOk result (steps.new ≡ steps.old + calls (syntax self.now) (view entry.now)) }
-        ensures most { steps.new ≤ steps.old + nodes (syntax self.now) * size (view entry.now) }
-    {
-        Err(OutOfMemory)
     }
 }

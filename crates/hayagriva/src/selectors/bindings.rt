@@ -1,8 +1,9 @@
-ghost use Rattle.std.specs.Prelude.{◌≡◌, ◌≤◌, ℕ, List, [], ◌∷◌, ◌++◌, IfOk, OnOk, length, map, option_map, take};
+ghost use Rattle.std.specs.Prelude.{◌≡◌, ◌<◌, ◌≤◌, ℕ, All, List, [], ◌∷◌, ◌++◌, Some, IfOk, OnOk, length, map, option_map, take};
 ghost use Rattle.std.specs.Coded.{codes};
 ghost use Rattle.std.specs.HashMap.{get_by_text};
 ghost use Rattle.haya_entry.specs.contracts.entry.Entry as the_entry;
-ghost use Rattle.hayagriva.specs.Binds.{Found, last_of};
+ghost use Rattle.haya_entry.specs.Tree.{view, at_list};
+ghost use Rattle.hayagriva.specs.Binds.{Found, first_bound, last_of, resolved, shown};
 
 use haya_entry::Entry;
 use haya_text::OutOfMemory;
@@ -36,23 +37,40 @@ impl<'s, 'e> Bindings<'s, 'e> {
 
     /// How many there are.
     pub fn len(&self) -> usize
-        ensures { result ≡ length self.now }
+        ensures { result ≡ length (shown self.now) }
     {
         self.pairs.len()
     }
 
     /// Adds one.
     pub fn bind(&mut self, name: &'s str, entry: &'e Entry) -> Result<(), OutOfMemory>
-        ensures { OnOk result (self.new ≡ self.old ++ (name.now, entry.now) ∷ []) }
+        ensures { OnOk result (shown self.new ≡ shown self.old ++ (name.now, Some (view entry.now)) ∷ []) }
     {
         self.pairs.push((name, entry))?;
         Ok(())
     }
 
+    /// Adds one of the name to the parent at the first place, where there is a place.
+    pub fn bind_first(
+        &mut self,
+        name: &'s str,
+        parents: &'e [Entry],
+        places: &[usize],
+    ) -> Result<(), OutOfMemory>
+        requires { All (λ i. i < length parents.now) places.now }
+        ensures { OnOk result
+            (shown self.new ≡ shown self.old ++ resolved (at_list (map view parents.now)) (first_bound name.now (Some places.now))) }
+    {
+        if let Some(first) = places.first() {
+            self.bind(name, &parents[*first])?;
+        }
+        Ok(())
+    }
+
     /// Leaves the first `len` alone.
     pub fn truncate(&mut self, len: usize)
-        requires { len ≤ length self.old }
-        ensures { self.new ≡ take len self.old }
+        requires { len ≤ length (shown self.old) }
+        ensures { shown self.new ≡ take len (shown self.old) }
     {
         self.pairs.truncate(len);
     }
