@@ -1,3 +1,4 @@
+mod apply;
 mod bindings;
 mod evaluate;
 mod places;
