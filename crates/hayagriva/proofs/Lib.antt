@@ -6,3 +6,4 @@ pub mod Runs
 pub mod Totals
 pub mod OneOutcome
 pub mod Again
+mod ReadingRows

@@ -1,5 +1,5 @@
 //! Laws of the definitions. No program calls them.
-ghost use Rattle.hayagriva.specs.ReadingLaws.{OneCut, OneOutcome, OneAnswer};
+ghost use Rattle.hayagriva.specs.ReadingLaws.{OneCut, OneOutcome, OneReading};
 ghost use Rattle.hayagriva.specs.Spelled.{ReadAgain};
 
 /// A text is cut into tokens in one way.
@@ -13,8 +13,8 @@ pub fn one_outcome()
 {}
 
 /// A text reads as one selector, or has one fault.
-pub fn one_answer()
-    ensures { OneAnswer }
+pub fn one_reading()
+    ensures { OneReading }
 {}
 
 /// A selector is what its fully parenthesised text reads as, where each `|` and `&` has at least two members and its
