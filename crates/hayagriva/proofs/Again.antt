@@ -1,5 +1,5 @@
 -- What is spelled is read again.
-use Rattle.std.proofs.Common.{◌≡◌, ◌∷◌, ◌++◌, ◌&&◌, [], List, ℕ, Some, true, false, fold, refl, ap, ◌∙◌, subst}
+use Rattle.std.proofs.Common.{◌≡◌, ◌∷◌, ◌++◌, [], List, ℕ, Some, true, false, fold, refl, ap, ◌∙◌, subst}
 use Rattle.std.specs.List.{list_all}
 use Rattle.haya_text.proofs.Tells.{and-both}
 use Rattle.haya_entry.specs.declared.types.EntryType.{EntryType}
@@ -10,20 +10,20 @@ use Rattle.hayagriva.specs.declared.selectors.token.Sign.TheVariants.{LeftBracke
 use Rattle.hayagriva.specs.Grammar.{type_of, Value, Factor, Binding, Term, Expr, Joint, Or, And, sign, joined, in_runs, ReadsNames, closed, last_name, next_name, Reads, parens, wildcard, of_type, negated, plain, bare, with_names, named, unnamed, term, chain, ReadsPairs, no_pair, next_pair, no_term, next_term}
 use Rattle.hayagriva.specs.Spelled.{spelled_names, spelled, spelled_members, spelled_others, AtLeastTwo, IsSpellable, AreSpellable, text_of, ReadAgain}
 use Rattle.hayagriva.specs.Syntax.{Syntax, Syntaxes, Any, OfType, Not, Named, With, Either, Together, Under, none, more, syntaxes}
-use Rattle.hayagriva.specs.Token.{Token, Mark, Word, BeginsNot, BeginsNoName, in_word, is_word, sign_char, IsToken, EndsBefore, AreTokens, no_token, next_token}
+use Rattle.hayagriva.specs.Token.{Token, Mark, Word, BeginsNot, BeginsNoName, in_word, is_word, sign_char, EndsBefore, AreTokens, no_token, next_token}
 use Rattle.hayagriva.proofs.Parsing.{pairs_of, runs_run}
 
 -- nothing that goes on with a form stands first
-abbrev IsEnd : List Token → Type 0
+abbrev pub IsEnd : List Token → Type 0
 IsEnd ts = BeginsNot Colon ts × BeginsNot LeftBracket ts × BeginsNot Pipe ts × BeginsNot Ampersand ts × BeginsNot Chevron ts
 
-from_binding : {ts rest : List Token} {s : Syntax} → Reads Binding ts s rest → IsEnd rest → Reads Expr ts s rest
+pub from_binding : {ts rest : List Token} {s : Syntax} → Reads Binding ts s rest → IsEnd rest → Reads Expr ts s rest
 from_binding r e = chain (term r (no_pair e.2 e.3)) (no_term e.4)
 
-from_factor : {ts rest : List Token} {s : Syntax} → Reads Factor ts s rest → BeginsNoName ts → BeginsNot LeftBracket rest → Reads Binding ts s rest
+pub from_factor : {ts rest : List Token} {s : Syntax} → Reads Factor ts s rest → BeginsNoName ts → BeginsNot LeftBracket rest → Reads Binding ts s rest
 from_factor r n b = unnamed n (bare r b)
 
-paren_ends : (rest : List Token) → IsEnd (Mark RightParen ∷ rest)
+pub paren_ends : (rest : List Token) → IsEnd (Mark RightParen ∷ rest)
 paren_ends rest = (λ e. cc, λ e. cc, λ e. cc, λ e. cc, λ e. cc)
 
 no_bang : (s : Syntax) (rest : List Token) → BeginsNot ExclamationMark (spelled s rest)

@@ -1,9 +1,9 @@
 -- The steps of `cut`.
-use Rattle.std.proofs.Common.{◌≡◌, ◌<◌, ◌∷◌, ◌++◌, ◌&&◌, [], List, ℕ, zero, suc, Option, Some, None, Bool, true, false, true≢false, cond, slice_get, All, get_or, sym, refl, ap, ◌∙◌, arith, append-nil, append_assoc, inl, inr, ⊎_elim, ◌⊎◌}
+use Rattle.std.proofs.Common.{◌≡◌, ◌<◌, ◌∷◌, ◌++◌, [], List, ℕ, zero, suc, Option, Some, None, Bool, true, false, true≢false, cond, slice_get, All, sym, refl, ap, ◌∙◌, arith, append-nil, append_assoc, inl, inr, ⊎_elim, ◌⊎◌}
 use Rattle.std.specs.Char.{is_whitespace}
 use Rattle.std.specs.List.{list_all}
 use Rattle.std.specs.Option.{IfSome, MatchOption}
-use Rattle.std.specs.Str.{IsUtf8, IsAscii, chars, encode_utf8_all, skip_leading_whitespace}
+use Rattle.std.specs.Str.{IsUtf8, IsAscii, chars, skip_leading_whitespace}
 use Rattle.std.proofs.lemmas.List.Sums.{list_all-from_AllPass}
 use Rattle.std.proofs.lemmas.Str.{encodes-chars, encodes-IsAscii}
 use Rattle.haya_text.specs.Cursor.{Left, IsPast}

@@ -17,3 +17,4 @@ pub mod Totals
 pub mod OneOutcome
 pub mod Again
 mod SelectorsEqual
+mod ReadingRows

@@ -1,5 +1,5 @@
 -- The characters of a text are cut into tokens in one way, which is that of `cut`.
-use Rattle.std.proofs.Common.{◌≡◌, ◌≢◌, ◌∷◌, ◌++◌, ◌&&◌, [], List, ℕ, Option, Some, None, true, false, sym, refl, ap, ◌∙◌, arith, ⊎_elim, append_assoc, append-nil, ◌==◌}
+use Rattle.std.proofs.Common.{◌≡◌, ◌≢◌, ◌∷◌, ◌++◌, [], List, ℕ, Option, Some, None, true, false, sym, refl, ap, ◌∙◌, arith, ⊎_elim, append_assoc, append-nil, ◌==◌}
 use Rattle.std.specs.Char.{is_whitespace}
 use Rattle.std.specs.List.{list_all, find}
 use Rattle.std.proofs.lemmas.Bool.Decides.{nat_tests}

@@ -4,12 +4,12 @@ use Rattle.std.specs.Option.{IfSome}
 use Rattle.haya_entry.specs.declared.types.EntryType.{EntryType}
 use Rattle.haya_entry.specs.EntryType.{in_lower_case, type_read}
 use Rattle.hayagriva.specs.declared.selectors.token.Sign.{Sign}
-use Rattle.hayagriva.specs.declared.selectors.token.Sign.TheVariants.{RightBracket, LeftParen, Star, Comma, Chevron, Colon, Pipe, Ampersand, ExclamationMark}
+use Rattle.hayagriva.specs.declared.selectors.token.Sign.TheVariants.{RightBracket, LeftParen, Comma, Chevron, Colon, ExclamationMark}
 use Rattle.hayagriva.specs.declared.selectors.Selector.{Selector}
 use Rattle.hayagriva.specs.declared.selectors.Selector.TheVariants.{Entry, Alt, Multi}
 use Rattle.hayagriva.specs.declared.selectors.SelectorError.{SelectorError}
 use Rattle.hayagriva.specs.Fault.{Fault, MalformedAttribute, MissingComma, UnknownEntryType}
-use Rattle.hayagriva.specs.Grammar.{type_of, ReadsNames, closed, last_name, next_name, FailsNames, no_name, no_comma, later_name, Joint, Or, And, sign, joined, before_runs, runs, in_runs, Form, Value, Factor, Attributes, Binding, Term, Expr, Reads, of_type, plain, unnamed, term, chain, ReadsPairs, no_pair, next_pair, ReadsTerms, next_term, Fails, unknown, in_parens, in_negated, in_plain, in_named, in_unnamed, in_pairs, in_terms, FailsPairs, in_pair, past_pair, FailsTerms, past_next}
+use Rattle.hayagriva.specs.Grammar.{type_of, ReadsNames, closed, last_name, next_name, FailsNames, no_name, no_comma, later_name, Joint, Or, And, sign, joined, before_runs, runs, in_runs, Value, Factor, Attributes, Binding, Term, Expr, Reads, of_type, plain, unnamed, term, chain, ReadsPairs, no_pair, next_pair, ReadsTerms, next_term, Fails, unknown, in_parens, in_negated, in_plain, in_named, in_unnamed, in_pairs, in_terms, FailsPairs, in_pair, past_pair, FailsTerms, past_next}
 use Rattle.hayagriva.specs.Reading.{Gives, ReadsRun, run_end, run_on, FailsRun, in_member, past_member}
 use Rattle.hayagriva.specs.Syntax.{Syntax, Under, Either, Together, syntax, syntaxes}
 use Rattle.hayagriva.specs.Token.{Token, Mark, Word, BeginsNot, BeginsNoWord, BeginsNoName}

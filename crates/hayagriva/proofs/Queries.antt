@@ -8,9 +8,9 @@ use Rattle.hayagriva.specs.Holds.{holds}
 use Rattle.hayagriva.specs.Fault.{Fault}
 use Rattle.hayagriva.specs.Query.{IsHit, AreHits}
 use Rattle.hayagriva.specs.Reading.{TextReads, TextFails}
-use Rattle.hayagriva.specs.ReadingLaws.{Selects, Refused}
+use Rattle.hayagriva.specs.ReadingLaws.{Selects, Refuses}
 use Rattle.hayagriva.specs.Syntax.{Syntax}
-use Rattle.hayagriva.proofs.OneOutcome.{one_answer}
+use Rattle.hayagriva.proofs.OneOutcome.{one_reading}
 
 -- whatever hits the entries that are left have, they complete these
 pub record HitsSoFar (s : Syntax) (all left : List Tree) (hits : List Hit) : Type 0 where
@@ -45,8 +45,8 @@ module _ {A : Type 0} (f : A → ℕ) (x : A) (left rest : List A) (e : left ≡
 module _ (text : List ℕ) where
   pub same_selector : (s t : Syntax) → TextReads text s → TextReads text t → s ≡ t
   same_selector s t h k =
-      let same : Selects s ≡ Selects t = (one_answer text).2 (Selects s) h ∙ sym ((one_answer text).2 (Selects t) k) in cc
+      let same : Selects s ≡ Selects t = (one_reading text).2 (Selects s) h ∙ sym ((one_reading text).2 (Selects t) k) in cc
 
   pub never_both : (s : Syntax) (f : Fault) → TextReads text s → TextFails text f → ⊥
   never_both s f h k =
-      let same : Selects s ≡ Refused f = (one_answer text).2 (Selects s) h ∙ sym ((one_answer text).2 (Refused f) k) in cc
+      let same : Selects s ≡ Refuses f = (one_reading text).2 (Selects s) h ∙ sym ((one_reading text).2 (Refuses f) k) in cc

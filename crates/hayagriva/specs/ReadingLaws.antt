@@ -28,14 +28,14 @@ abbrev pub OneCut : Type 0
 OneCut = (text : List ℕ) → ExactlyOne (λ ts. AreTokens ts text)
 
 -- a selector or a fault
-pub data Answer : Type 0 where
-  Selects : Syntax → Answer
-  Refused : Fault → Answer
+pub data TextOutcome : Type 0 where
+  Selects : Syntax → TextOutcome
+  Refuses : Fault → TextOutcome
 
-abbrev pub Answers : List ℕ → Answer → Type 0
-Answers text (Selects s) = TextReads text s
-Answers text (Refused f) = TextFails text f
+abbrev pub TextHas : List ℕ → TextOutcome → Type 0
+TextHas text (Selects s) = TextReads text s
+TextHas text (Refuses f) = TextFails text f
 
 -- each text reads as one selector, or has one fault
-abbrev pub OneAnswer : Type 0
-OneAnswer = (text : List ℕ) → ExactlyOne (Answers text)
+abbrev pub OneReading : Type 0
+OneReading = (text : List ℕ) → ExactlyOne (TextHas text)

@@ -7,7 +7,7 @@ ghost use Rattle.hayagriva.specs.declared.selectors.SelectorError.{SelectorError
 ghost use Rattle.hayagriva.specs.Fault.{fault};
 ghost use Rattle.hayagriva.specs.Holds.{holds};
 ghost use Rattle.hayagriva.specs.Library.{AreEqual};
-ghost use Rattle.hayagriva.specs.ReadingLaws.{OneCut, OneOutcome, OneAnswer};
+ghost use Rattle.hayagriva.specs.ReadingLaws.{OneCut, OneOutcome, OneReading};
 ghost use Rattle.hayagriva.specs.Spelled.{ReadAgain};
 ghost use Rattle.hayagriva.specs.Syntax.{Syntax, syntax};
 
@@ -24,8 +24,8 @@ pub fn one_outcome()
 {}
 
 /// A text reads as one selector, or has one fault.
-pub fn one_answer()
-    ensures { OneAnswer }
+pub fn one_reading()
+    ensures { OneReading }
 {}
 
 /// A selector is what its fully parenthesised text reads as, where each `|` and `&` has at least two members and its

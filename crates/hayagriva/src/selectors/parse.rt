@@ -11,6 +11,9 @@ use haya_entry::{EntryType, UnknownType};
 use std::alloc::Global;
 use std::str::FromStr;
 
+#[cfg(test)]
+mod tests;
+
 /// Terms with `>` between.
 #[cycle(parser)]
 pub(super) fn expr(alloc: Global, tokens: &mut Tokens<'_>) -> Result<Selector, SelectorError>

@@ -158,3 +158,53 @@ fn sign_of(c: char) -> Option<Sign>
         _ => None,
     }
 }
+
+#[cfg(test)]
+mod tests {
+    use super::{Lexeme, Sign, Tokens};
+    use std::test::Fail;
+
+    #[test]
+    fn cuts(rt: HostRuntime) -> Result<(), Fail> {
+        let rows = [
+            (
+                "g5:(Blog | Misc)",
+                [
+                    Some(Lexeme::Word("g5")),
+                    Some(Lexeme::Sign(Sign::Colon)),
+                    Some(Lexeme::Sign(Sign::LeftParen)),
+                    Some(Lexeme::Word("Blog")),
+                    Some(Lexeme::Sign(Sign::Pipe)),
+                    Some(Lexeme::Word("Misc")),
+                    Some(Lexeme::Sign(Sign::RightParen)),
+                    None,
+                    None,
+                    None,
+                ],
+            ),
+            (
+                "alpha:!* > (a & b)",
+                [
+                    Some(Lexeme::Word("alpha")),
+                    Some(Lexeme::Sign(Sign::Colon)),
+                    Some(Lexeme::Sign(Sign::ExclamationMark)),
+                    Some(Lexeme::Sign(Sign::Star)),
+                    Some(Lexeme::Sign(Sign::Chevron)),
+                    Some(Lexeme::Sign(Sign::LeftParen)),
+                    Some(Lexeme::Word("a")),
+                    Some(Lexeme::Sign(Sign::Ampersand)),
+                    Some(Lexeme::Word("b")),
+                    Some(Lexeme::Sign(Sign::RightParen)),
+                ],
+            ),
+        ];
+        for (text, wanted) in rows {
+            let mut tokens = Tokens::new(text);
+            for token in wanted {
+                assert_eq!(rt; tokens.next(), token);
+            }
+            assert_eq!(rt; tokens.next(), None);
+        }
+        Ok(())
+    }
+}
