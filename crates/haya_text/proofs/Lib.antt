@@ -1,3 +1,4 @@
 pub mod Tells
 pub mod Equal
+mod Folds
 mod Pushes

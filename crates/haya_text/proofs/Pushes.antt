@@ -1,5 +1,5 @@
 -- What a push makes of a list of chunks.
-use Rattle.std.proofs.Common.{◌≡◌, ℕ, ◌+◌, Bool, true, false, cond, List, [], ◌∷◌, ◌++◌, length, get_or, refl, ap, sym, ◌∙◌, arith, map, zero, suc, append_assoc}
+use Rattle.std.proofs.Common.{◌≡◌, ℕ, Bool, true, false, cond, List, [], ◌∷◌, ◌++◌, length, get_or, refl, ap, sym, ◌∙◌, arith, map, zero, suc, append_assoc}
 use Rattle.std.proofs.Math.ListN.{set}
 use denote.Enum.Bare.{sameb, same_true}
 use Rattle.std.specs.Str.{chars, IsUtf8}

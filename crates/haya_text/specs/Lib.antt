@@ -1,3 +1,4 @@
 pub mod Chunks
 pub mod Foldable
+pub mod Printed
 pub mod Texts

@@ -4,9 +4,10 @@ mod chunked;
 mod foldable;
 mod format;
 mod kind;
+mod printing;
 
 pub use chunk::StringChunk;
 pub use chunked::ChunkedString;
-pub use foldable::{FoldableChunkedString, FoldableStringChunk};
+pub use foldable::{FoldError, FoldableChunkedString, FoldableStringChunk};
 pub use format::{FormatString, LongShortForm};
 pub use kind::{ChunkKind, FoldableKind};
