@@ -2,3 +2,4 @@ pub mod Tells
 pub mod Equal
 mod Folds
 mod Pushes
+pub mod Characters

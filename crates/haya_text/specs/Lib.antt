@@ -2,3 +2,4 @@ pub mod Chunks
 pub mod Foldable
 pub mod Printed
 pub mod Texts
+pub mod Cursor

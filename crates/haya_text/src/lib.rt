@@ -1,6 +1,7 @@
 //! Texts of a literature library: what the readers of values share, and copies that may want memory.
 #![tactic(auto)]
 
+pub mod cursor;
 mod fault;
 pub mod laws;
 mod read_text;
