@@ -1,6 +1,7 @@
 pub mod Tells
 pub mod Equal
 mod Folds
+mod Grammars
 mod Normals
 mod Pushes
 mod Scans

@@ -4,7 +4,7 @@ use denote.Enum.Bare.{sameb, same_true}
 use Rattle.std.specs.Char.{encode_utf8}
 use Rattle.haya_text.specs.contracts.strings.kind.ChunkKind.{the_type}
 use Rattle.haya_text.specs.declared.strings.kind.ChunkKind.{ChunkKind}
-use Rattle.haya_text.specs.Chunks.{Chunk, Marked, characters, ends_in, grown, pushed}
+use Rattle.haya_text.specs.Chunks.{Chunk, Marked, characters, ends_in, pushed}
 use Rattle.haya_text.specs.Normal.{led, runs, norm}
 
 -- a character before a push

@@ -10,6 +10,7 @@ use Rattle.haya_text.specs.declared.strings.reading.Mark.{Mark}
 use Rattle.haya_text.specs.declared.strings.reading.Mark.TheVariants.{Plain, Open, Close, Dollar}
 use Rattle.haya_text.specs.declared.strings.reading.Reader.{Reader}
 use Rattle.haya_text.specs.Chunks.{Chunk, Marked, chunks, characters}
+use Rattle.haya_text.specs.Grammar.{IsRefusedAt}
 use Rattle.haya_text.specs.Normal.{runs}
 use Rattle.haya_text.specs.Printed.{is_control}
 
@@ -48,8 +49,8 @@ scan (suc depth) false false (c ∷ cs) =
     else after_these ((c, Verbatim) ∷ []) (scan (suc depth) false false cs)
 
 -- the chunks that a text reads as, if it is not refused
-abbrev pub reads : List ℕ → Option (List Chunk)
-reads text = option_map runs (result_ok (scan 0 false false (chars text)))
+abbrev pub chunks_read : List ℕ → Option (List Chunk)
+chunks_read text = option_map runs (result_ok (scan 0 false false (chars text)))
 
 -- what is read of a text that begins with this mark
 abbrev pub told : ℕ → Bool → Mark → List ℕ → Result (List Marked) (List ℕ)
@@ -66,7 +67,16 @@ told zero false Close rest = Err (125 ∷ rest)
 abbrev pub standing : Reader → List ℕ → Result (List Marked) (List ℕ)
 standing r rest = after_these (characters (chunks r.read)) (scan r.depth r.math false rest)
 
--- a fault in the text is told with its place, and then the mark is refused
+-- a fault in the text is told with its place: a closing brace stands there, and no group or math is open
 abbrev pub Refuses : ℕ → Reader → Mark → ChunkedReadError → Type 0
-Refuses place r mark (Parse at) = (at ≡ place) × ((rest : List ℕ) → told r.depth r.math mark rest ≡ Err (125 ∷ rest))
+Refuses place r mark (Parse at) = (at ≡ place) × (mark ≡ Close) × (r.depth ≡ 0) × (r.math ≡ false)
 Refuses place r mark OutOfMemory = Unit {0}
+
+abbrev pub is_memory : ChunkedReadError → Bool
+is_memory (Parse at) = false
+is_memory OutOfMemory = true
+
+-- a fault other than want of memory tells where the text is refused
+abbrev pub IsRefusal : List ℕ → ChunkedReadError → Type 0
+IsRefusal text (Parse at) = IsRefusedAt at text
+IsRefusal text OutOfMemory = Unit {0}

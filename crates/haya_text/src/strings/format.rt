@@ -3,9 +3,9 @@ ghost use Rattle.std.specs.Fmt.{DisplaysOnOk};
 ghost use Rattle.haya_text.specs.Chunks.{chunk_view, chunks, plain_text};
 ghost use Rattle.haya_text.specs.Printed.{shown};
 ghost use Rattle.haya_text.specs.declared.strings.format.LongShortForm.TheVariants.{Short};
-ghost use Rattle.haya_text.specs.Texts.{TextView, text_view, selected};
+ghost use Rattle.haya_text.specs.Texts.{TextView, text_view, selected, without_short};
 
-use crate::{ChunkedString, OutOfMemory, StringChunk, TryClone};
+use crate::{ChunkedReadError, ChunkedString, OutOfMemory, ReadText, StringChunk, TryClone};
 use std::alloc::Global;
 use std::fmt;
 
@@ -26,7 +26,7 @@ pub struct FormatString {
 impl FormatString {
     /// The text without chunks and without a short form.
     pub fn new(alloc: Global) -> FormatString
-        ensures { text_view result ≡ record { value = []; short = None } }
+        ensures { text_view result ≡ without_short [] }
     {
         FormatString {
             value: ChunkedString::new(alloc),
@@ -36,7 +36,7 @@ impl FormatString {
 
     /// One chunk of plain text, without a short form. Nothing in it is read as a sign.
     pub fn with_value(alloc: Global, value: String) -> Result<FormatString, OutOfMemory>
-        ensures { IfOk result (λ text. text_view text ≡ record { value = plain_text (string_bytes value); short = None }) }
+        ensures { IfOk result (λ text. text_view text ≡ without_short (plain_text (string_bytes value))) }
     {
         Ok(FormatString {
             value: ChunkedString::from_string(alloc, value)?,
@@ -62,14 +62,14 @@ impl FormatString {
 
     /// The same as `with_value`.
     pub fn from_string(alloc: Global, value: String) -> Result<FormatString, OutOfMemory>
-        ensures { IfOk result (λ text. text_view text ≡ record { value = plain_text (string_bytes value); short = None }) }
+        ensures { IfOk result (λ text. text_view text ≡ without_short (plain_text (string_bytes value))) }
     {
         FormatString::with_value(alloc, value)
     }
 
     /// This one chunk, without a short form.
     pub fn from_chunk(alloc: Global, chunk: StringChunk) -> Result<FormatString, OutOfMemory>
-        ensures { IfOk result (λ text. text_view text ≡ record { value = chunk_view chunk ∷ []; short = None }) }
+        ensures { IfOk result (λ text. text_view text ≡ without_short (chunk_view chunk ∷ [])) }
     {
         Ok(FormatString {
             value: ChunkedString::from_chunk(alloc, chunk)?,
@@ -112,6 +112,34 @@ impl fmt::Display for FormatString {
     /// The long form.
     fn fmt<W: fmt::Write>(&self, f: &mut fmt::Formatter<W>) -> fmt::Result {
         write!(f, "{}", self.value)
+    }
+}
+
+impl ReadText for FormatString {
+    type Fault = ChunkedReadError;
+
+    ghost use Rattle.std.specs.Prelude.{◌≡◌, false, Some, None, option_map, IfOk, IfErr};
+    ghost use Rattle.haya_text.specs.Grammar.{ReadsAs};
+    ghost use Rattle.haya_text.specs.Reading.{chunks_read, is_memory, IsRefusal};
+    ghost use Rattle.haya_text.specs.Texts.{TextView, text_view, without_short};
+
+    ghost Value = { TextView };
+
+    ghost value = { text_view };
+
+    ghost reads = { λ text. option_map without_short (chunks_read text) };
+
+    /// The long form, read as `ChunkedString` reads it, without a short one.
+    fn from_str(alloc: Global, text: &str) -> Result<FormatString, ChunkedReadError>
+        ensures ok { IfOk result (λ v. option_map without_short (chunks_read text.now) ≡ Some (text_view v)) }
+        ensures fault { IfErr result (λ e. is_memory e ≡ false → option_map without_short (chunks_read text.now) ≡ None) }
+        ensures grammar { IfOk result (λ v. ReadsAs text.now (chunks v.value)) }
+        ensures refused { IfErr result (IsRefusal text.now) }
+    {
+        Ok(FormatString {
+            value: ChunkedString::from_str(alloc, text)?,
+            short: None,
+        })
     }
 }
 

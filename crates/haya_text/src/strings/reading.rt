@@ -2,12 +2,12 @@ ghost use Rattle.std.specs.Prelude.{◌≡◌, ◌+◌, ◌^◌, ◌<◌, ◌≤
 ghost use Rattle.haya_text.specs.Chunks.{chunks, characters};
 ghost use Rattle.haya_text.specs.Cursor.{text_len};
 ghost use Rattle.haya_text.specs.Normal.{norm};
-ghost use Rattle.haya_text.specs.Reading.{kind_in, after_these, scan, told, standing, Refuses};
+ghost use Rattle.haya_text.specs.Reading.{kind_in, after_these, scan, told, standing, Refuses, chunks_read, IsRefusal};
 ghost use Rattle.haya_text.specs.declared.strings.reading.Mark.TheVariants.{Close};
 
 use super::printing::is_control;
 use crate::cursor::Cursor;
-use crate::{ChunkKind, ChunkedString, OutOfMemory};
+use crate::{ChunkKind, ChunkedString, OutOfMemory, ReadFault, ReadText};
 use std::alloc::Global;
 use std::marker::Model;
 use thiserror::Error;
@@ -58,6 +58,61 @@ impl From<OutOfMemory> for ChunkedReadError {
     }
 }
 
+impl ReadFault for ChunkedReadError {
+    ghost use Rattle.haya_text.specs.Reading.{is_memory};
+
+    ghost out_of_memory = { is_memory };
+
+    fn is_out_of_memory(&self) -> bool {
+        matches!(self, ChunkedReadError::OutOfMemory)
+    }
+}
+
+impl ReadText for ChunkedString {
+    type Fault = ChunkedReadError;
+
+    ghost use Rattle.std.specs.Prelude.{◌≡◌, List, false, Some, None, IfOk, IfErr};
+    ghost use Rattle.haya_text.specs.Chunks.{Chunk, chunks};
+    ghost use Rattle.haya_text.specs.Grammar.{ReadsAs};
+    ghost use Rattle.haya_text.specs.Reading.{chunks_read, is_memory, IsRefusal};
+
+    ghost Value = { List Chunk };
+
+    ghost value = { chunks };
+
+    ghost reads = { chunks_read };
+
+    /// The text in its chunks: what stands between braces is verbatim, what stands between dollars is
+    /// math, and a backslash before a brace, a dollar or a backslash makes that character plain. Refused
+    /// with its place is a closing brace where no group is open.
+    fn from_str(alloc: Global, text: &str) -> Result<ChunkedString, ChunkedReadError>
+        ensures ok { IfOk result (λ v. chunks_read text.now ≡ Some (chunks v)) }
+        ensures fault { IfErr result (λ e. is_memory e ≡ false → chunks_read text.now ≡ None) }
+        ensures grammar { IfOk result (λ v. ReadsAs text.now (chunks v)) }
+        ensures refused { IfErr result (IsRefusal text.now) }
+    {
+        read_chunks(alloc, text)
+    }
+}
+
+// Reads mark by mark.
+fn read_chunks(alloc: Global, text: &str) -> Result<ChunkedString, ChunkedReadError>
+    ensures { MatchResult result (λ v. chunks_read text.now ≡ Some (chunks v)) (IsRefusal text.now) }
+{
+    let mut reader = Reader {
+        read: ChunkedString::new(alloc),
+        depth: 0,
+        math: false,
+    };
+    let mut cursor = Cursor::new(text);
+    let mut place = cursor.place();
+    'marks: while let Some(mark) = next_mark(&mut cursor) {
+        reader.take(mark, place)?;
+        place = cursor.place();
+    }
+    Ok(reader.read)
+}
+
 // A sign of a text, or a character that stands for itself.
 #[derive(Clone, Copy)]
 enum Mark {
@@ -81,6 +136,7 @@ impl Reader {
         requires { self.old.depth + 1 < 2 ^ 64 }
         ensures told { MatchResult result (λ _. (rest : List ℕ) → after_these (characters (chunks self.old.read)) (told self.old.depth self.old.math mark rest) ≡ standing self.new rest) (Refuses place self.old mark) }
         ensures normal { chunks self.old.read ≡ norm (chunks self.old.read) → OnOk result (chunks self.new.read ≡ norm (chunks self.new.read)) }
+        ensures depth { self.new.depth ≤ self.old.depth + 1 }
     {
         match mark {
             Mark::Plain(c) => self.push(c),
@@ -106,6 +162,7 @@ impl Reader {
     fn push(&mut self, c: char) -> Result<(), ChunkedReadError>
         ensures told { OnOk result ((rest : List ℕ) → after_these (characters (chunks self.old.read)) (after_these ((c, kind_in self.old.depth self.old.math) ∷ []) (scan self.old.depth self.old.math false rest)) ≡ standing self.new rest) }
         ensures normal { chunks self.old.read ≡ norm (chunks self.old.read) → OnOk result (chunks self.new.read ≡ norm (chunks self.new.read)) }
+        ensures depth { self.new.depth ≡ self.old.depth }
         ensures fault { IfErr result (λ e. e ≡ ChunkedReadError.OutOfMemory) }
     {
         let kind = self.kind();

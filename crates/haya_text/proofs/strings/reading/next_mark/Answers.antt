@@ -1,4 +1,4 @@
-use Rattle.std.proofs.Common.{◌≢◌, arith}
+use Rattle.std.proofs.Common.{arith}
 use Rattle.haya_text.proofs.Scans.{scan-eaten, told-opened}
 use Rattle.haya_text.proofs.strings.reading.next_mark.Goals as goal
 

@@ -1,6 +1,6 @@
-use Rattle.std.proofs.Common.{◌≡◌, ◌∷◌, [], false, sym, ap, ◌∙◌}
+use Rattle.std.proofs.Common.{◌∷◌, [], false, sym}
 use Rattle.haya_text.specs.Chunks.{characters, chunks}
-use Rattle.haya_text.specs.Reading.{after_these, scan}
+use Rattle.haya_text.specs.Reading.{scan}
 use Rattle.haya_text.proofs.Normals.{norm-pushed}
 use Rattle.haya_text.proofs.Scans.{after_these-append}
 use Rattle.haya_text.proofs.strings.reading.Reader.push.Goals as goal
