@@ -1,7 +1,7 @@
 -- What is scanned is what the grammar gives, and what is refused is what it refuses.
 use Rattle.std.proofs.Common.{◌≡◌, ℕ, ◌+◌, ◌≤◌, length-append, Bool, true, false, List, [], ◌∷◌, ◌++◌, length, refl, ap, sym, ◌∙◌, arith, zero, suc, eqb, ◌||◌, append_assoc, Result, Ok, Err, subst}
 use Rattle.std.proofs.lemmas.Bool.Decides.{nat_tests}
-use Rattle.std.proofs.lemmas.List.{append-nil}
+use Rattle.std.proofs.lemmas.List.{append-nil, append_cancel_right}
 use Rattle.std.proofs.lemmas.Str.{encodes-append}
 use Rattle.std.specs.Str.{IsUtf8, chars, encode_utf8_all}
 use Rattle.haya_text.proofs.Characters.{length-chars}
@@ -241,3 +241,22 @@ refused-reads text place r = ap (λ x. option_map runs (result_ok x)) (ap (scan 
 
 pub told-refused : (d : ℕ) (m : Bool) (mark : Mark) (rest : List ℕ) → mark ≡ Close → d ≡ 0 → m ≡ false → told d m mark rest ≡ Err (125 ∷ rest)
 told-refused d m mark rest e f g = rw (e, f, g) refl
+
+-- what is not read is refused at a place
+pub none-refused : (text : List ℕ) → chunks_read text ≡ None → (place : ℕ) × IsRefusedAt place text
+none-refused text h = by_scan (scan 0 false false (chars text)) refl h
+  where
+    by_scan : (r : Result (List Marked) (List ℕ)) → scan 0 false false (chars text) ≡ r → option_map runs (result_ok r) ≡ None → (place : ℕ) × IsRefusedAt place text
+    by_scan (Ok xs) e f = absurd cc
+    by_scan (Err rest) e f =
+        let r = scan-refusal (chars text) rest e in
+        (length (encode_utf8_all r.before), record { before = r.before; after = r.after; xs = r.xs; items = r.items; cut = r.cut; bytes = refl })
+
+-- at one place alone
+pub one-place : (text : List ℕ) (j k : ℕ) → IsRefusedAt j text → IsRefusedAt k text → j ≡ k
+one-place text j k p q =
+    let left : scan 0 false false (chars text) ≡ Err (125 ∷ p.after) = ap (scan 0 false false) p.cut ∙ refusal-scan p.before p.after p.xs p.items in
+    let right : scan 0 false false (chars text) ≡ Err (125 ∷ q.after) = ap (scan 0 false false) q.cut ∙ refusal-scan q.before q.after q.xs q.items in
+    let after : p.after ≡ q.after = cc in
+    let before : p.before ≡ q.before = append_cancel_right p.before q.before (125 ∷ p.after) (sym p.cut ∙ q.cut ∙ ap (λ t. q.before ++ 125 ∷ t) (sym after)) in
+    p.bytes ∙ ap (λ t. length (encode_utf8_all t)) before ∙ sym q.bytes

@@ -1,8 +1,10 @@
 pub mod Tells
 pub mod Equal
+mod Canonical
 mod Folds
 mod Grammars
 mod Normals
 mod Pushes
 mod Scans
+mod Serials
 pub mod Characters

@@ -1,5 +1,5 @@
 -- Chunks in their longest runs.
-use Rattle.std.specs.Prelude.{◌++◌, List, [], ◌∷◌, if◌then◌else◌}
+use Rattle.std.specs.Prelude.{◌≢◌, ◌++◌, List, [], ◌∷◌, if◌then◌else◌}
 use Rattle.std.specs.Char.{encode_utf8}
 use denote.Enum.Bare.{sameb}
 use Rattle.haya_text.specs.contracts.strings.kind.ChunkKind.{the_type}
@@ -18,3 +18,9 @@ runs (x ∷ xs) = led x (runs xs)
 -- the same characters with the same kinds, in longest runs
 abbrev pub norm : List Chunk → List Chunk
 norm cs = runs (characters cs)
+
+-- no chunk is empty, and neighbours differ in their kinds
+abbrev pub IsNormal : List Chunk → Type 0
+IsNormal [] = Unit {0}
+IsNormal (c ∷ []) = c.0 ≢ []
+IsNormal (c ∷ d ∷ cs) = (c.0 ≢ []) × (c.1 ≢ d.1) × IsNormal (d ∷ cs)
