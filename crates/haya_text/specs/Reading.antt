@@ -6,6 +6,7 @@ use Rattle.haya_text.specs.declared.strings.kind.ChunkKind.{ChunkKind}
 use Rattle.haya_text.specs.declared.strings.kind.ChunkKind.TheVariants.{Normal, Verbatim, Math}
 use Rattle.haya_text.specs.declared.strings.reading.ChunkedReadError.{ChunkedReadError}
 use Rattle.haya_text.specs.declared.strings.reading.ChunkedReadError.TheVariants.{Parse, OutOfMemory}
+use Rattle.haya_text.specs.declared.strings.reading.ChunkedStrParseError.{ChunkedStrParseError}
 use Rattle.haya_text.specs.declared.strings.reading.Mark.{Mark}
 use Rattle.haya_text.specs.declared.strings.reading.Mark.TheVariants.{Plain, Open, Close, Dollar}
 use Rattle.haya_text.specs.declared.strings.reading.Reader.{Reader}
@@ -67,16 +68,20 @@ told zero false Close rest = Err (125 ∷ rest)
 abbrev pub standing : Reader → List ℕ → Result (List Marked) (List ℕ)
 standing r rest = after_these (characters (chunks r.read)) (scan r.depth r.math false rest)
 
+-- how many bytes stand before the brace that is refused
+abbrev pub position_of : ChunkedStrParseError → ℕ
+position_of brace = brace.position
+
 -- a fault in the text is told with its place: a closing brace stands there, and no group or math is open
 abbrev pub Refuses : ℕ → Reader → Mark → ChunkedReadError → Type 0
-Refuses place r mark (Parse at) = (at ≡ place) × (mark ≡ Close) × (r.depth ≡ 0) × (r.math ≡ false)
+Refuses place r mark (Parse brace) = (position_of brace ≡ place) × (mark ≡ Close) × (r.depth ≡ 0) × (r.math ≡ false)
 Refuses place r mark OutOfMemory = Unit {0}
 
 abbrev pub is_memory : ChunkedReadError → Bool
-is_memory (Parse at) = false
+is_memory (Parse brace) = false
 is_memory OutOfMemory = true
 
 -- a fault other than want of memory tells where the text is refused
 abbrev pub IsRefusal : List ℕ → ChunkedReadError → Type 0
-IsRefusal text (Parse at) = IsRefusedAt at text
+IsRefusal text (Parse brace) = IsRefusedAt (position_of brace) text
 IsRefusal text OutOfMemory = Unit {0}

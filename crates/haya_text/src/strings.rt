@@ -13,3 +13,6 @@ pub use foldable::{FoldError, FoldableChunkedString, FoldableStringChunk};
 pub use format::{FormatString, LongShortForm};
 pub use kind::{ChunkKind, FoldableKind};
 pub use reading::{ChunkedReadError, ChunkedStrParseError};
+
+#[cfg(test)]
+mod tests;

@@ -9,7 +9,6 @@ use super::printing::is_control;
 use crate::cursor::Cursor;
 use crate::{ChunkKind, ChunkedString, OutOfMemory, ReadFault, ReadText};
 use std::alloc::Global;
-use std::marker::Model;
 use thiserror::Error;
 
 /// A closing brace in a text where no group is open.
@@ -19,20 +18,12 @@ pub struct ChunkedStrParseError {
     position: usize,
 }
 
-impl Model for ChunkedStrParseError {
-    ghost use Rattle.std.specs.Prelude.{ℕ};
-
-    ghost Value = { ℕ };
-
-    ghost view = { λ e. e.position };
-
-    ghost inverse = { λ n. record { position = n } };
-}
-
 impl ChunkedStrParseError {
+    ghost use Rattle.haya_text.specs.Reading.{position_of};
+
     /// How many bytes stand before the brace.
     pub fn position(&self) -> usize
-        ensures { result ≡ self.now }
+        ensures { result ≡ position_of self.now }
     {
         self.position
     }

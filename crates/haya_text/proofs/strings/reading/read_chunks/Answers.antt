@@ -16,7 +16,7 @@ use Rattle.haya_text.proofs.strings.reading.read_chunks.Goals as goal
 
 refusal : (text : List ℕ) (place : ℕ) (r : Reader) (mark : Mark) (e : ChunkedReadError) → Refuses place r mark e
     → (mark ≡ Close → r.depth ≡ 0 → r.math ≡ false → IsRefusedAt place text) → IsRefusal text e
-refusal text place r mark (Parse at) h f = rw h.0 (f h.1 h.2 h.3)
+refusal text place r mark (Parse brace) h f = rw h.0 (f h.1 h.2 h.3)
 refusal text place r mark OutOfMemory h f = tt
 
 pub marks-init : goal.marks-init
