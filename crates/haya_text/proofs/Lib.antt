@@ -8,4 +8,3 @@ mod Normals
 mod Pushes
 mod Scans
 mod Serials
-pub mod Characters

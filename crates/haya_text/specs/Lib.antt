@@ -1,8 +1,6 @@
 pub mod Cursor
 pub mod Chunks
 pub mod Foldable
-pub mod Cursor
-pub mod Foldable
 pub mod Grammar
 pub mod Normal
 pub mod Printed
