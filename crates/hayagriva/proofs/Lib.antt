@@ -3,3 +3,4 @@ mod Maps
 mod Pushes
 mod Equal
 mod SelectorsEqual
+mod LibraryRows
