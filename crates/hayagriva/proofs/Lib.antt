@@ -18,3 +18,4 @@ pub mod OneOutcome
 pub mod Again
 mod SelectorsEqual
 mod ReadingRows
+mod LibraryRows

@@ -1,75 +1,63 @@
 use super::*;
 use haya_entry::EntryType;
+use haya_entry::EntryType::{Blog, Book, Web};
 use std::test::Fail;
 
-// Two entries with the key `a`, and one with `b`.
-#[derive(Drop)]
-struct Sample {
-    blog_a: Entry,
-    book_a: Entry,
-    web_b: Entry,
+type Row<'a> = (&'a str, EntryType);
+
+fn library_of(alloc: Global, rows: &[Row]) -> Result<Library, OutOfMemory> {
+    let mut library = Library::new(alloc);
+    for (key, entry_type) in rows {
+        library.push(&Entry::new(alloc, key, *entry_type)?)?;
+    }
+    Ok(library)
 }
 
-fn sample_entries(alloc: Global) -> Result<Sample, OutOfMemory> {
-    Ok(Sample {
-        blog_a: Entry::new(alloc, "a", EntryType::Blog)?,
-        book_a: Entry::new(alloc, "a", EntryType::Book)?,
-        web_b: Entry::new(alloc, "b", EntryType::Web)?,
-    })
+fn row(entry: Option<&Entry>) -> Option<Row> {
+    match entry {
+        Some(entry) => Some((entry.key.as_str(), entry.entry_type)),
+        None => None,
+    }
 }
 
 #[test]
 fn a_known_key_keeps_its_place(rt: HostRuntime) -> Result<(), Fail> {
-    let alloc = rt.alloc();
-    let Sample {
-        blog_a,
-        book_a,
-        web_b,
-    } = sample_entries(alloc)?;
-    let mut library = Library::new(alloc);
-    assert!(rt; library.is_empty());
-    assert_eq!(rt; library.len(), 0);
-    assert!(rt; library.get("a").is_none());
-    assert!(rt; library.nth(0).is_none());
-    assert!(rt; library.remove("a").is_none());
-    assert_eq!(rt; library.keys().next(), None);
-
-    for entry in [&blog_a, &web_b, &book_a] {
-        library.push(entry)?;
-    }
+    let mut library = library_of(rt.alloc(), &[("a", Blog), ("b", Web), ("a", Book)])?;
     assert_eq!(rt; library.len(), 2);
     let mut keys = library.keys();
     for key in [Some("a"), Some("b"), None, None] {
         assert_eq!(rt; keys.next(), key);
     }
-    assert!(rt; library.get("a") == Some(&book_a));
-    assert!(rt; library.get("b") == Some(&web_b));
-    assert!(rt; library.get("c").is_none());
-    assert!(rt; library.nth(0) == Some(&book_a));
-    assert!(rt; library.nth(1) == Some(&web_b));
-    assert!(rt; library.nth(2).is_none());
-
-    assert!(rt; library.remove("a") == Some(book_a));
-    assert_eq!(rt; library.len(), 1);
-    assert!(rt; library.nth(0) == Some(&web_b));
+    for (place, key, found) in [
+        (0, "a", Some(("a", Book))),
+        (1, "b", Some(("b", Web))),
+        (2, "c", None),
+    ] {
+        assert_eq!(rt; row(library.nth(place)), found);
+        assert_eq!(rt; row(library.get(key)), found);
+    }
+    for (found, next) in [
+        (Some(("a", Book)), Some(("b", Web))),
+        (None, Some(("b", Web))),
+    ] {
+        assert_eq!(rt; row(library.remove("a").as_ref()), found);
+        assert_eq!(rt; row(library.nth(0)), next);
+    }
     Ok(())
 }
 
 #[test]
 fn iterators_go_in_order_and_end(rt: HostRuntime) -> Result<(), Fail> {
     let alloc = rt.alloc();
-    let Sample {
-        blog_a,
-        book_a,
-        web_b,
-    } = sample_entries(alloc)?;
-    let library = Library::from_entries(alloc, [blog_a, web_b, book_a].into_iter())?;
-    let Sample { book_a, web_b, .. } = sample_entries(alloc)?;
+    let given = library_of(alloc, &[("b", Web), ("a", Blog)])?;
+    let library = Library::from_entries(alloc, given.into_iter())?;
     let mut entries = (&library).into_iter();
-    let mut copies = library.try_clone(alloc)?.into_iter();
-    for entry in [Some(&book_a), Some(&web_b), None, None] {
-        assert!(rt; entries.next() == entry);
-        assert!(rt; copies.next().as_ref() == entry);
+    for found in [Some(("b", Web)), Some(("a", Blog)), None, None] {
+        assert_eq!(rt; row(entries.next()), found);
+    }
+    let mut entries = library.into_iter();
+    for found in [Some(("b", Web)), Some(("a", Blog)), None, None] {
+        assert_eq!(rt; row(entries.next().as_ref()), found);
     }
     Ok(())
 }
@@ -77,23 +65,17 @@ fn iterators_go_in_order_and_end(rt: HostRuntime) -> Result<(), Fail> {
 #[test]
 fn libraries_are_equal_in_any_order(rt: HostRuntime) -> Result<(), Fail> {
     let alloc = rt.alloc();
-    let Sample {
-        blog_a,
-        book_a,
-        web_b,
-    } = sample_entries(alloc)?;
-    let mut library = Library::new(alloc);
-    library.push(&book_a)?;
-    assert!(rt; library != Library::new(alloc));
-    library.push(&web_b)?;
+    let library = library_of(alloc, &[("a", Book), ("b", Web)])?;
     assert!(rt; library.try_clone(alloc)? == library);
-
-    let mut other = Library::new(alloc);
-    other.push(&web_b)?;
-    assert!(rt; other != library);
-    other.push(&blog_a)?;
-    assert!(rt; other != library);
-    other.push(&book_a)?;
-    assert!(rt; other == library);
+    let empty = Library::new(alloc);
+    assert!(rt; empty.is_empty() && !library.is_empty() && empty != library);
+    for (rows, equal) in [
+        (&[("b", Web), ("a", Book)], true),
+        (&[("b", Web), ("a", Blog)], false),
+        (&[("a", Book), ("a", Book)], false),
+    ] {
+        let other = library_of(alloc, rows)?;
+        assert!(rt; (other == library) == equal && (library == other) == equal);
+    }
     Ok(())
 }
