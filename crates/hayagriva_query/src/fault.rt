@@ -17,13 +17,13 @@ pub enum LineFault {
     Depth,
     /// The name of no type.
     #[error("type")]
-    Type,
+    UnknownType,
     /// The name of no field.
     #[error("field")]
-    Field,
+    UnknownField,
     /// A field's value that its reader refuses. The fields there are take every text.
     #[error("value")]
-    Value,
+    RefusedValue,
     /// Memory was refused, which says nothing of the line.
     #[error("out of memory")]
     OutOfMemory,
@@ -85,30 +85,50 @@ impl From<SelectorError> for Fault {
 }
 
 impl From<OutOfMemory> for Fault {
+    ghost use Rattle.hayagriva_query.specs.declared.fault.Fault.TheVariants.{OutOfMemory};
+
+    ghost from_gives = { λ _ e. e ≡ OutOfMemory };
+
     fn from(_error: OutOfMemory) -> Fault {
         Fault::OutOfMemory
     }
 }
 
 impl From<AllocError> for Fault {
+    ghost use Rattle.hayagriva_query.specs.declared.fault.Fault.TheVariants.{OutOfMemory};
+
+    ghost from_gives = { λ _ e. e ≡ OutOfMemory };
+
     fn from(_error: AllocError) -> Fault {
         Fault::OutOfMemory
     }
 }
 
 impl<T: Drop> From<AllocFailed<T>> for Fault {
+    ghost use Rattle.hayagriva_query.specs.declared.fault.Fault.TheVariants.{OutOfMemory};
+
+    ghost from_gives = { λ _ e. e ≡ OutOfMemory };
+
     fn from(_error: AllocFailed<T>) -> Fault {
         Fault::OutOfMemory
     }
 }
 
 impl From<OutOfMemory> for LineFault {
+    ghost use Rattle.hayagriva_query.specs.declared.fault.LineFault.TheVariants.{OutOfMemory};
+
+    ghost from_gives = { λ _ e. e ≡ OutOfMemory };
+
     fn from(_error: OutOfMemory) -> LineFault {
         LineFault::OutOfMemory
     }
 }
 
 impl From<AllocError> for LineFault {
+    ghost use Rattle.hayagriva_query.specs.declared.fault.LineFault.TheVariants.{OutOfMemory};
+
+    ghost from_gives = { λ _ e. e ≡ OutOfMemory };
+
     fn from(_error: AllocError) -> LineFault {
         LineFault::OutOfMemory
     }
