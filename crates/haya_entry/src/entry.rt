@@ -102,3 +102,6 @@ impl Entry {
         })
     }
 }
+
+#[cfg(test)]
+mod tests;
