@@ -84,19 +84,29 @@ fn gets_what_was_set(rt: HostRuntime) -> Result<(), Fail> {
     let mut entry = Entry::new(alloc, "tolkien", EntryType::Book)?;
     assert_eq!(rt; entry.key(), "tolkien");
     assert_eq!(rt; entry.entry_type(), EntryType::Book);
-    assert_eq!(rt; entry.parents().len(), 0);
+    assert!(rt; entry.parents().is_empty() && entry.serial_number().is_none());
     assert_eq!(rt; entry.language(), None);
-    assert!(rt; entry.serial_number().is_none());
     for language in ["en", "de"] {
         entry.set_language(String::from_str(alloc, language)?);
         assert_eq!(rt; entry.language(), Some(language));
     }
-    entry.set_serial_number(SerialNumber(BTreeMap::new(alloc)));
-    assert_eq!(rt;
-        entry.serial_number(),
-        Some(&SerialNumber(BTreeMap::new(alloc)))
-    );
+    let serial = SerialNumber(BTreeMap::new(alloc));
+    entry.set_serial_number(serial.try_clone(alloc)?);
+    assert!(rt; entry.serial_number() == Some(&serial));
     Ok(())
+}
+
+// The serial number that the call of this name answers.
+fn named_serial_number<'a>(entry: &'a Entry, name: &str) -> Option<&'a str> {
+    match name {
+        "doi" => entry.doi(),
+        "isbn" => entry.isbn(),
+        "issn" => entry.issn(),
+        "pmid" => entry.pmid(),
+        "pmcid" => entry.pmcid(),
+        "arxiv" => entry.arxiv(),
+        key => entry.keyed_serial_number(key),
+    }
 }
 
 #[test]
@@ -104,43 +114,36 @@ fn keeps_each_serial_number_under_its_key(rt: HostRuntime) -> Result<(), Fail> {
     let alloc = rt.alloc();
     let mut entry = Entry::new(alloc, "key", EntryType::Article)?;
     let kept = [
-        ("doi", "10.1/a"),
+        ("doi", "10.1145/24039.24041"),
         ("isbn", "978-0"),
         ("issn", "0098-3500"),
         ("pmid", "12"),
         ("pmcid", "PMC12"),
         ("arxiv", "2101.1"),
         ("serial", "7"),
-        ("doi", "10.1145/24039.24041"),
     ];
     for (key, text) in kept {
+        // Each named call keeps a value first, which the keyed call replaces.
+        set(&mut entry, alloc, key)?;
+        assert_eq!(rt; entry.keyed_serial_number(key), Some("value"));
         entry.set_keyed_serial_number(key, String::from_str(alloc, text)?)?;
-        assert_eq!(rt; entry.keyed_serial_number(key), Some(text));
     }
-    assert_eq!(rt; entry.doi(), Some("10.1145/24039.24041"));
-    assert_eq!(rt; entry.isbn(), Some("978-0"));
-    assert_eq!(rt; entry.issn(), Some("0098-3500"));
-    assert_eq!(rt; entry.pmid(), Some("12"));
-    assert_eq!(rt; entry.pmcid(), Some("PMC12"));
-    assert_eq!(rt; entry.arxiv(), Some("2101.1"));
-    assert_eq!(rt; entry.keyed_serial_number("serial"), Some("7"));
+    for (key, text) in kept {
+        assert_eq!(rt; named_serial_number(&entry, key), Some(text));
+    }
     assert_eq!(rt; entry.keyed_serial_number("DOI"), None);
-    entry.set_arxiv(String::from_str(alloc, "2101.2")?)?;
-    assert_eq!(rt; entry.keyed_serial_number("arxiv"), Some("2101.2"));
-    entry.set_serial_number(SerialNumber(BTreeMap::new(alloc)));
-    assert_eq!(rt; entry.doi(), None);
     Ok(())
 }
 
 // An article in a journal that stands in a site.
 fn article(alloc: Global, site: &str) -> Result<Entry, OutOfMemory> {
     let mut journal = Entry::new(alloc, "journal", EntryType::Periodical)?;
-    let mut above = Vec::new(alloc);
-    above.push(Entry::new(alloc, site, EntryType::Web)?)?;
-    journal.set_parents(above);
+    let mut parents = Vec::new(alloc);
+    parents.push(Entry::new(alloc, site, EntryType::Web)?)?;
+    journal.set_parents(parents);
     let mut article = Entry::new(alloc, "article", EntryType::Article)?;
-    article.set_language(String::from_str(alloc, "en")?);
-    article.set_doi(String::from_str(alloc, "10.1/a")?)?;
+    set(&mut article, alloc, "language")?;
+    set(&mut article, alloc, "doi")?;
     let mut parents = Vec::new(alloc);
     parents.push(journal)?;
     article.set_parents(parents);
@@ -151,20 +154,32 @@ fn article(alloc: Global, site: &str) -> Result<Entry, OutOfMemory> {
 fn is_equal_to_its_copy_alone(rt: HostRuntime) -> Result<(), Fail> {
     let alloc = rt.alloc();
     let here = article(alloc, "here")?;
-    let mut copy = here.try_clone(alloc)?;
-    assert_eq!(rt; copy, here);
-    assert_eq!(rt; copy.parents().len(), 1);
-    // The sites, two levels above, differ.
-    assert_ne!(rt; article(alloc, "there")?, here);
-    copy.set_parents(Vec::new(alloc));
-    assert_ne!(rt; copy, here);
-    let serial = SerialNumber(BTreeMap::new(alloc));
-    let copied = serial.try_clone(alloc)?;
-    assert_eq!(rt; copied, serial);
-    assert_eq!(rt; copied_by_trait(alloc, &serial)?, serial);
+    assert!(rt; here.try_clone(alloc)? == here, "a copy");
+    assert!(rt;
+        article(alloc, "there")? != here,
+        "the sites differ, two levels above"
+    );
+    assert!(rt;
+        here.try_clone(alloc)?.parents() == here.parents(),
+        "the parents of a copy"
+    );
     Ok(())
 }
 
-fn copied_by_trait<T: TryClone>(alloc: Global, value: &T) -> Result<T, OutOfMemory> {
+fn copied<T: TryClone>(alloc: Global, value: &T) -> Result<T, OutOfMemory> {
     value.try_clone(alloc)
+}
+
+#[test]
+fn copies_serial_numbers(rt: HostRuntime) -> Result<(), Fail> {
+    let alloc = rt.alloc();
+    let mut map = BTreeMap::new(alloc);
+    map.insert(
+        String::from_str(alloc, "doi")?,
+        String::from_str(alloc, "10.1/a")?,
+    )?;
+    let serial = SerialNumber(map);
+    assert!(rt; serial.try_clone(alloc)? == serial);
+    assert!(rt; copied(alloc, &serial)? == serial, "through the trait");
+    Ok(())
 }

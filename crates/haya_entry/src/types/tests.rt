@@ -39,31 +39,20 @@ const NAMED: [(&str, EntryType); 30] = [
 fn reads_names_as_written_and_in_lower_case(rt: HostRuntime) -> Result<(), Fail> {
     let alloc = rt.alloc();
     for (name, entry_type) in NAMED {
-        assert_eq!(rt; EntryType::from_str(name), Ok(entry_type), "{name}");
         let lower = name.to_ascii_lowercase(alloc)?;
-        assert_eq!(rt;
-            EntryType::from_str(lower.as_str()),
-            Ok(entry_type),
-            "{lower}"
-        );
         let upper = name.to_ascii_uppercase(alloc)?;
-        assert_eq!(rt;
-            EntryType::from_str(upper.as_str()),
-            Err(UnknownType),
-            "{upper}"
-        );
+        assert_eq!(rt; EntryType::from_str(name), Ok(entry_type));
+        assert_eq!(rt; EntryType::from_str(lower.as_str()), Ok(entry_type));
+        assert_eq!(rt; EntryType::from_str(upper.as_str()), Err(UnknownType));
     }
+    Ok(())
+}
+
+#[test]
+fn refuses_all_other_texts(rt: HostRuntime) {
     for text in [
-        "",
-        "bOOK",
-        "book ",
-        " book",
-        "books",
-        "boo",
-        "Bo\u{f6}k",
-        "unknown",
+        "", "bOOK", "Book ", " book", "books", "boo", "B\u{f6}k", "unknown",
     ] {
         assert_eq!(rt; EntryType::from_str(text), Err(UnknownType), "{text}");
     }
-    Ok(())
 }
