@@ -1,11 +1,36 @@
 use crate::{Entry, EntryType, SerialNumber};
-use haya_text::{OutOfMemory, TryClone};
+use haya_text::{FormatString, OutOfMemory, TryClone};
 use std::alloc::Global;
 use std::collections::BTreeMap;
 use std::test::Fail;
 
-// Names that an entry may have, then texts that are no names.
-const TEXTS: [&str; 14] = [
+// The names of the fields that are texts.
+const TEXT_FIELDS: [&str; 9] = [
+    "title",
+    "location",
+    "organization",
+    "archive",
+    "archive-location",
+    "call-number",
+    "note",
+    "abstract",
+    "genre",
+];
+
+// The serial numbers that have calls of their own.
+const SERIAL_NUMBERS: [&str; 6] = ["doi", "isbn", "issn", "pmid", "pmcid", "arxiv"];
+
+// All names that an entry may have, then texts that are no names.
+const TEXTS: [&str; 27] = [
+    "title",
+    "location",
+    "organization",
+    "archive",
+    "archive-location",
+    "call-number",
+    "note",
+    "abstract",
+    "genre",
     "language",
     "serial-number",
     "doi",
@@ -17,7 +42,11 @@ const TEXTS: [&str; 14] = [
     "type",
     "parent",
     "serial",
+    "key",
     "DOI",
+    "Title",
+    "abstract_",
+    "archive_location",
     "serial_number",
     "",
 ];
@@ -34,29 +63,92 @@ fn names_had(entry: &Entry, alloc: Global) -> Result<String, OutOfMemory> {
     Ok(names)
 }
 
-// Sets the field or the serial number of this name to a value, and nothing else.
-fn set(entry: &mut Entry, alloc: Global, name: &str) -> Result<(), OutOfMemory> {
-    let value = String::from_str(alloc, "value")?;
+// Sets the text field of this name to its name.
+fn set_text(entry: &mut Entry, alloc: Global, name: &str) -> Result<(), OutOfMemory> {
+    let text = FormatString::with_value(alloc, String::from_str(alloc, name)?)?;
     match name {
-        "language" => entry.set_language(value),
-        "serial-number" => entry.set_serial_number(SerialNumber(BTreeMap::new(alloc))),
-        "doi" => entry.set_doi(value)?,
-        "isbn" => entry.set_isbn(value)?,
-        "issn" => entry.set_issn(value)?,
-        "pmid" => entry.set_pmid(value)?,
-        "pmcid" => entry.set_pmcid(value)?,
-        "arxiv" => entry.set_arxiv(value)?,
-        key => entry.set_keyed_serial_number(key, value)?,
+        "title" => entry.set_title(text),
+        "location" => entry.set_location(text),
+        "organization" => entry.set_organization(text),
+        "archive" => entry.set_archive(text),
+        "archive-location" => entry.set_archive_location(text),
+        "call-number" => entry.set_call_number(text),
+        "note" => entry.set_note(text),
+        "abstract" => entry.set_abstract_(text),
+        "genre" => entry.set_genre(text),
+        _ => {}
+    }
+    Ok(())
+}
+
+fn text_of<'a>(entry: &'a Entry, name: &str) -> Option<&'a FormatString> {
+    match name {
+        "title" => entry.title(),
+        "location" => entry.location(),
+        "organization" => entry.organization(),
+        "archive" => entry.archive(),
+        "archive-location" => entry.archive_location(),
+        "call-number" => entry.call_number(),
+        "note" => entry.note(),
+        "abstract" => entry.abstract_(),
+        "genre" => entry.genre(),
+        _ => None,
+    }
+}
+
+// Keeps the serial number of this name, or else of this key, with its name as the number.
+fn set_serial(entry: &mut Entry, alloc: Global, name: &str) -> Result<(), OutOfMemory> {
+    let number = String::from_str(alloc, name)?;
+    match name {
+        "doi" => entry.set_doi(number),
+        "isbn" => entry.set_isbn(number),
+        "issn" => entry.set_issn(number),
+        "pmid" => entry.set_pmid(number),
+        "pmcid" => entry.set_pmcid(number),
+        "arxiv" => entry.set_arxiv(number),
+        key => entry.set_keyed_serial_number(key, number),
+    }
+}
+
+fn serial_of<'a>(entry: &'a Entry, name: &str) -> Option<&'a str> {
+    match name {
+        "doi" => entry.doi(),
+        "isbn" => entry.isbn(),
+        "issn" => entry.issn(),
+        "pmid" => entry.pmid(),
+        "pmcid" => entry.pmcid(),
+        "arxiv" => entry.arxiv(),
+        key => entry.keyed_serial_number(key),
+    }
+}
+
+// The names of a fresh entry whose text field of this name was set, and of one with this serial number.
+fn names_with_text(alloc: Global, name: &str) -> Result<String, OutOfMemory> {
+    let mut entry = Entry::new(alloc, "key", EntryType::Book)?;
+    set_text(&mut entry, alloc, name)?;
+    names_had(&entry, alloc)
+}
+
+fn names_with_serial(alloc: Global, name: &str) -> Result<String, OutOfMemory> {
+    let mut entry = Entry::new(alloc, "key", EntryType::Book)?;
+    set_serial(&mut entry, alloc, name)?;
+    names_had(&entry, alloc)
+}
+
+#[test]
+fn has_a_text_once_it_is_set(rt: HostRuntime) -> Result<(), Fail> {
+    for name in TEXT_FIELDS {
+        assert_eq!(rt;
+            names_with_text(rt.alloc(), name)?.as_str().trim_end(),
+            name
+        );
     }
     Ok(())
 }
 
 #[test]
-fn has_what_is_set_and_nothing_else(rt: HostRuntime) -> Result<(), Fail> {
-    let alloc = rt.alloc();
-    let cases = [
-        ("language", "language "),
-        ("serial-number", "serial-number "),
+fn has_serial_numbers_by_their_names(rt: HostRuntime) -> Result<(), Fail> {
+    for (name, had) in [
         ("doi", "serial-number doi "),
         ("isbn", "serial-number isbn "),
         ("issn", "serial-number issn "),
@@ -68,13 +160,23 @@ fn has_what_is_set_and_nothing_else(rt: HostRuntime) -> Result<(), Fail> {
         ("serial", "serial-number "),
         ("DOI", "serial-number "),
         ("", "serial-number "),
-    ];
-    for (name, had) in cases {
-        let mut entry = Entry::new(alloc, "key", EntryType::Book)?;
-        assert_eq!(rt; names_had(&entry, alloc)?.as_str(), "", "before {name}");
-        set(&mut entry, alloc, name)?;
-        assert_eq!(rt; names_had(&entry, alloc)?.as_str(), had, "{name}");
+    ] {
+        assert_eq!(rt; names_with_serial(rt.alloc(), name)?.as_str(), had);
     }
+    Ok(())
+}
+
+#[test]
+fn has_other_fields_once_they_are_set(rt: HostRuntime) -> Result<(), Fail> {
+    let alloc = rt.alloc();
+    let mut entry = Entry::new(alloc, "key", EntryType::Book)?;
+    assert_eq!(rt; names_had(&entry, alloc)?.as_str(), "");
+    entry.set_language(String::from_str(alloc, "en")?);
+    entry.set_serial_number(SerialNumber(BTreeMap::new(alloc)));
+    assert_eq!(rt;
+        names_had(&entry, alloc)?.as_str(),
+        "language serial-number "
+    );
     Ok(())
 }
 
@@ -96,57 +198,64 @@ fn gets_what_was_set(rt: HostRuntime) -> Result<(), Fail> {
     Ok(())
 }
 
-// The serial number that the call of this name answers.
-fn named_serial_number<'a>(entry: &'a Entry, name: &str) -> Option<&'a str> {
-    match name {
-        "doi" => entry.doi(),
-        "isbn" => entry.isbn(),
-        "issn" => entry.issn(),
-        "pmid" => entry.pmid(),
-        "pmcid" => entry.pmcid(),
-        "arxiv" => entry.arxiv(),
-        key => entry.keyed_serial_number(key),
+// An entry with a text in each text field, and one with each serial number that has a name.
+fn with_texts(alloc: Global, key: &str) -> Result<Entry, OutOfMemory> {
+    let mut entry = Entry::new(alloc, key, EntryType::Article)?;
+    for name in TEXT_FIELDS {
+        set_text(&mut entry, alloc, name)?;
     }
+    Ok(entry)
+}
+
+fn with_serials(alloc: Global) -> Result<Entry, OutOfMemory> {
+    let mut entry = Entry::new(alloc, "key", EntryType::Article)?;
+    for name in SERIAL_NUMBERS {
+        set_serial(&mut entry, alloc, name)?;
+    }
+    Ok(entry)
 }
 
 #[test]
-fn keeps_each_serial_number_under_its_key(rt: HostRuntime) -> Result<(), Fail> {
-    let alloc = rt.alloc();
-    let mut entry = Entry::new(alloc, "key", EntryType::Article)?;
-    let kept = [
-        ("doi", "10.1145/24039.24041"),
-        ("isbn", "978-0"),
-        ("issn", "0098-3500"),
-        ("pmid", "12"),
-        ("pmcid", "PMC12"),
-        ("arxiv", "2101.1"),
-        ("serial", "7"),
-    ];
-    for (key, text) in kept {
-        // Each named call keeps a value first, which the keyed call replaces.
-        set(&mut entry, alloc, key)?;
-        assert_eq!(rt; entry.keyed_serial_number(key), Some("value"));
-        entry.set_keyed_serial_number(key, String::from_str(alloc, text)?)?;
+fn gets_the_texts_that_were_set(rt: HostRuntime) -> Result<(), Fail> {
+    let entry = with_texts(rt.alloc(), "key")?;
+    for name in TEXT_FIELDS {
+        let value = String::from_str(rt.alloc(), name)?;
+        let text = FormatString::with_value(rt.alloc(), value)?;
+        assert!(rt; text_of(&entry, name) == Some(&text));
     }
-    for (key, text) in kept {
-        assert_eq!(rt; named_serial_number(&entry, key), Some(text));
+    Ok(())
+}
+
+#[test]
+fn gets_the_serial_numbers_that_were_set(rt: HostRuntime) -> Result<(), Fail> {
+    let entry = with_serials(rt.alloc())?;
+    for name in SERIAL_NUMBERS {
+        assert_eq!(rt; serial_of(&entry, name), Some(name));
+        assert_eq!(rt; entry.keyed_serial_number(name), Some(name));
     }
+    Ok(())
+}
+
+#[test]
+fn replaces_a_serial_number(rt: HostRuntime) -> Result<(), Fail> {
+    let mut entry = with_serials(rt.alloc())?;
+    entry.set_keyed_serial_number("doi", String::from_str(rt.alloc(), "10.1145/24039.24041")?)?;
+    assert_eq!(rt; entry.doi(), Some("10.1145/24039.24041"));
+    assert_eq!(rt; entry.isbn(), Some("isbn"));
     assert_eq!(rt; entry.keyed_serial_number("DOI"), None);
     Ok(())
 }
 
 // An article in a journal that stands in a site.
 fn article(alloc: Global, site: &str) -> Result<Entry, OutOfMemory> {
-    let mut journal = Entry::new(alloc, "journal", EntryType::Periodical)?;
-    let mut parents = Vec::new(alloc);
-    parents.push(Entry::new(alloc, site, EntryType::Web)?)?;
-    journal.set_parents(parents);
-    let mut article = Entry::new(alloc, "article", EntryType::Article)?;
-    set(&mut article, alloc, "language")?;
-    set(&mut article, alloc, "doi")?;
-    let mut parents = Vec::new(alloc);
-    parents.push(journal)?;
-    article.set_parents(parents);
+    let mut sites = Vec::new(alloc);
+    sites.push(Entry::new(alloc, site, EntryType::Web)?)?;
+    let mut journal = with_serials(alloc)?;
+    journal.set_parents(sites);
+    let mut journals = Vec::new(alloc);
+    journals.push(journal)?;
+    let mut article = with_texts(alloc, "article")?;
+    article.set_parents(journals);
     Ok(article)
 }
 
