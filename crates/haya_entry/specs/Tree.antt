@@ -32,6 +32,7 @@ mutual
     no_trees : Trees
     one_more : Tree → Trees → Trees
 
+-- trees in order, from a list and as one
 abbrev pub trees : List Tree → Trees
 trees [] = no_trees
 trees (t ∷ ts) = one_more t (trees ts)
@@ -40,6 +41,7 @@ abbrev pub listed : Trees → List Tree
 listed no_trees = []
 listed (one_more t ts) = t ∷ listed ts
 
+-- all of an entry but its parents, and its parents in order
 abbrev pub fields : Tree → Fields
 fields (node f ps) = f
 
@@ -65,7 +67,7 @@ abbrev pub at_list : List Tree → List ℕ → Option Tree
 at_list ts [] = None
 at_list ts (i ∷ path) = option_and_then (λ p. at p path) (slice_get ts i)
 
--- one level of an entry, but for its parents
+-- the fields of an entry by value, whatever its parents are
 abbrev pub fields_of : {P : Type 0} → Entry-F P → Fields
 fields_of e = record {
   key = string_bytes e.key;
@@ -83,6 +85,7 @@ fields_of e = record {
   serial_number = option_map serial_view e.serial_number;
 }
 
+-- the value of an entry whose parents have these values
 abbrev pub view_step : Entry-F Tree → Tree
 view_step e = node (fields_of e) (trees e.parents.items)
 

@@ -94,9 +94,10 @@ impl Entry {
         self.parents = parents;
     }
 
-    /// Whether the entry has a name: that of a field which is set, as `language` or `serial-number`, or
-    /// one of `doi`, `isbn`, `issn`, `pmid`, `pmcid` and `arxiv`, where that serial number is kept.
-    /// Any other text, `type`, `parent` and `serial` too, is a name that no entry has.
+    /// Whether the entry has a name. It has the name of each field that is set: `title`, `location`,
+    /// `organization`, `archive`, `archive-location`, `call-number`, `note`, `abstract`, `genre`, `language`,
+    /// `serial-number`; and, of `doi`, `isbn`, `issn`, `pmid`, `pmcid` and `arxiv`, those under which a serial
+    /// number is kept. It has no other name.
     pub fn has(&self, name: &str) -> bool
         ensures { result ≡ has_name (view self.now) name.now }
     {
