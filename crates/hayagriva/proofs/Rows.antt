@@ -3,7 +3,7 @@ use Rattle.std.proofs.Common.{◌≡◌, ℕ, true, false, List, [], ◌∷◌, 
 use Rattle.std.specs.Prelude.{codes}
 use Rattle.haya_entry.specs.declared.types.EntryType.{EntryType}
 use Rattle.haya_entry.specs.declared.types.EntryType.TheVariants.{Article, Blog, Book, Periodical, Web}
-use Rattle.haya_entry.specs.Tree.{Tree, node, trees, bare, with_fields}
+use Rattle.haya_entry.specs.Tree.{Tree, bare, with_fields, with_parents}
 use Rattle.hayagriva.specs.Binds.{binds, bound_to, last_of}
 use Rattle.hayagriva.specs.Calls.{calls}
 use Rattle.hayagriva.specs.Holds.{holds, candidates}
@@ -17,7 +17,7 @@ abbrev in_language : EntryType → Tree
 in_language t = with_fields (λ f. record f { language = Some [] }) (plain t)
 
 abbrev below : List Tree → EntryType → Tree
-below ps t = node (record { key = []; entry_type = t; language = None; serial_number = None }) (trees ps)
+below ps t = with_parents ps (plain t)
 
 abbrev language : List (List ℕ)
 language = codes "language" ∷ []
