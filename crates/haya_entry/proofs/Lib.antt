@@ -1,3 +1,4 @@
 pub mod Trees
 pub mod Equal
 mod SerialLemmas
+mod Rows

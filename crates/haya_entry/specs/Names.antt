@@ -6,9 +6,18 @@ use Rattle.std.specs.Str.{bytes_eq}
 use Rattle.haya_entry.specs.Tree.{Tree, fields, keyed_serial_number}
 
 -- each name, with whether the entry has it: fields that are set, serial numbers that are kept
-abbrev pub names : Tree → List (List ℕ × Bool)
-names t =
-    (codes "language", is_some (fields t).language)
+abbrev pub name_table : Tree → List (List ℕ × Bool)
+name_table t =
+    (codes "title", is_some (fields t).title)
+    ∷ (codes "location", is_some (fields t).location)
+    ∷ (codes "organization", is_some (fields t).organization)
+    ∷ (codes "archive", is_some (fields t).archive)
+    ∷ (codes "archive-location", is_some (fields t).archive_location)
+    ∷ (codes "call-number", is_some (fields t).call_number)
+    ∷ (codes "note", is_some (fields t).note)
+    ∷ (codes "abstract", is_some (fields t).abstract_)
+    ∷ (codes "genre", is_some (fields t).genre)
+    ∷ (codes "language", is_some (fields t).language)
     ∷ (codes "serial-number", is_some (fields t).serial_number)
     ∷ (codes "doi", is_some (keyed_serial_number (codes "doi") t))
     ∷ (codes "isbn", is_some (keyed_serial_number (codes "isbn") t))
@@ -20,7 +29,7 @@ names t =
 
 -- whether the entry has the name; no entry has a name that isn't among these
 abbrev pub has_name : Tree → List ℕ → Bool
-has_name t name = unwrap_or (lookup (bytes_eq name) (names t)) false
+has_name t name = unwrap_or (lookup (bytes_eq name) (name_table t)) false
 
 -- whether the entry has every name
 abbrev pub has_all : List (List ℕ) → Tree → Bool

@@ -11,6 +11,7 @@ use Rattle.haya_entry.specs.declared.types.SerialNumber.{SerialNumber}
 abbrev pub Serials : Type 0
 Serials = List (List ℕ × List ℕ)
 
+-- a key and its text, as bytes
 abbrev pub serial_entry : {B : Type 0} → String B × String B → List ℕ × List ℕ
 serial_entry e = (string_bytes e.0, string_bytes e.1)
 

@@ -2,11 +2,12 @@ ghost use Rattle.std.specs.Prelude.{◌≡◌, IfOk, map};
 ghost use Rattle.haya_entry.specs.Names.{has_name};
 ghost use Rattle.haya_entry.specs.Tree.{view, fields, parents, with_parents, bare};
 
+mod copies;
 mod fields;
 mod serials;
 
 use crate::{EntryType, SerialNumber};
-use haya_text::{OutOfMemory, TryClone};
+use haya_text::{FormatString, OutOfMemory};
 use std::alloc::Global;
 
 /// A work of the literature: its key, its type, its fields, and the works that it stands in, its parents.
@@ -18,6 +19,24 @@ pub struct Entry {
     pub entry_type: EntryType,
     /// The works that it stands in, in order.
     pub parents: Vec<Entry>,
+    /// The title.
+    pub title: Option<FormatString>,
+    /// The place where the work was made or is kept.
+    pub location: Option<FormatString>,
+    /// The organization that the work comes from.
+    pub organization: Option<FormatString>,
+    /// The archive that keeps the work.
+    pub archive: Option<FormatString>,
+    /// The place of that archive.
+    pub archive_location: Option<FormatString>,
+    /// The number that the archive or library has it under.
+    pub call_number: Option<FormatString>,
+    /// A note on the work.
+    pub note: Option<FormatString>,
+    /// A summary of what the work says.
+    pub abstract_: Option<FormatString>,
+    /// The kind of work within its type, as `Doctoral dissertation`.
+    pub genre: Option<FormatString>,
     /// The language of the work.
     pub language: Option<String>,
     /// The numbers that catalogues know the work by.
@@ -33,6 +52,15 @@ impl Entry {
             key: String::from_str(alloc, key)?,
             entry_type,
             parents: Vec::new(alloc),
+            title: None,
+            location: None,
+            organization: None,
+            archive: None,
+            archive_location: None,
+            call_number: None,
+            note: None,
+            abstract_: None,
+            genre: None,
             language: None,
             serial_number: None,
         })
@@ -66,13 +94,23 @@ impl Entry {
         self.parents = parents;
     }
 
-    /// Whether the entry has a name: that of a field which is set, as `language` or `serial-number`, or
-    /// one of `doi`, `isbn`, `issn`, `pmid`, `pmcid` and `arxiv`, where that serial number is kept.
-    /// Any other text, `type`, `parent` and `serial` too, is a name that no entry has.
+    /// Whether the entry has a name. It has the name of each field that is set: `title`, `location`,
+    /// `organization`, `archive`, `archive-location`, `call-number`, `note`, `abstract`, `genre`, `language`,
+    /// `serial-number`; and, of `doi`, `isbn`, `issn`, `pmid`, `pmcid` and `arxiv`, those under which a serial
+    /// number is kept. It has no other name.
     pub fn has(&self, name: &str) -> bool
         ensures { result ≡ has_name (view self.now) name.now }
     {
         match name {
+            "title" => self.title.is_some(),
+            "location" => self.location.is_some(),
+            "organization" => self.organization.is_some(),
+            "archive" => self.archive.is_some(),
+            "archive-location" => self.archive_location.is_some(),
+            "call-number" => self.call_number.is_some(),
+            "note" => self.note.is_some(),
+            "abstract" => self.abstract_.is_some(),
+            "genre" => self.genre.is_some(),
             "language" => self.language.is_some(),
             "serial-number" => self.serial_number.is_some(),
             "doi" => self.doi().is_some(),
@@ -84,21 +122,7 @@ impl Entry {
             _ => false,
         }
     }
-
-    /// A copy, equal to this entry.
-    pub fn try_clone(&self, alloc: Global) -> Result<Entry, OutOfMemory>
-        ensures { IfOk result (λ copy. view copy ≡ view self.now) }
-    {
-        let mut parents = Vec::new(alloc);
-        for parent in &self.parents {
-            parents.push(parent.try_clone(alloc)?)?;
-        }
-        Ok(Entry {
-            key: self.key.try_clone(alloc)?,
-            entry_type: self.entry_type,
-            parents,
-            language: self.language.try_clone(alloc)?,
-            serial_number: self.serial_number.try_clone(alloc)?,
-        })
-    }
 }
+
+#[cfg(test)]
+mod tests;

@@ -206,3 +206,6 @@ impl TryClone for SerialNumber {
         self.try_clone(alloc)
     }
 }
+
+#[cfg(test)]
+mod tests;

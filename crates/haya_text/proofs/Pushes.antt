@@ -1,5 +1,5 @@
 -- What a push makes of a list of chunks.
-use Rattle.std.proofs.Common.{◌≡◌, ℕ, ◌+◌, Bool, true, false, cond, List, [], ◌∷◌, ◌++◌, length, get_or, refl, ap, sym, ◌∙◌, arith, map, zero, suc, append_assoc}
+use Rattle.std.proofs.Common.{◌≡◌, ℕ, Bool, true, false, cond, List, [], ◌∷◌, ◌++◌, length, get_or, refl, ap, sym, ◌∙◌, arith, map, zero, suc, append_assoc}
 use Rattle.std.proofs.Math.ListN.{set}
 use denote.Enum.Bare.{sameb, same_true}
 use Rattle.std.specs.Str.{chars, IsUtf8}
@@ -49,7 +49,7 @@ pub characters-grown : (ps : List Chunk) (text : List ℕ) (kind : ChunkKind) �
 characters-grown [] text kind u h = cc
 characters-grown (p ∷ []) text kind u h =
     let k : p.1 ≡ kind = same_true the_type tt p.1 kind h in
-    rw (append-nil, append-nil, chars-append p.0 text u.0, marked-append p.1 (chars p.0) (chars text), k) refl
+    rw (append-nil (marked p.1 (chars (p.0 ++ text))), append-nil (marked p.1 (chars p.0)), chars-append p.0 text u.0, marked-append p.1 (chars p.0) (chars text), k) refl
 characters-grown (p ∷ q ∷ ps) text kind u h = rw (characters-grown (q ∷ ps) text kind u.1 h) (sym (append_assoc (marked p.1 (chars p.0)) (characters (q ∷ ps)) (marked kind (chars text))))
 
 -- a push appends its characters

@@ -4,6 +4,7 @@ use Rattle.std.specs.Str.{chars}
 use denote.Enum.Bare.{sameb}
 use Rattle.haya_text.specs.contracts.strings.kind.ChunkKind.{the_type}
 use Rattle.haya_text.specs.declared.strings.kind.ChunkKind.{ChunkKind}
+use Rattle.haya_text.specs.declared.strings.kind.ChunkKind.TheVariants.{Normal}
 use Rattle.haya_text.specs.declared.strings.chunk.StringChunk.{StringChunk}
 use Rattle.haya_text.specs.declared.strings.chunked.ChunkedString.{ChunkedString}
 
@@ -17,6 +18,10 @@ chunk_view c = (string_bytes c.value, c.kind)
 -- the chunks of a text, in order
 abbrev pub chunks : ChunkedString → List Chunk
 chunks text = map chunk_view text.0.items
+
+-- one chunk of plain text
+abbrev pub plain_text : List ℕ → List Chunk
+plain_text bytes = (bytes, Normal) ∷ []
 
 -- a character with its kind
 abbrev pub Marked : Type 0

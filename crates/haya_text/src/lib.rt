@@ -11,7 +11,8 @@ mod try_clone;
 pub use fault::{OutOfMemory, ReadFault};
 pub use read_text::ReadText;
 pub use strings::{
-    ChunkKind, ChunkedString, FoldableChunkedString, FoldableKind, FoldableStringChunk,
-    FormatString, LongShortForm, StringChunk,
+    ChunkKind, ChunkedReadError, ChunkedStrParseError, ChunkedString, FoldError,
+    FoldableChunkedString, FoldableKind, FoldableStringChunk, FormatString, LongShortForm,
+    StringChunk,
 };
 pub use try_clone::TryClone;

@@ -4,9 +4,15 @@ mod chunked;
 mod foldable;
 mod format;
 mod kind;
+mod printing;
+mod reading;
 
 pub use chunk::StringChunk;
 pub use chunked::ChunkedString;
-pub use foldable::{FoldableChunkedString, FoldableStringChunk};
+pub use foldable::{FoldError, FoldableChunkedString, FoldableStringChunk};
 pub use format::{FormatString, LongShortForm};
 pub use kind::{ChunkKind, FoldableKind};
+pub use reading::{ChunkedReadError, ChunkedStrParseError};
+
+#[cfg(test)]
+mod tests;

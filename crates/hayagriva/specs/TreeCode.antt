@@ -5,7 +5,7 @@ use Rattle.std.proofs.Common.{refl}
 use base.Stored.{Gv, gnil, gnum, gcons}
 use Rattle.haya_entry.specs.Tree.{Tree, Trees, Fields, node, no_trees, one_more}
 
-abbrev pub fields_coded : Coded Fields
+fields_coded : Coded Fields
 fields_coded = hlevel codes
 
 mutual

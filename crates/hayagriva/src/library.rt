@@ -5,6 +5,8 @@ ghost use Rattle.haya_entry.specs.Tree.{view};
 ghost use Rattle.hayagriva.specs.Library.{key_of, found, pushed, all_pushed, removed, AreDistinct};
 
 mod iter;
+#[cfg(test)]
+mod tests;
 
 use haya_entry::Entry;
 use haya_text::OutOfMemory;

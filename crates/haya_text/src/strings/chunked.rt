@@ -1,7 +1,7 @@
 ghost use Rattle.std.specs.Prelude.{◌≡◌, ◌↔◌, ◌++◌, List, [], ◌∷◌, All, length, min, sum_by, string_bytes, IfOk, IsOk, IsTrue, OnOk, OnErr};
 ghost use Rattle.std.specs.Char.{encode_utf8};
 ghost use Rattle.std.specs.Str.{chars};
-ghost use Rattle.haya_text.specs.Chunks.{Chunk, chunk_view, chunks, characters, marked, ends_in, grown, pushed};
+ghost use Rattle.haya_text.specs.Chunks.{Chunk, chunk_view, chunks, characters, marked, plain_text, ends_in, grown, pushed};
 
 use crate::{ChunkKind, OutOfMemory, StringChunk, TryClone};
 use std::alloc::Global;
@@ -21,7 +21,7 @@ impl ChunkedString {
 
     /// One chunk of plain text. Nothing in it is read as a sign.
     pub fn from_string(alloc: Global, value: String) -> Result<ChunkedString, OutOfMemory>
-        ensures { IfOk result (λ text. chunks text ≡ (string_bytes value, ChunkKind.Normal) ∷ []) }
+        ensures { IfOk result (λ text. chunks text ≡ plain_text (string_bytes value)) }
     {
         ChunkedString::from_chunk(alloc, StringChunk::normal(value))
     }

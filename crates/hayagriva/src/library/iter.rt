@@ -122,7 +122,7 @@ impl Iterator for IntoEntries {
     ghost remaining = { item_count (λ s. s) };
 
     fn next(&mut self) -> Option<Entry> {
-        let (_, entry) = self.rest.next()?;
+        let (_key, entry) = self.rest.next()?;
         Some(entry)
     }
 }

@@ -1,5 +1,4 @@
-use Rattle.std.proofs.Common.{◌≡◌, ◌-◌, ◌<◌, ℕ, length, arith, sym, ◌∙◌, ap, suc}
-use Rattle.haya_text.specs.Chunks.{ends_in, chunk_view}
+use Rattle.std.proofs.Common.{◌<◌, length, arith, sym, ◌∙◌}
 use Rattle.haya_text.proofs.Pushes.{ends_in-last}
 use Rattle.haya_text.proofs.strings.chunked.ChunkedString.ends_in.Goals as goal
 

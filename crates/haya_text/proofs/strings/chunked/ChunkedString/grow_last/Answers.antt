@@ -1,10 +1,8 @@
-use Rattle.std.proofs.Common.{◌≡◌, ◌-◌, ◌<◌, ℕ, length, arith, sym, ◌∙◌, suc, ap}
+use Rattle.std.proofs.Common.{◌<◌, length, arith, ◌∙◌, ap}
 use Rattle.std.proofs.Math.Seq.{map-set_same}
 use Rattle.std.proofs.lemmas.Result.{err_from_is_err_and}
-use Rattle.std.specs.Vec.{vec_len}
 use Rattle.haya_text.proofs.Pushes.{set_last_grown}
 use Rattle.haya_text.specs.Chunks.{chunk_view}
-use Rattle.haya_text.specs.declared.strings.chunk.StringChunk.{StringChunk}
 use Rattle.haya_text.proofs.strings.chunked.ChunkedString.grow_last.Goals as goal
 
 pub returns-in_err-push_str-clause-err : goal.returns-in_err-push_str-clause-err

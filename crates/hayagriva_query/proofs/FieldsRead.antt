@@ -1,0 +1,44 @@
+-- A loop that sets the fields of items in turn.
+use Rattle.std.proofs.Common.{◌≡◌, ℕ, ◌+◌, ◌<◌, List, [], ◌∷◌, Result, Ok, Err, length, map, drop, get_or, refl, sym, ap, ◌∙◌, subst}
+use Rattle.std.proofs.lemmas.List.{drop_more}
+use Rattle.std.specs.Prelude.{IsOkAnd}
+use Rattle.hayagriva.specs.Tree.{Tree, Fields, node, fields, with_fields}
+use Rattle.hayagriva_query.specs.declared.fault.LineFault.{LineFault}
+use Rattle.hayagriva_query.specs.Input.{and_then, field_read, fields_read}
+
+-- the entry has the fields f in the place of its own
+abbrev pub Has : Tree → Fields → Tree → Type 0
+Has old f new = new ≡ with_fields (λ _. f) old
+
+-- what all items make of the first entry is what the rest make of the entry so far, and the parents stay
+pub record Left (first : Tree) (all : List (List ℕ)) (now : Tree) (rest : List (List ℕ)) : Type 0 where
+  pub read : fields_read (fields first) all ≡ fields_read (fields now) rest
+  pub parents : Has first (fields now) now
+
+fields-set : (f : Fields) (t : Tree) → fields (with_fields (λ _. f) t) ≡ f
+fields-set f (node g ps) = refl
+
+set-set : (f g : Fields) (t : Tree) → with_fields (λ _. f) (with_fields (λ _. g) t) ≡ with_fields (λ _. f) t
+set-set f g (node h ps) = refl
+
+pub Left-start : (first : Tree) (all : List (List ℕ)) → Left first all first all
+Left-start (node f ps) all = record { read = refl; parents = refl }
+
+Left-next : (first : Tree) (all : List (List ℕ)) (now : Tree) (item : List ℕ) (rest : List (List ℕ)) (next : Tree)
+    → Left first all now (item ∷ rest) → IsOkAnd (field_read (fields now) item) (λ f. Has now f next) → Left first all next rest
+Left-next first all now item rest next left set = by (field_read (fields now) item) refl set
+  where
+    by : (r : Result Fields LineFault) → field_read (fields now) item ≡ r → IsOkAnd r (λ f. Has now f next) → Left first all next rest
+    by (Err e) is h = absurd h
+    by (Ok f) is h =
+        let kept : fields next ≡ f = ap fields h ∙ fields-set f now in
+        record {
+          read = left.read ∙ ap (λ r. and_then r (λ g. fields_read g rest)) is ∙ ap (λ g. fields_read g rest) (sym kept);
+          parents = h ∙ ap (with_fields (λ _. f)) left.parents ∙ set-set f (fields now) first ∙ ap (λ g. with_fields (λ _. g) first) (sym kept);
+        }
+
+pub Left-more : {X : Type 0} (text : X → List ℕ) (xs : List X) (i : ℕ) (d : X) (first : Tree) (all : List (List ℕ)) (now next : Tree)
+    → i < length xs → Left first all now (map text (drop i xs)) → IsOkAnd (field_read (fields now) (text (get_or xs i d))) (λ f. Has now f next)
+    → Left first all next (map text (drop (i + 1) xs))
+Left-more text xs i d first all now next within left set =
+    Left-next first all now (text (get_or xs i d)) (map text (drop (i + 1) xs)) next (subst (Left first all now) (ap (map text) (drop_more xs i d within)) left) set

@@ -1,0 +1,8 @@
+use Rattle.std.proofs.Common.{map, drop}
+use Rattle.hayagriva.specs.Tree.{view}
+use Rattle.hayagriva_query.proofs.FieldsRead.{Left}
+use Rattle.hayagriva_query.proofs.line.read_fields.Given as goal
+
+abbrev pub invariant-items : goal.invariant-items
+invariant-items l =
+    Left (view l.fn.entry) (map (λ t. t.now) l.fn.items) (view l.entry) (map (λ t. t.now) (drop l.item-index l.fn.items))

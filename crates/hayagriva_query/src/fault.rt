@@ -1,0 +1,135 @@
+//! Why the program ends with another status than 0.
+ghost use Rattle.std.specs.Prelude.{◌≡◌, ◌↔◌};
+ghost use Rattle.hayagriva_query.specs.declared.fault.Fault.TheVariants.{Usage};
+
+use hayagriva::{OutOfMemory, SelectorError};
+use std::alloc::{AllocError, AllocFailed};
+use thiserror::Error;
+
+/// What is wrong with a line of the input.
+#[derive(Clone, Copy, Debug, PartialEq, Eq, Error)]
+pub enum LineFault {
+    /// Fewer than three items, or a field without `=`.
+    #[error("shape")]
+    Shape,
+    /// No depth of 0 to 500, or one that is no place for an entry.
+    #[error("depth")]
+    Depth,
+    /// The name of no type.
+    #[error("type")]
+    UnknownType,
+    /// The name of no field.
+    #[error("field")]
+    UnknownField,
+    /// A field's value that its reader refuses. The fields there are take every text.
+    #[error("value")]
+    RefusedValue,
+    /// Memory was refused, which says nothing of the line.
+    #[error("out of memory")]
+    OutOfMemory,
+}
+
+/// Why the program prints no hits, or not all of them.
+#[derive(Debug, Drop, PartialEq, Eq, Error)]
+pub enum Fault {
+    /// There isn't exactly one argument, or one isn't UTF-8.
+    #[error("usage: hayagriva_query SELECTOR")]
+    Usage,
+    /// The input's end can't be reached.
+    #[error("cannot read")]
+    CannotRead,
+    /// The input isn't UTF-8.
+    #[error("not text")]
+    NotText,
+    /// The line with this number, from 1 on, is the first with a fault.
+    #[error("line {0}: {1}")]
+    Line(u64, LineFault),
+    /// The argument is no selector.
+    #[error("{0}")]
+    Selector(SelectorError),
+    /// A line can't be printed.
+    #[error("cannot write")]
+    CannotWrite,
+    /// Memory was refused.
+    #[error("out of memory")]
+    OutOfMemory,
+}
+
+impl Fault {
+    /// The status that the process is to end with: 2 where the arguments are wrong, else 1.
+    pub fn status(&self) -> u8
+        ensures usage { (result ≡ 2) ↔ (self.now ≡ Usage) }
+    {
+        match self {
+            Fault::Usage => 2,
+            _ => 1,
+        }
+    }
+
+    /// The fault of the line with this number. Want of memory is none of the line's.
+    pub fn of_line(number: u64, fault: LineFault) -> Fault {
+        match fault {
+            LineFault::OutOfMemory => Fault::OutOfMemory,
+            _ => Fault::Line(number, fault),
+        }
+    }
+}
+
+impl From<SelectorError> for Fault {
+    fn from(error: SelectorError) -> Fault {
+        match error {
+            SelectorError::OutOfMemory => Fault::OutOfMemory,
+            _ => Fault::Selector(error),
+        }
+    }
+}
+
+impl From<OutOfMemory> for Fault {
+    ghost use Rattle.hayagriva_query.specs.declared.fault.Fault.TheVariants.{OutOfMemory};
+
+    ghost from_gives = { λ _ e. e ≡ OutOfMemory };
+
+    fn from(_error: OutOfMemory) -> Fault {
+        Fault::OutOfMemory
+    }
+}
+
+impl From<AllocError> for Fault {
+    ghost use Rattle.hayagriva_query.specs.declared.fault.Fault.TheVariants.{OutOfMemory};
+
+    ghost from_gives = { λ _ e. e ≡ OutOfMemory };
+
+    fn from(_error: AllocError) -> Fault {
+        Fault::OutOfMemory
+    }
+}
+
+impl<T: Drop> From<AllocFailed<T>> for Fault {
+    ghost use Rattle.hayagriva_query.specs.declared.fault.Fault.TheVariants.{OutOfMemory};
+
+    ghost from_gives = { λ _ e. e ≡ OutOfMemory };
+
+    fn from(_error: AllocFailed<T>) -> Fault {
+        Fault::OutOfMemory
+    }
+}
+
+impl From<OutOfMemory> for LineFault {
+    ghost use Rattle.hayagriva_query.specs.declared.fault.LineFault.TheVariants.{OutOfMemory};
+
+    ghost from_gives = { λ _ e. e ≡ OutOfMemory };
+
+    fn from(_error: OutOfMemory) -> LineFault {
+        LineFault::OutOfMemory
+    }
+}
+
+impl From<AllocError> for LineFault {
+    ghost use Rattle.hayagriva_query.specs.declared.fault.LineFault.TheVariants.{OutOfMemory};
+
+    ghost from_gives = { λ _ e. e ≡ OutOfMemory };
+
+    fn from(_error: AllocError) -> LineFault {
+        LineFault::OutOfMemory
+    }
+}

@@ -1,0 +1,105 @@
+//! One line of the input: a depth, a key, a type, and fields `name=value`, with a tab between two.
+ghost use Rattle.std.specs.Prelude.{◌≡◌, ◌⊎◌, None, Err, map, IfOk, IfErr, IsOkAnd, IsSomeAnd, OnOk};
+ghost use Rattle.std.specs.Char.{is_ascii_digit};
+ghost use Rattle.std.specs.List.{list_all};
+ghost use Rattle.hayagriva.specs.Tree.{view, fields, with_fields};
+ghost use Rattle.hayagriva_query.specs.declared.fault.LineFault.TheVariants.{OutOfMemory, UnknownField};
+ghost use Rattle.hayagriva_query.specs.Input.{items, leaf, depth_read, field_set, field_read, fields_read, row_read};
+
+use crate::fault::LineFault;
+use hayagriva::Entry;
+use hayagriva::types::EntryType;
+use std::alloc::{AllocError, Global};
+
+const MAX_DEPTH: usize = 500;
+
+/// The entry of a line, without its parents, and its depth, where that is at most `deepest`.
+pub fn read_line(alloc: Global, line: &str, deepest: usize) -> Result<(usize, Entry), LineFault>
+    ensures row { IfOk result (λ r. IsOkAnd (row_read deepest (items line.now)) (λ row. (r.0 ≡ row.depth) × (view r.1 ≡ leaf row.fields))) }
+    ensures fault { IfErr result (λ e. (e ≡ OutOfMemory) ⊎ (row_read deepest (items line.now) ≡ Err e)) }
+{
+    let items = items_of(alloc, line)?;
+    read_items(alloc, items.as_slice(), deepest)
+}
+
+// What stands between the tabs.
+fn items_of<'a>(alloc: Global, line: &'a str) -> Result<Vec<&'a str>, AllocError>
+    ensures { IfOk result (λ parts. map (λ t. t.now) parts.items ≡ items line.now) }
+{
+    line.split('\t').collect(alloc)
+}
+
+fn read_items(alloc: Global, items: &[&str], deepest: usize) -> Result<(usize, Entry), LineFault>
+    ensures row { IfOk result (λ r. IsOkAnd (row_read deepest (map (λ t. t.now) items.now)) (λ row. (r.0 ≡ row.depth) × (view r.1 ≡ leaf row.fields))) }
+    ensures fault { IfErr result (λ e. (e ≡ OutOfMemory) ⊎ (row_read deepest (map (λ t. t.now) items.now) ≡ Err e)) }
+{
+    let [depth, key, kind, more @ ..] = items else {
+        return Err(LineFault::Shape);
+    };
+    let Some(depth) = depth_of(depth, deepest) else {
+        return Err(LineFault::Depth);
+    };
+    let Ok(kind) = kind.parse::<EntryType>() else {
+        return Err(LineFault::UnknownType);
+    };
+    let mut entry = Entry::new(alloc, key, kind)?;
+    read_fields(alloc, &mut entry, more)?;
+    Ok((depth, entry))
+}
+
+// Sets the field of each item in turn.
+fn read_fields(alloc: Global, entry: &mut Entry, items: &[&str]) -> Result<(), LineFault>
+    ensures ok { OnOk result (IsOkAnd (fields_read (fields (view entry.old)) (map (λ t. t.now) items.now)) (λ f. view entry.new ≡ with_fields (λ _. f) (view entry.old))) }
+    ensures fault { IfErr result (λ e. (e ≡ OutOfMemory) ⊎ (fields_read (fields (view entry.old)) (map (λ t. t.now) items.now) ≡ Err e)) }
+{
+    'items: for item in items {
+        read_field(alloc, entry, item)?;
+    }
+    Ok(())
+}
+
+fn read_field(alloc: Global, entry: &mut Entry, item: &str) -> Result<(), LineFault>
+    ensures ok { OnOk result (IsOkAnd (field_read (fields (view entry.old)) item.now) (λ f. view entry.new ≡ with_fields (λ _. f) (view entry.old))) }
+    ensures fault { IfErr result (λ e. (e ≡ OutOfMemory) ⊎ (field_read (fields (view entry.old)) item.now ≡ Err e)) }
+{
+    match item.split_once('=') {
+        Some((name, value)) => set_field(alloc, entry, name, value),
+        None => Err(LineFault::Shape),
+    }
+}
+
+// One to three digits, for a depth of at most 500 that is no deeper than this.
+fn depth_of(item: &str, deepest: usize) -> Option<usize>
+    ensures { result ≡ depth_read deepest item.now }
+{
+    if item.len() > 3 || !is_all_digits(item) {
+        return None;
+    }
+    let depth = item.parse::<usize>().ok()?;
+    (depth <= MAX_DEPTH && depth <= deepest).then_some(depth)
+}
+
+fn is_all_digits(item: &str) -> bool
+    ensures { result ≡ list_all is_ascii_digit item.now }
+{
+    item.bytes().all(|b| b.is_ascii_digit())
+}
+
+// Sets the field with this name, in the place of what was there.
+fn set_field(alloc: Global, entry: &mut Entry, name: &str, value: &str) -> Result<(), LineFault>
+    ensures ok { OnOk result (IsSomeAnd (field_set name.now value.now (fields (view entry.old))) (λ f. view entry.new ≡ with_fields (λ _. f) (view entry.old))) }
+    ensures fault { IfErr result (λ e. (e ≡ OutOfMemory) ⊎ ((e ≡ UnknownField) × (field_set name.now value.now (fields (view entry.old)) ≡ None))) }
+{
+    match name {
+        "language" => entry.set_language(String::from_str(alloc, value)?),
+        "serial-number" => entry.set_keyed_serial_number(
+            "serial",
+            String::from_str(alloc, value)?,
+        )?,
+        "doi" | "isbn" | "issn" | "pmid" | "pmcid" | "arxiv" => {
+            entry.set_keyed_serial_number(name, String::from_str(alloc, value)?)?;
+        }
+        _ => return Err(LineFault::UnknownField),
+    }
+    Ok(())
+}

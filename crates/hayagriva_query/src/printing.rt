@@ -1,0 +1,34 @@
+//! Prints hits, a line each.
+use crate::fault::Fault;
+use hayagriva::Hit;
+use std::alloc::Global;
+use std::io::Write;
+
+/// Prints each hit's line. A line is handed on whole, so that nothing of a later one stands before it.
+pub fn print_hits<W: Write>(alloc: Global, hits: &[Hit], out: &mut W) -> Result<(), Fault> {
+    for hit in hits {
+        let line = line_of(alloc, hit)?;
+        if out.write_all(line.as_bytes()).is_err() {
+            return Err(Fault::CannotWrite);
+        }
+    }
+    match out.flush() {
+        Ok(()) => Ok(()),
+        Err(_) => Err(Fault::CannotWrite),
+    }
+}
+
+// The entry's key, then a tab and `name=key` for each binding, in byte order of the names, and a line feed.
+fn line_of(alloc: Global, hit: &Hit) -> Result<String, Fault> {
+    let mut line = String::from_str(alloc, hit.entry.key())?;
+    let mut bindings = hit.bindings.iter().collect::<Vec<_>>(alloc)?;
+    bindings.sort_unstable_by(|a, b| a.0.cmp(b.0));
+    for (name, bound) in bindings {
+        line.push('\t')?;
+        line.push_str(name.as_str())?;
+        line.push('=')?;
+        line.push_str(bound.key())?;
+    }
+    line.push('\n')?;
+    Ok(line)
+}

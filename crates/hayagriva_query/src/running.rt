@@ -1,0 +1,61 @@
+//! The whole program, but for where its words, its input and its output come from.
+ghost use Rattle.std.specs.Prelude.{◌≡◌, ◌≢◌, ◌↔◌, length, IsErrOf};
+ghost use Rattle.hayagriva_query.specs.declared.fault.Fault.TheVariants.{Usage};
+ghost use Rattle.std.specs.Io.KnownBytes.{Keeps};
+
+use crate::fault::Fault;
+use crate::library_text::read_library;
+use crate::printing::print_hits;
+use crate::reading::read_all;
+use hayagriva::Steps;
+use std::alloc::Global;
+use std::io::{Read, Write};
+
+/// Runs the program and answers the status that the process is to end with. `words` are the arguments
+/// without the program's own name. A fault is one line on `err`.
+pub fn run<R: Read, W: Write, E: Write>(
+    alloc: Global,
+    words: &[String],
+    input: &mut R,
+    out: &mut W,
+    err: &mut E,
+) -> u8
+    ensures usage { length words.now ≢ 1 → result ≡ 2 }
+    ensures silent { length words.now ≢ 1 → Keeps (W.contents out.old) (W.contents out.new) }
+    ensures unread { length words.now ≢ 1 → Keeps (R.remaining input.old) (R.remaining input.new) }
+{
+    match answer(alloc, words, input, out) {
+        Ok(()) => 0,
+        Err(fault) => {
+            // Where this fails, the status says it all.
+            let _ = writeln!(err, "{fault}");
+            let _ = err.flush();
+            fault.status()
+        }
+    }
+}
+
+fn answer<R: Read, W: Write>(
+    alloc: Global,
+    words: &[String],
+    input: &mut R,
+    out: &mut W,
+) -> Result<(), Fault>
+    ensures usage { length words.now ≢ 1 → IsErrOf result Usage }
+    ensures silent { length words.now ≢ 1 → Keeps (W.contents out.old) (W.contents out.new) }
+    ensures unread { length words.now ≢ 1 → Keeps (R.remaining input.old) (R.remaining input.new) }
+{
+    let [selector] = words else {
+        return Err(Fault::Usage);
+    };
+    let bytes = read_all(alloc, input)?;
+    let Ok(text) = str::from_utf8(bytes.as_slice()) else {
+        return Err(Fault::NotText);
+    };
+    let library = read_library(alloc, text)?;
+    let hits = library.query(alloc, selector.as_str(), &mut Steps::new())?;
+    print_hits(alloc, hits.as_slice(), out)
+}
+
+#[cfg(test)]
+mod tests;
