@@ -3,3 +3,4 @@ pub mod Places
 pub mod Holds
 pub mod Binds
 pub mod Calls
+pub mod Evaluation
