@@ -1,11 +1,12 @@
 -- No more calls than forms times entries.
-use Rattle.std.proofs.Common.{◌≡◌, ℕ, suc, ◌+◌, ◌*◌, ◌<◌, ◌≤◌, Bool, true, false, cond, List, [], ◌∷◌, ◌++◌, Option, Some, None, Result, Ok, Err, length, drop, refl, sym, ap, ◌∙◌, arith}
-use Rattle.std.specs.Prelude.{filter, is_some, position, slice_get, sum_by}
-use Rattle.std.specs.List.{position_or_len, range_with_len}
+use Rattle.std.proofs.Common.{◌≡◌, ℕ, ◌+◌, ◌*◌, ◌≤◌, Bool, true, false, cond, List, [], ◌∷◌, ◌++◌, Some, None, Result, Ok, Err, refl, sym, ap, arith}
+use Rattle.std.specs.Prelude.{filter, is_some, sum_by}
+use Rattle.std.specs.List.{position_or_len}
 use Rattle.std.specs.Option.{option_map_or}
 use Rattle.std.proofs.lemmas.List.Sums.{sum_by-cons, sum_by-take-le}
 use Rattle.haya_entry.specs.Tree.{Tree, Trees, node, no_trees, one_more, trees, listed, parents, size, sizes}
-use Rattle.hayagriva.specs.Calls.{Ticks, calls, first_calls, calls_on, first_calls_on, free_calls, greedy_calls}
+use Rattle.hayagriva.specs.Calls.{calls, first_calls, calls_on, first_calls_on, free_calls, greedy_calls}
+use Rattle.hayagriva.specs.Evaluation.{Ticks}
 use Rattle.hayagriva.specs.Holds.{holds, candidates, is_type, least_free}
 use Rattle.hayagriva.specs.Places.{places, free_places, at_place, up_to}
 use Rattle.hayagriva.proofs.FreePlaces.{sum_by-places}

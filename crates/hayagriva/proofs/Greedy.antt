@@ -1,10 +1,11 @@
 -- What the members of `&` take, one after another.
-use Rattle.std.proofs.Common.{◌≡◌, ℕ, ◌+◌, ◌≤◌, List, [], ◌∷◌, ◌++◌, Option, Some, None, length, take, map, refl, sym, ap, ◌∙◌, append_assoc, arith}
+use Rattle.std.proofs.Common.{◌≡◌, ℕ, ◌+◌, ◌≤◌, List, [], ◌∷◌, ◌++◌, Option, Some, None, length, take, refl, sym, ap, ◌∙◌, append_assoc, arith}
 use Rattle.std.specs.Prelude.{option_and_then, option_map}
 use Rattle.std.specs.Option.{option_map_or}
 use Rattle.std.proofs.lemmas.List.{map-append, length-take, take-append-le}
 use Rattle.haya_entry.specs.Tree.{Tree, at_list}
-use Rattle.hayagriva.specs.Binds.{Pairs, led, binds, each_binds, resolved}
+use Rattle.hayagriva.specs.Binds.{Pairs, led, binds, each_binds}
+use Rattle.hayagriva.specs.Evaluation.{resolved}
 use Rattle.hayagriva.specs.Calls.{calls, free_calls, greedy_calls}
 use Rattle.hayagriva.specs.Holds.{holds, greedy, least_free}
 use Rattle.hayagriva.specs.Syntax.{Syntax, Syntaxes, none, more}

@@ -6,7 +6,8 @@ use Rattle.std.proofs.lemmas.List.{reverse-append}
 use mathlib.Core.List.{reverse_aux}
 use Rattle.haya_entry.specs.declared.entry.Entry.{Entry}
 use Rattle.haya_entry.specs.Tree.{Tree, view, at}
-use Rattle.hayagriva.specs.Binds.{Found, binds, bound_to, last_of, resolved, shown}
+use Rattle.hayagriva.specs.Binds.{binds, bound_to, last_of}
+use Rattle.hayagriva.specs.Evaluation.{Found, resolved, shown}
 use Rattle.hayagriva.specs.Syntax.{Syntax}
 
 reverse_aux-map : {X Y : Type 0} (h : X → Y) (xs ys : List X) → reverse_aux (map h xs) (map h ys) ≡ map h (reverse_aux xs ys)

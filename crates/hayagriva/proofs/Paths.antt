@@ -1,7 +1,6 @@
 -- Where the paths of bindings lead, and that candidates are places of the list.
-use Rattle.std.proofs.Common.{◌≡◌, ℕ, ◌+◌, ◌<◌, ◌≤◌, Bool, true, false, cond, List, [], ◌∷◌, ◌++◌, length, get_or, map, refl, sym, ap, ◌∙◌, subst, append_assoc, arith, Option, Some, None}
+use Rattle.std.proofs.Common.{◌≡◌, ℕ, ◌<◌, Bool, true, false, cond, List, [], ◌∷◌, ◌++◌, length, map, refl, sym, ap, ◌∙◌, subst, append_assoc, arith, Option, Some, None}
 use Rattle.std.specs.Prelude.{⊤, All, IfSome, filter, find, option_and_then, option_map, is_some, position, slice_get}
-use Rattle.std.specs.List.{range_with_len}
 use Rattle.std.specs.Option.{option_map_or, option_or}
 use Rattle.std.proofs.lemmas.List.{length-map, map-append}
 use Rattle.std.proofs.lemmas.List.Elements.{All-nil, All-cons, All-head, All-tail, All-append, All-filter, All-map, All-weaker}
@@ -10,7 +9,8 @@ use Rattle.std.proofs.lemmas.List.Quantifiers.{position-Some}
 use Rattle.haya_entry.specs.declared.entry.Entry.{Entry}
 use Rattle.haya_entry.specs.Names.{has_all}
 use Rattle.haya_entry.specs.Tree.{Tree, view, parents, at, at_list}
-use Rattle.hayagriva.specs.Binds.{Pairs, led, first_bound, binds, binds_on, first_binds_on, each_binds, resolved}
+use Rattle.hayagriva.specs.Binds.{Pairs, first_led, led, first_bound, binds, binds_on, first_binds_on, each_binds}
+use Rattle.hayagriva.specs.Evaluation.{resolved}
 use Rattle.hayagriva.specs.Holds.{holds, is_type, candidates, first_candidates, first_alone, greedy, kept, least_free, some_places}
 use Rattle.hayagriva.specs.Places.{places, free_places, at_place}
 use Rattle.hayagriva.specs.Syntax.{Syntax, Any, OfType, Not, Named, With, Either, Together, Under, Syntaxes, none, more}
@@ -145,12 +145,15 @@ candidates_places s ps is e =
     All-weaker (λ i. i < length (map view ps)) (λ i. i < length ps) (λ i h. omega (arith, length-map ps view)) is (subst (λ o. IfSome o (In (map view ps))) (sym e) (candidates_in s (map view ps)))
 
 -- where an entry binds nothing, nothing is bound at its place
-pub led_nothing : (xs : List Tree) (o : Option ℕ) → option_map_or (led (λ _. []) xs) o [] ≡ []
-led_nothing xs None = refl
-led_nothing xs (Some i) = ap (map (λ p. (p.0, i ∷ p.1))) (nothing (slice_get xs i)) where
+pub led_nothing : (test : Tree → Bool) (xs : List Tree) → first_led test (λ _. []) xs ≡ []
+led_nothing test xs = each (position test xs) where
   nothing : (o : Option Tree) → option_map_or {T = Tree} {U = Pairs} (λ _. []) o [] ≡ []
   nothing None = refl
   nothing (Some x) = refl
+
+  each : (o : Option ℕ) → option_map_or (led (λ _. []) xs) o [] ≡ []
+  each None = refl
+  each (Some i) = ap (map (λ p. (p.0, i ∷ p.1))) (nothing (slice_get xs i))
 
 -- bindings that are added one after another
 pub bound_under : (l r : Syntax) (x : Tree) (xs : List Tree) (olds mids news : List (List ℕ × Option Tree)) → xs ≡ parents x

@@ -1,9 +1,8 @@
 -- What the names of a selector are bound to where it holds: pairs of a name and the path of an entry.
-use Rattle.std.specs.Prelude.{ℕ, if◌then◌else◌, List, [], ◌∷◌, ◌++◌, Option, None, Some, is_some, option_and_then, option_map, map, find, position, reverse}
+use Rattle.std.specs.Prelude.{Bool, ℕ, if◌then◌else◌, List, [], ◌∷◌, ◌++◌, Option, None, Some, is_some, option_and_then, option_map, map, find, position, reverse}
 use Rattle.std.specs.Option.{option_map_or}
 use Rattle.std.specs.Str.{bytes_eq}
-use Rattle.haya_entry.specs.declared.entry.Entry.{Entry}
-use Rattle.haya_entry.specs.Tree.{Tree, view, parents, at}
+use Rattle.haya_entry.specs.Tree.{Tree, parents, at}
 use Rattle.hayagriva.specs.Holds.{holds, candidates}
 use Rattle.hayagriva.specs.Places.{at_place}
 use Rattle.hayagriva.specs.Syntax.{Syntax, Any, OfType, Not, Named, With, Either, Together, Under, Syntaxes, none, more}
@@ -15,6 +14,10 @@ Pairs = List (List ℕ × List ℕ)
 -- the pairs of the entry at a place of the list, each path led by that place
 abbrev pub led : (Tree → Pairs) → List Tree → ℕ → Pairs
 led pairs xs i = map (λ p. (p.0, i ∷ p.1)) (at_place [] pairs xs i)
+
+-- those of the first entry where the test holds
+abbrev pub first_led : (Tree → Bool) → (Tree → Pairs) → List Tree → Pairs
+first_led test pairs xs = option_map_or (led pairs xs) (position test xs) []
 
 -- the name with the first candidate, if there is one
 abbrev pub first_bound : List ℕ → Option (List ℕ) → Pairs
@@ -48,8 +51,7 @@ abbrev mutual
   binds_on (With s names) xs = binds_on s xs
   binds_on (Either ss) xs = first_binds_on ss xs
   binds_on (Together ss) xs = option_map_or (each_binds ss xs) (candidates (Together ss) xs) []
-  binds_on (Under l r) xs =
-      option_map_or (led (λ x. binds l x ++ binds_on r (parents x)) xs) (position (holds (Under l r)) xs) []
+  binds_on (Under l r) xs = first_led (holds (Under l r)) (λ x. binds l x ++ binds_on r (parents x)) xs
 
   pub first_binds_on : Syntaxes → List Tree → Pairs
   first_binds_on none xs = []
@@ -72,15 +74,3 @@ bound_to s x q = option_and_then (at x) (last_of q (binds s x))
 -- the same, and no entry where the selector doesn't hold
 abbrev pub found_bound : Syntax → Tree → List ℕ → Option Tree
 found_bound s x q = if holds s x then bound_to s x q else None
-
--- names with the entries that they were bound to, as the evaluator collects them
-abbrev pub Found : Type 0
-Found = List (List ℕ × Entry)
-
--- the same with entries by value
-abbrev pub shown : Found → List (List ℕ × Option Tree)
-shown found = map (λ p. (p.0, Some (view p.1))) found
-
--- pairs with the entry at each path
-abbrev pub resolved : (List ℕ → Option Tree) → Pairs → List (List ℕ × Option Tree)
-resolved entry_at pairs = map (λ p. (p.0, entry_at p.1)) pairs

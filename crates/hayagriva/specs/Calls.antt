@@ -1,5 +1,5 @@
 -- How often the evaluator is entered for a selector: once a form at each entry, or list of parents, that it is asked of.
-use Rattle.std.specs.Prelude.{◌≡◌, ◌≤◌, Result, MatchResult, ℕ, ◌+◌, Bool, ◌++◌, if◌then◌else◌, List, [], ◌∷◌, is_some, false, sum_by}
+use Rattle.std.specs.Prelude.{ℕ, ◌+◌, Bool, ◌++◌, if◌then◌else◌, List, [], ◌∷◌, is_some, false, sum_by}
 use Rattle.std.specs.Option.{option_map_or}
 use Rattle.haya_entry.specs.Tree.{Tree, parents}
 use Rattle.hayagriva.specs.Holds.{is_type, holds, candidates, least_free}
@@ -49,7 +49,3 @@ abbrev mutual
   greedy_calls none xs taken = 0
   greedy_calls (more s ss) xs taken =
       free_calls (holds s) (calls s) xs taken + option_map_or (λ i. greedy_calls ss xs (taken ++ i ∷ [])) (least_free (holds s) xs taken) 0
-
--- a call that ends well has ticked n times, one that was refused at most n times
-abbrev pub Ticks : {T E : Type 0} → Result T E → ℕ → ℕ → ℕ → Type 0
-Ticks result old new n = MatchResult result (λ _. new ≡ old + n) (λ _. new ≤ old + n)

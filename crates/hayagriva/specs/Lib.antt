@@ -21,3 +21,4 @@ pub use Rattle.haya_entry.specs.SerialNumber
 pub use Rattle.haya_entry.specs.Tree
 pub use Rattle.haya_entry.specs.Names
 pub use Rattle.haya_text.specs.Texts
+pub mod Evaluation

@@ -2,8 +2,9 @@ ghost use Rattle.std.specs.Prelude.{◌≡◌, ◌<◌, ◌≤◌, ℕ, All, Lis
 ghost use Rattle.std.specs.Coded.{codes};
 ghost use Rattle.std.specs.HashMap.{get_by_text};
 ghost use Rattle.haya_entry.specs.contracts.entry.Entry as the_entry;
-ghost use Rattle.haya_entry.specs.Tree.{view, at_list};
-ghost use Rattle.hayagriva.specs.Binds.{Found, first_bound, last_of, resolved, shown};
+ghost use Rattle.haya_entry.specs.Tree.{view};
+ghost use Rattle.hayagriva.specs.Binds.{first_bound, last_of};
+ghost use Rattle.hayagriva.specs.Evaluation.{AddsOn, Found, shown};
 
 use haya_entry::Entry;
 use haya_text::OutOfMemory;
@@ -59,7 +60,7 @@ impl<'s, 'e> Bindings<'s, 'e> {
     ) -> Result<(), OutOfMemory>
         requires { All (λ i. i < length parents.now) places.now }
         ensures { OnOk result
-            (shown self.new ≡ shown self.old ++ resolved (at_list (map view parents.now)) (first_bound name.now (Some places.now))) }
+            (AddsOn (map view parents.now) self.old self.new (first_bound name.now (Some places.now))) }
     {
         if let Some(first) = places.first() {
             self.bind(name, &parents[*first])?;

@@ -1,10 +1,11 @@
 //! The evaluator: one function at an entry, one on a list of parents, and what they share.
-ghost use Rattle.std.specs.Prelude.{◌≡◌, ◌++◌, [], IfOk, if◌then◌else◌, is_some, map, option_map, position, sum_by};
+ghost use Rattle.std.specs.Prelude.{◌≡◌, [], IfOk, if◌then◌else◌, is_some, map, option_map, sum_by};
 ghost use Rattle.std.specs.Option.{option_map_or};
-ghost use Rattle.haya_entry.specs.Tree.{view, at, at_list};
-ghost use Rattle.hayagriva.specs.Binds.{binds, binds_on, each_binds, first_binds, first_binds_on, led, shown, resolved};
-ghost use Rattle.hayagriva.specs.Calls.{Ticks, calls, calls_on, first_calls, first_calls_on, free_calls, greedy_calls};
-ghost use Rattle.hayagriva.specs.Holds.{holds, some_holds, candidates, first_alone as alone, first_candidates, greedy, least_free};
+ghost use Rattle.haya_entry.specs.Tree.{view};
+ghost use Rattle.hayagriva.specs.Binds.{binds, binds_on, each_binds, first_binds, first_binds_on, first_led, led};
+ghost use Rattle.hayagriva.specs.Calls.{calls, calls_on, first_calls, first_calls_on, free_calls, greedy_calls};
+ghost use Rattle.hayagriva.specs.Evaluation.{AddsAt, AddsOn, Ticks};
+ghost use Rattle.hayagriva.specs.Holds.{holds, some_holds, candidates, first_candidates, first_alone as alone, greedy, least_free};
 ghost use Rattle.hayagriva.specs.Places.{up_to};
 ghost use Rattle.hayagriva.specs.Syntax.{syntax, syntaxes};
 
@@ -25,9 +26,10 @@ pub fn holds_at<'s, 'e>(
     steps: &mut Steps,
 ) -> Result<bool, OutOfMemory>
     ensures answer { IfOk result (λ b. b ≡ holds (syntax selector.now) (view entry.now)) }
-    ensures bound { IfOk result
-        (λ b. shown found.new ≡ shown found.old ++ (if b then resolved (at (view entry.now)) (binds (syntax selector.now) (view entry.now)) else [])) }
-    ensures ticks { Ticks result steps.old steps.new (calls (syntax selector.now) (view entry.now)) }
+    ensures bound { IfOk result (λ b. AddsAt (view entry.now) found.old found.new
+        (if b then binds (syntax selector.now) (view entry.now) else [])) }
+    ensures ticks { Ticks result steps.old steps.new
+        (calls (syntax selector.now) (view entry.now)) }
 {
     steps.tick();
     match selector {
@@ -76,10 +78,12 @@ fn any_holds<'s, 'e>(
     found: &mut Bindings<'s, 'e>,
     steps: &mut Steps,
 ) -> Result<bool, OutOfMemory>
-    ensures answer { IfOk result (λ b. b ≡ some_holds (syntaxes (map syntax members.now)) (view entry.now)) }
-    ensures bound { IfOk result
-        (λ b. shown found.new ≡ shown found.old ++ (if b then resolved (at (view entry.now)) (first_binds (syntaxes (map syntax members.now)) (view entry.now)) else [])) }
-    ensures ticks { Ticks result steps.old steps.new (first_calls (syntaxes (map syntax members.now)) (view entry.now)) }
+    ensures answer { IfOk result
+        (λ b. b ≡ some_holds (syntaxes (map syntax members.now)) (view entry.now)) }
+    ensures bound { IfOk result (λ b. AddsAt (view entry.now) found.old found.new
+        (if b then first_binds (syntaxes (map syntax members.now)) (view entry.now) else [])) }
+    ensures ticks { Ticks result steps.old steps.new
+        (first_calls (syntaxes (map syntax members.now)) (view entry.now)) }
 {
     for member in members {
         if holds_at(member, alloc, entry, found, steps)? {
@@ -99,10 +103,12 @@ fn candidates_on<'s, 'e>(
     found: &mut Bindings<'s, 'e>,
     steps: &mut Steps,
 ) -> Result<Option<Vec<usize>>, OutOfMemory>
-    ensures answer { IfOk result (λ o. option_map (λ v. v.items) o ≡ candidates (syntax selector.now) (map view parents.now)) }
-    ensures bound { IfOk result
-        (λ o. shown found.new ≡ shown found.old ++ (if is_some o then resolved (at_list (map view parents.now)) (binds_on (syntax selector.now) (map view parents.now)) else [])) }
-    ensures ticks { Ticks result steps.old steps.new (calls_on (syntax selector.now) (map view parents.now)) }
+    ensures answer { IfOk result
+        (λ o. option_map (λ v. v.items) o ≡ candidates (syntax selector.now) (map view parents.now)) }
+    ensures bound { IfOk result (λ o. AddsOn (map view parents.now) found.old found.new
+        (if is_some o then binds_on (syntax selector.now) (map view parents.now) else [])) }
+    ensures ticks { Ticks result steps.old steps.new
+        (calls_on (syntax selector.now) (map view parents.now)) }
 {
     steps.tick();
     match selector {
@@ -153,10 +159,12 @@ fn first_candidates_on<'s, 'e>(
     found: &mut Bindings<'s, 'e>,
     steps: &mut Steps,
 ) -> Result<Option<Vec<usize>>, OutOfMemory>
-    ensures answer { IfOk result (λ o. option_map (λ v. v.items) o ≡ first_candidates (syntaxes (map syntax members.now)) (map view parents.now)) }
-    ensures bound { IfOk result
-        (λ o. shown found.new ≡ shown found.old ++ (if is_some o then resolved (at_list (map view parents.now)) (first_binds_on (syntaxes (map syntax members.now)) (map view parents.now)) else [])) }
-    ensures ticks { Ticks result steps.old steps.new (first_calls_on (syntaxes (map syntax members.now)) (map view parents.now)) }
+    ensures answer { IfOk result
+        (λ o. option_map (λ v. v.items) o ≡ first_candidates (syntaxes (map syntax members.now)) (map view parents.now)) }
+    ensures bound { IfOk result (λ o. AddsOn (map view parents.now) found.old found.new
+        (if is_some o then first_binds_on (syntaxes (map syntax members.now)) (map view parents.now) else [])) }
+    ensures ticks { Ticks result steps.old steps.new
+        (first_calls_on (syntaxes (map syntax members.now)) (map view parents.now)) }
 {
     for member in members {
         let places = candidates_on(member, alloc, parents, found, steps)?;
@@ -177,10 +185,12 @@ fn each_takes_one<'s, 'e>(
     found: &mut Bindings<'s, 'e>,
     steps: &mut Steps,
 ) -> Result<Option<Vec<usize>>, OutOfMemory>
-    ensures answer { IfOk result (λ o. option_map (λ v. v.items) o ≡ greedy (syntaxes (map syntax members.now)) (map view parents.now) []) }
-    ensures bound { IfOk result
-        (λ o. shown found.new ≡ shown found.old ++ resolved (at_list (map view parents.now)) (option_map_or (λ v. each_binds (syntaxes (map syntax members.now)) (map view parents.now) v.items) o [])) }
-    ensures ticks { Ticks result steps.old steps.new (greedy_calls (syntaxes (map syntax members.now)) (map view parents.now) []) }
+    ensures answer { IfOk result
+        (λ o. option_map (λ v. v.items) o ≡ greedy (syntaxes (map syntax members.now)) (map view parents.now) []) }
+    ensures bound { IfOk result (λ o. AddsOn (map view parents.now) found.old found.new
+        (option_map_or (λ v. each_binds (syntaxes (map syntax members.now)) (map view parents.now) v.items) o [])) }
+    ensures ticks { Ticks result steps.old steps.new
+        (greedy_calls (syntaxes (map syntax members.now)) (map view parents.now) []) }
 {
     let mark = found.len();
     let mut taken = Vec::new(alloc);
@@ -207,10 +217,12 @@ fn first_alone<'s, 'e>(
     found: &mut Bindings<'s, 'e>,
     steps: &mut Steps,
 ) -> Result<Option<Vec<usize>>, OutOfMemory>
-    ensures answer { IfOk result (λ o. option_map (λ v. v.items) o ≡ alone (holds (syntax selector.now)) (map view parents.now)) }
-    ensures bound { IfOk result
-        (λ o. shown found.new ≡ shown found.old ++ (if is_some o then resolved (at_list (map view parents.now)) (option_map_or (led (binds (syntax selector.now)) (map view parents.now)) (position (holds (syntax selector.now)) (map view parents.now)) []) else [])) }
-    ensures ticks { Ticks result steps.old steps.new (sum_by (calls (syntax selector.now)) (up_to (holds (syntax selector.now)) (map view parents.now))) }
+    ensures answer { IfOk result
+        (λ o. option_map (λ v. v.items) o ≡ alone (holds (syntax selector.now)) (map view parents.now)) }
+    ensures bound { IfOk result (λ o. AddsOn (map view parents.now) found.old found.new
+        (if is_some o then first_led (holds (syntax selector.now)) (binds (syntax selector.now)) (map view parents.now) else [])) }
+    ensures ticks { Ticks result steps.old steps.new
+        (sum_by (calls (syntax selector.now)) (up_to (holds (syntax selector.now)) (map view parents.now))) }
 {
     match first_free(selector, alloc, parents, &[], found, steps)? {
         Some(place) => Ok(Some(vec![in alloc; place]?)),
@@ -229,10 +241,12 @@ fn first_free<'s, 'e>(
     found: &mut Bindings<'s, 'e>,
     steps: &mut Steps,
 ) -> Result<Option<usize>, OutOfMemory>
-    ensures answer { IfOk result (λ o. o ≡ least_free (holds (syntax selector.now)) (map view parents.now) taken.now) }
-    ensures bound { IfOk result
-        (λ o. shown found.new ≡ shown found.old ++ resolved (at_list (map view parents.now)) (option_map_or (led (binds (syntax selector.now)) (map view parents.now)) o [])) }
-    ensures ticks { Ticks result steps.old steps.new (free_calls (holds (syntax selector.now)) (calls (syntax selector.now)) (map view parents.now) taken.now) }
+    ensures answer { IfOk result
+        (λ o. o ≡ least_free (holds (syntax selector.now)) (map view parents.now) taken.now) }
+    ensures bound { IfOk result (λ o. AddsOn (map view parents.now) found.old found.new
+        (option_map_or (led (binds (syntax selector.now)) (map view parents.now)) o [])) }
+    ensures ticks { Ticks result steps.old steps.new
+        (free_calls (holds (syntax selector.now)) (calls (syntax selector.now)) (map view parents.now) taken.now) }
 {
     for (place, parent) in parents.iter().enumerate() {
         if is_taken(taken, place) {

@@ -1,18 +1,19 @@
-use Rattle.std.proofs.Common.{rules, ◌≡◌, ◌≤◌, ℕ, ◌+◌, ◌++◌, true, None, Some, [], drop, length, map, append-nil, append_assoc, arith, inl, inr, sym, ap, ◌∙◌, refl}
-use Rattle.std.specs.Prelude.{is_some, position, string_bytes, sum_by}
+use Rattle.std.proofs.Common.{rules, ◌≡◌, ◌+◌, true, None, Some, [], drop, map, append-nil, append_assoc, arith, inl, inr, sym, ap, ◌∙◌}
+use Rattle.std.specs.Prelude.{is_some, string_bytes, sum_by}
 use Rattle.std.proofs.Math.ListN.{drop_of_length-le}
 use Rattle.std.proofs.lemmas.Grind.{common_steps}
 use Rattle.std.proofs.lemmas.List.{map-append}
 use Rattle.std.proofs.lemmas.Result.{MatchResult-from_err}
 use Rattle.haya_entry.specs.Tree.{view}
-use Rattle.hayagriva.specs.Binds.{binds, shown}
+use Rattle.hayagriva.specs.Binds.{binds}
+use Rattle.hayagriva.specs.Evaluation.{shown}
 use Rattle.hayagriva.specs.Calls.{calls}
 use Rattle.hayagriva.specs.Holds.{holds, is_type, greedy, least_free}
 use Rattle.hayagriva.specs.Places.{up_to}
 use Rattle.hayagriva.specs.Syntax.{Syntax, OfType, Under, syntax, syntaxes}
 use Rattle.hayagriva.proofs.Bounds.{ticks_more}
 use Rattle.hayagriva.proofs.FreePlaces.{walked, passed, place_is, met_any, met_yes, met_no}
-use Rattle.hayagriva.proofs.Greedy.{bound_next, kept_next, calls_part, calls_some, calls_none, taken_some, binds_some, each-greedy}
+use Rattle.hayagriva.proofs.Greedy.{bound_next, kept_next, calls_part, calls_some, calls_none, taken_some, each-greedy}
 use Rattle.hayagriva.proofs.Paths.{bound_named, bound_under, candidates_places, led_nothing, resolved_led}
 use Rattle.hayagriva.proofs.Syntaxes.{left_more, syntax-entry, syntax-binding, syntax-ancestrage}
 use Rattle.hayagriva.proofs.selectors.evaluate.+evaluate.Goals as goal
@@ -153,7 +154,7 @@ pub candidates_on-returns-in-Entry-clause-bound : goal.candidates_on-returns-in-
 candidates_on-returns-in-Entry-clause-bound t c =
     let xs = map view c.args.parents.now in
     elim c.in-Entry.is [
-      | inl w ↦ let e = ap syntax w.1 ∙ syntax-entry w.0 in rw e (rw (e, led_nothing xs (position (is_type w.0) xs)) at c.first_alone.ensures.bound)
+      inl w ↦ let e = ap syntax w.1 ∙ syntax-entry w.0 in rw e (rw (e, led_nothing (is_type w.0) xs) at c.first_alone.ensures.bound)
       | inr w ↦ let e = ap syntax w.2 ∙ syntax-ancestrage w.0 w.1 in rw e (rw e at c.first_alone.ensures.bound)
     ]
 

@@ -1,7 +1,8 @@
 use Rattle.std.proofs.Common.{◌≡◌, ◌+◌, ◌++◌, [], drop, false, length, map, take}
 use Rattle.std.specs.Prelude.{find, sum_by}
 use Rattle.haya_entry.specs.Tree.{view, at_list}
-use Rattle.hayagriva.specs.Binds.{first_binds, first_binds_on, resolved, shown}
+use Rattle.hayagriva.specs.Binds.{first_binds, first_binds_on}
+use Rattle.hayagriva.specs.Evaluation.{resolved, shown}
 use Rattle.hayagriva.specs.Calls.{calls, first_calls, first_calls_on, free_calls, greedy_calls}
 use Rattle.hayagriva.specs.Holds.{holds, some_holds, first_candidates, greedy, least_free}
 use Rattle.hayagriva.specs.Places.{at_place, up_to}

@@ -1,12 +1,12 @@
-use Rattle.std.proofs.Common.{rules, ◌≡◌, ◌∙◌, List, ℕ, Option, None, Some, Bor, sym, ap, arith, map}
+use Rattle.std.proofs.Common.{rules, ◌≡◌, List, ℕ, Option, Bor, map}
 use Rattle.std.specs.Prelude.{find, option_map, reverse}
 use Rattle.std.specs.Str.{bytes_eq}
-use Rattle.std.proofs.lemmas.Grind.{common_steps}
 use Rattle.std.proofs.lemmas.Iterator.Adapters.{YieldsList-from_rev_slice}
 use Rattle.std.proofs.lemmas.Iterator.Search.{find_from_yields_List}
 use borrow.Author.Tests.{tests}
 use Rattle.haya_entry.specs.declared.entry.Entry.{Entry}
-use Rattle.hayagriva.specs.Binds.{Found, last_of}
+use Rattle.hayagriva.specs.Binds.{last_of}
+use Rattle.hayagriva.specs.Evaluation.{Found}
 use Rattle.hayagriva.proofs.Lasts.{last_of-map, option_map-map}
 use Rattle.hayagriva.proofs.selectors.bindings.Bindings.last.Goals as goal
 

@@ -1,6 +1,5 @@
 use Rattle.std.proofs.Common.{◌≡◌, ◌+◌, ◌++◌, ◌<◌, ◌∷◌, [], ℕ, List, Bor, cond, get_or, length, ap, sym, ◌∙◌, arith, rules, Some, map, take}
-use Rattle.std.specs.Prelude.{option_map, string_bytes}
-use Rattle.std.specs.HashMap.{get_by_text}
+use Rattle.std.specs.Prelude.{string_bytes}
 use Rattle.std.specs.Str.{bytes_eq}
 use Rattle.std.proofs.lemmas.List.{take_more, take-map, map-append}
 use Rattle.std.proofs.lemmas.Map.Text.{hash_map_updates_text}
