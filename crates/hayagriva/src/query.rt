@@ -65,3 +65,6 @@ impl Library {
         Ok(hits)
     }
 }
+
+#[cfg(test)]
+mod tests;

@@ -80,3 +80,6 @@ impl Selector {
         }
     }
 }
+
+#[cfg(test)]
+mod tests;

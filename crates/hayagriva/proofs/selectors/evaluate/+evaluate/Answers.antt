@@ -154,7 +154,7 @@ pub candidates_on-returns-in-Entry-clause-bound : goal.candidates_on-returns-in-
 candidates_on-returns-in-Entry-clause-bound t c =
     let xs = map view c.args.parents.now in
     elim c.in-Entry.is [
-      inl w ↦ let e = ap syntax w.1 ∙ syntax-entry w.0 in rw e (rw (e, led_nothing (is_type w.0) xs) at c.first_alone.ensures.bound)
+      | inl w ↦ let e = ap syntax w.1 ∙ syntax-entry w.0 in rw e (rw (e, led_nothing (is_type w.0) xs) at c.first_alone.ensures.bound)
       | inr w ↦ let e = ap syntax w.2 ∙ syntax-ancestrage w.0 w.1 in rw e (rw e at c.first_alone.ensures.bound)
     ]
 
