@@ -4,23 +4,25 @@ use haya_entry::{Entry, EntryType, Steps};
 use std::alloc::Global;
 use std::test::Fail;
 
-// A parent: its key, its type, and whether it has a language.
-type Parent = (&'static str, EntryType, bool);
+#[derive(Clone, Copy)]
+enum Work {
+    Article,
+    Blog,
+    Book,
+    BookInEnglish,
+    Periodical,
+    WebInEnglish,
+}
 
-const BLOG: Parent = ("blog", EntryType::Blog, false);
-
-const WEB: Parent = ("web", EntryType::Web, true);
-
-const ARTICLE: Parent = ("article", EntryType::Article, false);
-
-const BOOK: Parent = ("book", EntryType::Book, false);
-
-const DATED: Parent = ("dated", EntryType::Book, true);
-
-const PERIODICAL: Parent = ("periodical", EntryType::Periodical, false);
-
-fn made(alloc: Global, parent: Parent) -> Result<Entry, Fail> {
-    let (key, kind, has_language) = parent;
+fn made(alloc: Global, work: Work) -> Result<Entry, Fail> {
+    let (key, kind, has_language) = match work {
+        Work::Article => ("article", EntryType::Article, false),
+        Work::Blog => ("blog", EntryType::Blog, false),
+        Work::Book => ("book", EntryType::Book, false),
+        Work::BookInEnglish => ("book", EntryType::Book, true),
+        Work::Periodical => ("periodical", EntryType::Periodical, false),
+        Work::WebInEnglish => ("web", EntryType::Web, true),
+    };
     let mut entry = Entry::new(alloc, key, kind)?;
     if has_language {
         entry.set_language(String::from_str(alloc, "en")?);
@@ -28,7 +30,7 @@ fn made(alloc: Global, parent: Parent) -> Result<Entry, Fail> {
     Ok(entry)
 }
 
-fn above(alloc: Global, entry: Parent, parents: &[Parent]) -> Result<Entry, Fail> {
+fn above(alloc: Global, entry: Work, parents: &[Work]) -> Result<Entry, Fail> {
     let mut list = Vec::new(alloc);
     for parent in parents {
         list.push(made(alloc, *parent)?)?;
@@ -38,68 +40,94 @@ fn above(alloc: Global, entry: Parent, parents: &[Parent]) -> Result<Entry, Fail
     Ok(entry)
 }
 
-// Each row: a selector, an entry, its parents, and whether the selector holds there, with the entry
-// that the name `a` is bound to.
+// `no` where the selector doesn't hold, else `yes`, or the key of the entry that `a` is bound to.
+fn answer(alloc: Global, text: &str, entry: Work, parents: &[Work]) -> Result<String, Fail> {
+    let selector = Selector::parse(alloc, text)?;
+    let entry = above(alloc, entry, parents)?;
+    let Some(map) = selector.apply(alloc, &entry)? else {
+        return Ok(String::from_str(alloc, "no")?);
+    };
+    match map.get("a") {
+        Some(bound) => Ok(String::from_str(alloc, bound.key())?),
+        None => Ok(String::from_str(alloc, "yes")?),
+    }
+}
+
+// The same by `matches`, `bound` and `bound_select`; `unlike` where the last two differ.
+fn asked_apart(alloc: Global, text: &str, entry: Work, parents: &[Work]) -> Result<String, Fail> {
+    let selector = Selector::parse(alloc, text)?;
+    let entry = above(alloc, entry, parents)?;
+    let holds = selector.matches(alloc, &entry)?;
+    let selected = entry.bound_select(alloc, &selector, "a")?.is_some();
+    match selector.bound(alloc, &entry, "a")? {
+        Some(bound) if holds && selected => Ok(String::from_str(alloc, bound.key())?),
+        None if holds && !selected => Ok(String::from_str(alloc, "yes")?),
+        None if !selected => Ok(String::from_str(alloc, "no")?),
+        _ => Ok(String::from_str(alloc, "unlike")?),
+    }
+}
+
+// Each row: a selector, an entry, its parents, and the answer.
 #[test]
 fn holds_and_binds(rt: HostRuntime) -> Result<(), Fail> {
-    let alloc = rt.alloc();
-    let rows: [(&str, Parent, &[Parent], Option<Option<&str>>); 16] = [
+    let rows: [(&str, Work, &[Work], &str); 16] = [
         (
             "* > a:*[language]",
-            ARTICLE,
-            &[BLOG, WEB],
-            Some(Some("web")),
+            Work::Article,
+            &[Work::Blog, Work::WebInEnglish],
+            "web",
         ),
-        ("* > book[language]", ARTICLE, &[BOOK, DATED], None),
-        ("!book[language]", WEB, &[], Some(None)),
-        ("!book[language]", ARTICLE, &[], None),
-        ("!book[language]", DATED, &[], None),
-        ("* > !blog", ARTICLE, &[], Some(None)),
-        ("* > !blog", ARTICLE, &[WEB, BLOG], None),
-        ("a:* > a:*", ARTICLE, &[WEB], Some(Some("web"))),
-        ("a:* > a:*", ARTICLE, &[], None),
-        ("* > (* & article)", ARTICLE, &[ARTICLE, BOOK], None),
+        (
+            "* > book[language]",
+            Work::Article,
+            &[Work::Book, Work::BookInEnglish],
+            "no",
+        ),
+        ("!book[language]", Work::WebInEnglish, &[], "yes"),
+        ("!book[language]", Work::Article, &[], "no"),
+        ("!book[language]", Work::BookInEnglish, &[], "no"),
+        ("* > !blog", Work::Article, &[], "yes"),
+        (
+            "* > !blog",
+            Work::Article,
+            &[Work::WebInEnglish, Work::Blog],
+            "no",
+        ),
+        ("a:* > a:*", Work::Article, &[Work::WebInEnglish], "web"),
+        ("a:* > a:*", Work::Article, &[], "no"),
+        (
+            "* > (* & article)",
+            Work::Article,
+            &[Work::Article, Work::Book],
+            "no",
+        ),
         (
             "* > (article & a:*)",
-            ARTICLE,
-            &[ARTICLE, BOOK],
-            Some(Some("book")),
+            Work::Article,
+            &[Work::Article, Work::Book],
+            "book",
         ),
         (
             "article > periodical > web",
-            ARTICLE,
-            &[PERIODICAL, WEB],
-            Some(None),
+            Work::Article,
+            &[Work::Periodical, Work::WebInEnglish],
+            "yes",
         ),
         (
             "article > (blog | a:web)",
-            ARTICLE,
-            &[WEB],
-            Some(Some("web")),
+            Work::Article,
+            &[Work::WebInEnglish],
+            "web",
         ),
-        ("article | blog", WEB, &[], None),
-        ("article & article", ARTICLE, &[], None),
-        ("a:article[language]", ARTICLE, &[], None),
+        ("article | blog", Work::WebInEnglish, &[], "no"),
+        ("article & article", Work::Article, &[], "no"),
+        ("a:article[language]", Work::Article, &[], "no"),
     ];
     for (text, entry, parents, wanted) in rows {
-        let selector = Selector::parse(alloc, text)?;
-        let entry = above(alloc, entry, parents)?;
-        let map = selector.apply(alloc, &entry)?;
-        let bound = map
-            .as_ref()
-            .map(|map| map.get("a").map(|bound| bound.key()));
-        assert_eq!(rt; bound, wanted, "{text}");
-        assert_eq!(rt;
-            selector.matches(alloc, &entry)?,
-            wanted.is_some(),
-            "{text}"
-        );
-        let alone = selector.bound(alloc, &entry, "a")?.map(|bound| bound.key());
-        assert_eq!(rt; alone, wanted.unwrap_or(None), "{text}");
-        let selected = entry
-            .bound_select(alloc, &selector, "a")?
-            .map(|bound| bound.key());
-        assert_eq!(rt; selected, alone, "{text}");
+        let whole = answer(rt.alloc(), text, entry, parents)?;
+        assert_eq!(rt; whole.as_str(), wanted, "{text}");
+        let apart = asked_apart(rt.alloc(), text, entry, parents)?;
+        assert_eq!(rt; apart.as_str(), wanted, "{text}");
     }
     Ok(())
 }
@@ -109,8 +137,8 @@ fn holds_and_binds(rt: HostRuntime) -> Result<(), Fail> {
 fn asks_direct_parents_alone(rt: HostRuntime) -> Result<(), Fail> {
     let alloc = rt.alloc();
     let mut list = Vec::new(alloc);
-    list.push(above(alloc, PERIODICAL, &[WEB])?)?;
-    let mut entry = made(alloc, ARTICLE)?;
+    list.push(above(alloc, Work::Periodical, &[Work::WebInEnglish])?)?;
+    let mut entry = made(alloc, Work::Article)?;
     entry.set_parents(list);
     let selector = Selector::parse(alloc, "article > periodical > web")?;
     assert!(rt; !selector.matches(alloc, &entry)?);
@@ -123,7 +151,7 @@ fn asks_direct_parents_alone(rt: HostRuntime) -> Result<(), Fail> {
 #[test]
 fn lists_without_members(rt: HostRuntime) -> Result<(), Fail> {
     let alloc = rt.alloc();
-    let entry = made(alloc, ARTICLE)?;
+    let entry = made(alloc, Work::Article)?;
     let over = |inner: Selector| -> Result<Selector, Fail> {
         Ok(Selector::Ancestrage(
             Box::new(alloc, Selector::Wildcard)?,
@@ -139,7 +167,7 @@ fn lists_without_members(rt: HostRuntime) -> Result<(), Fail> {
 #[test]
 fn counts_calls(rt: HostRuntime) -> Result<(), Fail> {
     let alloc = rt.alloc();
-    let entry = above(alloc, ARTICLE, &[BLOG, WEB])?;
+    let entry = above(alloc, Work::Article, &[Work::Blog, Work::WebInEnglish])?;
     let mut steps = Steps::new();
     let selector = Selector::parse(alloc, "* > a:*[language]")?;
     assert!(rt; selector.apply_counted(alloc, &entry, &mut steps)?.is_some());
