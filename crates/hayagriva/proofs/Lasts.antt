@@ -1,6 +1,6 @@
 -- The last pair of a name, in lists that are mapped or grow.
 use Rattle.std.proofs.Common.{Bor, ◌≡◌, ℕ, Bool, true, false, cond, List, [], ◌∷◌, ◌++◌, Option, Some, None, map, refl, sym, ap, ◌∙◌}
-use Rattle.std.specs.Prelude.{find, option_and_then, option_map, reverse}
+use Rattle.std.specs.Prelude.{find, is_some, option_and_then, option_map, reverse}
 use Rattle.std.specs.Str.{bytes_eq}
 use Rattle.std.proofs.lemmas.List.{reverse-append}
 use mathlib.Core.List.{reverse_aux}
@@ -51,11 +51,24 @@ joined-map : {X Y : Type 0} (h : X → Option Y) (o : Option X) → option_and_t
 joined-map h None = refl
 joined-map h (Some x) = refl
 
+both : (s : Syntax) (x : Tree) (found : Found) (q : List ℕ) → shown found ≡ resolved (at x) (binds s x)
+    → option_map (λ e. Some (view e)) (last_of q found) ≡ option_map (at x) (last_of q (binds s x))
+both s x found q h = sym (last_of-second q (λ e. Some (view e)) found) ∙ ap (last_of q) h ∙ last_of-second q (at x) (binds s x)
+
 -- the last of what was found at an entry is what the name is bound to there
 pub last_is_bound : (s : Syntax) (x : Tree) (found : Found) (q : List ℕ) (o : Option (Bor Entry)) → shown found ≡ resolved (at x) (binds s x) → option_map (λ e. e.now) o ≡ last_of q found
     → option_map (λ e. view e.now) o ≡ bound_to s x q
 last_is_bound s x found q o h e =
-    let both : option_map (λ e. Some (view e)) (last_of q found) ≡ option_map (at x) (last_of q (binds s x)) =
-        sym (last_of-second q (λ e. Some (view e)) found) ∙ ap (last_of q) h ∙ last_of-second q (at x) (binds s x) in
     sym (option_map-map view (λ e. e.now) o) ∙ ap (option_map view) e
-    ∙ sym (joined view (last_of q found)) ∙ ap (option_and_then (λ p. p)) both ∙ joined-map (at x) (last_of q (binds s x))
+    ∙ sym (joined view (last_of q found)) ∙ ap (option_and_then (λ p. p)) (both s x found q h) ∙ joined-map (at x) (last_of q (binds s x))
+
+is_some-map : {X Y : Type 0} (h : X → Y) (o : Option X) → is_some (option_map h o) ≡ is_some o
+is_some-map h None = refl
+is_some-map h (Some x) = refl
+
+-- a name is found where it is bound
+pub found_is_named : (s : Syntax) (x : Tree) (found : Found) (q : List ℕ) (o : Option (Bor Entry)) → shown found ≡ resolved (at x) (binds s x) → option_map (λ e. e.now) o ≡ last_of q found
+    → is_some o ≡ is_some (last_of q (binds s x))
+found_is_named s x found q o h e =
+    sym (is_some-map (λ e. e.now) o) ∙ ap is_some e
+    ∙ sym (is_some-map (λ e. Some (view e)) (last_of q found)) ∙ ap is_some (both s x found q h) ∙ is_some-map (at x) (last_of q (binds s x))

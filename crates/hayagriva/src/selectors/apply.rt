@@ -1,9 +1,9 @@
 ghost use Rattle.std.specs.Prelude.{◌≡◌, ◌+◌, ◌*◌, ◌≤◌, ℕ, List, IfOk, IfSome, is_some, option_map};
 ghost use Rattle.std.specs.HashMap.{get_by_text};
 ghost use Rattle.haya_entry.specs.Tree.{view, size};
-ghost use Rattle.hayagriva.specs.Binds.{bound_to, found_bound};
+ghost use Rattle.hayagriva.specs.Binds.{binds, bound_to, found_bound, last_of};
 ghost use Rattle.hayagriva.specs.Calls.{calls};
-ghost use Rattle.hayagriva.specs.Holds.{holds as holds_for};
+ghost use Rattle.hayagriva.specs.Holds.{holds};
 ghost use Rattle.hayagriva.specs.Syntax.{syntax, nodes};
 
 use super::bindings::Bindings;
@@ -23,9 +23,11 @@ impl Selector {
         alloc: Global,
         entry: &'e Entry,
     ) -> Result<Option<HashMap<String, &'e Entry>>, OutOfMemory>
-        ensures holds { IfOk result (λ o. is_some o ≡ holds_for (syntax self.now) (view entry.now)) }
-        ensures bound { IfOk result
-            (λ o. IfSome o (λ m. (q : List ℕ) → option_map (λ e. view e.now) (get_by_text m q) ≡ bound_to (syntax self.now) (view entry.now) q)) }
+        ensures answer { IfOk result (λ o. is_some o ≡ holds (syntax self.now) (view entry.now)) }
+        ensures names { IfOk result (λ o. IfSome o (λ m. (q : List ℕ) →
+            is_some (get_by_text m q) ≡ is_some (last_of q (binds (syntax self.now) (view entry.now))))) }
+        ensures bound { IfOk result (λ o. IfSome o (λ m. (q : List ℕ) →
+            option_map (λ e. view e.now) (get_by_text m q) ≡ bound_to (syntax self.now) (view entry.now) q)) }
     {
         self.apply_counted(alloc, entry, &mut Steps::new())
     }
@@ -40,9 +42,11 @@ impl Selector {
         entry: &'e Entry,
         steps: &mut Steps,
     ) -> Result<Option<HashMap<String, &'e Entry>>, OutOfMemory>
-        ensures holds { IfOk result (λ o. is_some o ≡ holds_for (syntax self.now) (view entry.now)) }
-        ensures bound { IfOk result
-            (λ o. IfSome o (λ m. (q : List ℕ) → option_map (λ e. view e.now) (get_by_text m q) ≡ bound_to (syntax self.now) (view entry.now) q)) }
+        ensures answer { IfOk result (λ o. is_some o ≡ holds (syntax self.now) (view entry.now)) }
+        ensures names { IfOk result (λ o. IfSome o (λ m. (q : List ℕ) →
+            is_some (get_by_text m q) ≡ is_some (last_of q (binds (syntax self.now) (view entry.now))))) }
+        ensures bound { IfOk result (λ o. IfSome o (λ m. (q : List ℕ) →
+            option_map (λ e. view e.now) (get_by_text m q) ≡ bound_to (syntax self.now) (view entry.now) q)) }
         ensures ticks { IfOk result (λ _. steps.new ≡ steps.old + calls (syntax self.now) (view entry.now)) }
         ensures most { steps.new ≤ steps.old + nodes (syntax self.now) * size (view entry.now) }
     {
@@ -56,10 +60,10 @@ impl Selector {
 
     /// Whether the selector holds at an entry. Refused with `OutOfMemory` alone.
     pub fn matches(&self, alloc: Global, entry: &Entry) -> Result<bool, OutOfMemory>
-        ensures { IfOk result (λ b. b ≡ holds_for (syntax self.now) (view entry.now)) }
+        ensures { IfOk result (λ b. b ≡ holds (syntax self.now) (view entry.now)) }
     {
-        let mut found = Bindings::new(alloc);
-        holds_at(self, alloc, entry, &mut found, &mut Steps::new())
+        let mut unused = Bindings::new(alloc);
+        holds_at(self, alloc, entry, &mut unused, &mut Steps::new())
     }
 
     /// The entry that a name was bound to last at an entry. `None` where the selector doesn't hold
@@ -80,3 +84,6 @@ impl Selector {
         }
     }
 }
+
+#[cfg(test)]
+mod tests;

@@ -5,7 +5,7 @@ ghost use Rattle.haya_entry.specs.Tree.{view};
 ghost use Rattle.hayagriva.specs.Binds.{binds, binds_on, each_binds, first_binds, first_binds_on, first_led, led};
 ghost use Rattle.hayagriva.specs.Calls.{calls, calls_on, first_calls, first_calls_on, free_calls, greedy_calls};
 ghost use Rattle.hayagriva.specs.Evaluation.{AddsAt, AddsOn, Ticks};
-ghost use Rattle.hayagriva.specs.Holds.{holds, some_holds, candidates, first_candidates, first_alone as alone, greedy, least_free};
+ghost use Rattle.hayagriva.specs.Holds.{holds, some_holds, candidates, first_candidates, first_alone, greedy, least_free};
 ghost use Rattle.hayagriva.specs.Places.{up_to};
 ghost use Rattle.hayagriva.specs.Syntax.{syntax, syntaxes};
 
@@ -218,7 +218,7 @@ fn first_alone<'s, 'e>(
     steps: &mut Steps,
 ) -> Result<Option<Vec<usize>>, OutOfMemory>
     ensures answer { IfOk result
-        (λ o. option_map (λ v. v.items) o ≡ alone (holds (syntax selector.now)) (map view parents.now)) }
+        (λ o. option_map (λ v. v.items) o ≡ first_alone (holds (syntax selector.now)) (map view parents.now)) }
     ensures bound { IfOk result (λ o. AddsOn (map view parents.now) found.old found.new
         (if is_some o then first_led (holds (syntax selector.now)) (binds (syntax selector.now)) (map view parents.now) else [])) }
     ensures ticks { Ticks result steps.old steps.new

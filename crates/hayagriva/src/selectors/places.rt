@@ -1,6 +1,6 @@
 ghost use Rattle.std.specs.Prelude.{◌≡◌, ◌==◌, ℕ, false, IfOk, map, option_map, string_bytes};
 ghost use Rattle.std.specs.List.{list_any};
-ghost use Rattle.haya_entry.specs.Names.{has_all as all_had};
+ghost use Rattle.haya_entry.specs.Names.{has_all};
 ghost use Rattle.haya_entry.specs.Tree.{view};
 ghost use Rattle.hayagriva.specs.Holds.{some_places, kept};
 ghost use Rattle.hayagriva.specs.Places.{places, at_place};
@@ -11,7 +11,7 @@ use std::alloc::Global;
 
 /// Whether the entry has every name.
 pub fn has_all(entry: &Entry, names: &[String]) -> bool
-    ensures { result ≡ all_had (map string_bytes names.now) (view entry.now) }
+    ensures { result ≡ has_all (map string_bytes names.now) (view entry.now) }
 {
     names.iter().all(|name| entry.has(name.as_str()))
 }
@@ -45,7 +45,7 @@ pub fn kept_places(names: &[String], parents: &[Entry], candidates: Vec<usize>) 
 
 // Whether there is a parent at the place, with every name.
 fn has_all_at(names: &[String], parents: &[Entry], place: usize) -> bool
-    ensures { result ≡ at_place false (all_had (map string_bytes names.now)) (map view parents.now) place }
+    ensures { result ≡ at_place false (has_all (map string_bytes names.now)) (map view parents.now) place }
 {
     match parents.get(place) {
         Some(parent) => has_all(parent, names),
