@@ -1,9 +1,9 @@
 pub mod Syntaxes
-pub mod Cuts
-pub mod OneCut
-pub mod Parsing
-pub mod Runs
-pub mod Totals
-pub mod OneOutcome
-pub mod Again
+mod Cuts
+mod OneCut
+mod Parsing
+mod Runs
+mod Totals
+mod OneOutcome
+mod Again
 mod ReadingRows

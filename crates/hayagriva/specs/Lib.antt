@@ -4,5 +4,6 @@ pub mod Token
 pub mod Cut
 pub mod Grammar
 pub mod Reading
+pub mod Parser
 pub mod ReadingLaws
 pub mod Spelled
