@@ -1,3 +1,5 @@
 mod Depths
 mod FieldsRead
 mod Rows
+mod Chains
+mod Progress

@@ -1,6 +1,6 @@
 //! Why the program ends with another status than 0.
-ghost use Rattle.std.specs.Prelude.{◌≡◌, ◌↔◌};
-ghost use Rattle.hayagriva_query.specs.declared.fault.Fault.TheVariants.{Usage};
+ghost use Rattle.std.specs.Prelude.{◌≡◌, ◌≢◌, ◌↔◌};
+ghost use Rattle.hayagriva_query.specs.declared.fault.Fault.TheVariants.{Usage, Line};
 
 use hayagriva::{OutOfMemory, SelectorError};
 use std::alloc::{AllocError, AllocFailed};
@@ -43,7 +43,7 @@ pub enum Fault {
     NotText,
     /// The line with this number, from 1 on, is the first with a fault.
     #[error("line {0}: {1}")]
-    Line(u64, LineFault),
+    Line(usize, LineFault),
     /// The argument is no selector.
     #[error("{0}")]
     Selector(SelectorError),
@@ -67,7 +67,10 @@ impl Fault {
     }
 
     /// The fault of the line with this number. Want of memory is none of the line's.
-    pub fn of_line(number: u64, fault: LineFault) -> Fault {
+    pub fn of_line(number: usize, fault: LineFault) -> Fault
+        ensures memory { fault ≡ LineFault.OutOfMemory → result ≡ Fault.OutOfMemory }
+        ensures line { fault ≢ LineFault.OutOfMemory → result ≡ Line number fault }
+    {
         match fault {
             LineFault::OutOfMemory => Fault::OutOfMemory,
             _ => Fault::Line(number, fault),
