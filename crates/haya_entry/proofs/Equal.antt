@@ -10,13 +10,16 @@ use Rattle.haya_entry.specs.declared.types.EntryType.{EntryType}
 use Rattle.haya_entry.specs.contracts.types.EntryType as entry_type
 use Rattle.haya_entry.specs.contracts.entry.EntryPartialEq.TheImpl as entry
 use Rattle.haya_entry.specs.contracts.entry.EntryPartialEq.TheImpl.Laws as entry_laws
-use Rattle.haya_entry.specs.contracts.entry.SerialNumberPartialEq.TheImpl as serial
-use Rattle.haya_entry.specs.Serials.{Serials, serial_entry, serial_view}
+use Rattle.haya_entry.specs.contracts.types.SerialNumberPartialEq.TheImpl as serial
+use Rattle.haya_text.specs.Texts.{TextView}
+use Rattle.haya_text.specs.contracts.strings.format.FormatStringPartialEq.TheImpl as text
+use Rattle.haya_entry.specs.SerialNumber.{Serials, serial_entry, serial_view}
 use Rattle.haya_entry.specs.Tree.{Tree, Trees, node, trees, listed, fields_of, view, size, sizes}
 use Rattle.haya_entry.proofs.Trees.{listed-trees, view_is}
 use Rattle.haya_text.proofs.Tells.{Same, Tells, Same-both, Same-along, and-both, both-and, lists-tell, options-tell, strings-tell}
+use Rattle.haya_text.proofs.Equal.{texts-tell}
 
-serials-tell : Tells serial.ghosts.eq serial_view
+pub serials-tell : Tells serial.ghosts.eq serial_view
 serials-tell a b = lists-tell _ serial_entry (λ p q. Same-both _ _ _ _ _ _ (strings-tell p.0 q.0) (strings-tell p.1 q.1)) a.0.entries b.0.entries
 
 -- one level of `==`
@@ -25,21 +28,46 @@ level_eq a b =
     string_eq a.key b.key
     && (sameb entry_type.the_type a.entry_type b.entry_type
     && (pointwise entry.ghosts.eq a.parents.items b.parents.items
+    && (option_eq text.ghosts.eq a.title b.title
+    && (option_eq text.ghosts.eq a.location b.location
+    && (option_eq text.ghosts.eq a.organization b.organization
+    && (option_eq text.ghosts.eq a.archive b.archive
+    && (option_eq text.ghosts.eq a.archive_location b.archive_location
+    && (option_eq text.ghosts.eq a.call_number b.call_number
+    && (option_eq text.ghosts.eq a.note b.note
+    && (option_eq text.ghosts.eq a.abstract_ b.abstract_
+    && (option_eq text.ghosts.eq a.genre b.genre
     && (option_eq string_eq a.language b.language
-    && option_eq serial.ghosts.eq a.serial_number b.serial_number)))
+    && option_eq serial.ghosts.eq a.serial_number b.serial_number))))))))))))
 
 one_level : (a b : Entry) → entry.ghosts.eq a b ≡ level_eq (out-Entry a) (out-Entry b)
 one_level a b = entry_laws.is a b
 
 -- a level's parts, in the order of the fields
 abbrev Parts : Type 0
-Parts = List ℕ × (EntryType × (Trees × (Option (List ℕ) × Option Serials)))
+Parts = List ℕ × (EntryType × (Trees
+    × (Option TextView × (Option TextView × (Option TextView × (Option TextView × (Option TextView × (Option TextView × (Option TextView × (Option TextView × (Option TextView
+    × (Option (List ℕ) × Option Serials))))))))))))
 
 abbrev whole : Parts → Tree
-whole p = node (record { key = p.0; entry_type = p.1.0; language = p.1.1.1.0; serial_number = p.1.1.1.1 }) p.1.1.0
+whole (key, (kind, (ps, (title, (location, (organization, (archive, (archive_location, (call_number, (note, (abstract_, (genre, (language, serial_number))))))))))))) = node (record {
+  key = key;
+  entry_type = kind;
+  title = title;
+  location = location;
+  organization = organization;
+  archive = archive;
+  archive_location = archive_location;
+  call_number = call_number;
+  note = note;
+  abstract_ = abstract_;
+  genre = genre;
+  language = language;
+  serial_number = serial_number;
+}) ps
 
 abbrev parts : Tree → Parts
-parts (node f ps) = (f.key, (f.entry_type, (ps, (f.language, f.serial_number))))
+parts (node f ps) = (f.key, (f.entry_type, (ps, (f.title, (f.location, (f.organization, (f.archive, (f.archive_location, (f.call_number, (f.note, (f.abstract_, (f.genre, (f.language, f.serial_number)))))))))))))
 
 level_view : Entry-F Entry → Tree
 level_view e = node (fields_of e) (trees (map view e.parents.items))
@@ -53,8 +81,17 @@ levels-tell a b h =
     (Same-both _ _ _ _ _ _ (strings-tell a.key b.key)
     (Same-both _ _ _ _ _ _ (same_true entry_type.the_type tt a.entry_type b.entry_type, true_same entry_type.the_type a.entry_type b.entry_type)
     (Same-both _ _ _ _ _ _ (Same-along _ trees listed _ _ (listed-trees _) (listed-trees _) h)
+    (Same-both _ _ _ _ _ _ (options-tell _ _ texts-tell a.title b.title)
+    (Same-both _ _ _ _ _ _ (options-tell _ _ texts-tell a.location b.location)
+    (Same-both _ _ _ _ _ _ (options-tell _ _ texts-tell a.organization b.organization)
+    (Same-both _ _ _ _ _ _ (options-tell _ _ texts-tell a.archive b.archive)
+    (Same-both _ _ _ _ _ _ (options-tell _ _ texts-tell a.archive_location b.archive_location)
+    (Same-both _ _ _ _ _ _ (options-tell _ _ texts-tell a.call_number b.call_number)
+    (Same-both _ _ _ _ _ _ (options-tell _ _ texts-tell a.note b.note)
+    (Same-both _ _ _ _ _ _ (options-tell _ _ texts-tell a.abstract_ b.abstract_)
+    (Same-both _ _ _ _ _ _ (options-tell _ _ texts-tell a.genre b.genre)
     (Same-both _ _ _ _ _ _ (options-tell _ _ strings-tell a.language b.language)
-    (options-tell _ _ serials-tell a.serial_number b.serial_number)))))
+    (options-tell _ _ serials-tell a.serial_number b.serial_number))))))))))))))
 
 -- the same for lists of trees of at most n entries
 lists-tell-below : (n : ℕ) → ((x y : Entry) → size (view x) ≤ n → Same (entry.ghosts.eq x y) (view x) (view y))

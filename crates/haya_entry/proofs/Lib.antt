@@ -1,4 +1,4 @@
 pub mod Trees
 pub mod Equal
 mod SerialLemmas
-mod Walked
+mod Rows

@@ -1,7 +1,6 @@
 -- The types of entries, by their names.
-use Rattle.std.specs.Prelude.{ℕ, Bool, ◌||◌, List, [], ◌∷◌, Option, codes, find, map}
-use Rattle.std.specs.Char.{to_ascii_lowercase}
-use Rattle.std.specs.Str.{bytes_eq}
+use Rattle.std.specs.Prelude.{ℕ, Bool, ◌||◌, List, [], ◌∷◌, Option, codes, find}
+use Rattle.std.specs.Str.{bytes_eq, str_to_ascii_lowercase}
 use Rattle.haya_entry.specs.declared.types.EntryType.{EntryType}
 use Rattle.haya_entry.specs.declared.types.EntryType.TheVariants.{Article, Chapter, Entry, Anthos, Report, Thesis, Web, Scene, Artwork, Patent, Case, Newspaper, Legislation, Manuscript, Post, Misc, Performance, Periodical, Proceedings, Book, Blog, Reference, Conference, Anthology, Repository, Thread, Video, Audio, Exhibition, Original}
 
@@ -38,13 +37,15 @@ type_name Audio = codes "Audio"
 type_name Exhibition = codes "Exhibition"
 type_name Original = codes "Original"
 
+-- every type
 abbrev pub all_types : List EntryType
 all_types =
     Article ∷ Chapter ∷ Entry ∷ Anthos ∷ Report ∷ Thesis ∷ Web ∷ Scene ∷ Artwork ∷ Patent ∷ Case ∷ Newspaper ∷ Legislation ∷ Manuscript ∷ Post ∷
     Misc ∷ Performance ∷ Periodical ∷ Proceedings ∷ Book ∷ Blog ∷ Reference ∷ Conference ∷ Anthology ∷ Repository ∷ Thread ∷ Video ∷ Audio ∷ Exhibition ∷ Original ∷ []
 
+-- the text with its ASCII letters in lower case
 abbrev pub in_lower_case : List ℕ → List ℕ
-in_lower_case text = map to_ascii_lowercase text
+in_lower_case text = str_to_ascii_lowercase text
 
 -- whether the text is the type's name, as it is written or all in lower case
 abbrev pub is_named : List ℕ → EntryType → Bool

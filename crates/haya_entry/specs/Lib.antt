@@ -1,4 +1,4 @@
 pub mod EntryType
-pub mod Serials
+pub mod SerialNumber
 pub mod Tree
 pub mod Names

@@ -1,23 +1,35 @@
 -- The names that an entry has.
-use Rattle.std.specs.Prelude.{ℕ, Bool, false, List, [], ◌∷◌, is_some, if◌then◌else◌, codes}
-use Rattle.std.specs.List.{list_all, list_any}
+use Rattle.std.specs.Prelude.{ℕ, Bool, false, List, [], ◌∷◌, is_some, unwrap_or, codes}
+use Rattle.std.specs.List.{list_all}
+use Rattle.std.specs.Map.{lookup}
 use Rattle.std.specs.Str.{bytes_eq}
-use Rattle.haya_entry.specs.Serials.{serial_text}
-use Rattle.haya_entry.specs.Tree.{Fields, Tree, fields}
+use Rattle.haya_entry.specs.Tree.{Tree, fields, keyed_serial_number}
 
--- the serial numbers that have a name of their own
-abbrev pub serial_names : List (List ℕ)
-serial_names = codes "doi" ∷ codes "isbn" ∷ codes "issn" ∷ codes "pmid" ∷ codes "pmcid" ∷ codes "arxiv" ∷ []
+-- each name, with whether the entry has it: fields that are set, serial numbers that are kept
+abbrev pub name_table : Tree → List (List ℕ × Bool)
+name_table t =
+    (codes "title", is_some (fields t).title)
+    ∷ (codes "location", is_some (fields t).location)
+    ∷ (codes "organization", is_some (fields t).organization)
+    ∷ (codes "archive", is_some (fields t).archive)
+    ∷ (codes "archive-location", is_some (fields t).archive_location)
+    ∷ (codes "call-number", is_some (fields t).call_number)
+    ∷ (codes "note", is_some (fields t).note)
+    ∷ (codes "abstract", is_some (fields t).abstract_)
+    ∷ (codes "genre", is_some (fields t).genre)
+    ∷ (codes "language", is_some (fields t).language)
+    ∷ (codes "serial-number", is_some (fields t).serial_number)
+    ∷ (codes "doi", is_some (keyed_serial_number (codes "doi") t))
+    ∷ (codes "isbn", is_some (keyed_serial_number (codes "isbn") t))
+    ∷ (codes "issn", is_some (keyed_serial_number (codes "issn") t))
+    ∷ (codes "pmid", is_some (keyed_serial_number (codes "pmid") t))
+    ∷ (codes "pmcid", is_some (keyed_serial_number (codes "pmcid") t))
+    ∷ (codes "arxiv", is_some (keyed_serial_number (codes "arxiv") t))
+    ∷ []
 
-abbrev pub has_field : List ℕ → Fields → Bool
-has_field name f =
-    if bytes_eq name (codes "language") then is_some f.language else (
-    if bytes_eq name (codes "serial-number") then is_some f.serial_number else (
-    if list_any (bytes_eq name) serial_names then is_some (serial_text name f.serial_number) else false))
-
--- whether the entry has the name
+-- whether the entry has the name; no entry has a name that isn't among these
 abbrev pub has_name : Tree → List ℕ → Bool
-has_name t name = has_field name (fields t)
+has_name t name = unwrap_or (lookup (bytes_eq name) (name_table t)) false
 
 -- whether the entry has every name
 abbrev pub has_all : List (List ℕ) → Tree → Bool

@@ -1,15 +1,25 @@
 -- An entry by value: a tree of plain data.
 use Rattle.std.specs.Prelude.{ℕ, ◌+◌, List, [], ◌∷◌, Option, None, Some, option_and_then, option_map, slice_get, string_bytes}
+use Rattle.haya_text.specs.Texts.{TextView, text_view}
 use Rattle.haya_entry.specs.declared.entry.Entry.{Entry}
 use Rattle.haya_entry.specs.declared.entry.Entry.TheOpen.{Entry-F}
 use Rattle.haya_entry.specs.declared.entry.Entry.TheFolds.{fold-Entry}
 use Rattle.haya_entry.specs.declared.types.EntryType.{EntryType}
-use Rattle.haya_entry.specs.Serials.{Serials, serial_view}
+use Rattle.haya_entry.specs.SerialNumber.{Serials, serial_view, serial_text, with_serial}
 
 -- all of an entry but its parents
 pub record Fields : Type 0 where
   pub key : List ℕ
   pub entry_type : EntryType
+  pub title : Option TextView
+  pub location : Option TextView
+  pub organization : Option TextView
+  pub archive : Option TextView
+  pub archive_location : Option TextView
+  pub call_number : Option TextView
+  pub note : Option TextView
+  pub abstract_ : Option TextView
+  pub genre : Option TextView
   pub language : Option (List ℕ)
   pub serial_number : Option Serials
 
@@ -22,6 +32,7 @@ mutual
     no_trees : Trees
     one_more : Tree → Trees → Trees
 
+-- trees in order, from a list and as one
 abbrev pub trees : List Tree → Trees
 trees [] = no_trees
 trees (t ∷ ts) = one_more t (trees ts)
@@ -30,6 +41,7 @@ abbrev pub listed : Trees → List Tree
 listed no_trees = []
 listed (one_more t ts) = t ∷ listed ts
 
+-- all of an entry but its parents, and its parents in order
 abbrev pub fields : Tree → Fields
 fields (node f ps) = f
 
@@ -55,15 +67,25 @@ abbrev pub at_list : List Tree → List ℕ → Option Tree
 at_list ts [] = None
 at_list ts (i ∷ path) = option_and_then (λ p. at p path) (slice_get ts i)
 
--- one level of an entry, but for its parents
+-- the fields of an entry by value, whatever its parents are
 abbrev pub fields_of : {P : Type 0} → Entry-F P → Fields
 fields_of e = record {
   key = string_bytes e.key;
   entry_type = e.entry_type;
+  title = option_map text_view e.title;
+  location = option_map text_view e.location;
+  organization = option_map text_view e.organization;
+  archive = option_map text_view e.archive;
+  archive_location = option_map text_view e.archive_location;
+  call_number = option_map text_view e.call_number;
+  note = option_map text_view e.note;
+  abstract_ = option_map text_view e.abstract_;
+  genre = option_map text_view e.genre;
   language = option_map string_bytes e.language;
   serial_number = option_map serial_view e.serial_number;
 }
 
+-- the value of an entry whose parents have these values
 abbrev pub view_step : Entry-F Tree → Tree
 view_step e = node (fields_of e) (trees e.parents.items)
 
@@ -75,6 +97,57 @@ view = fold-Entry Tree view_step
 abbrev pub with_fields : (Fields → Fields) → Tree → Tree
 with_fields change (node f ps) = node (change f) ps
 
+-- the same fields over other parents
+abbrev pub with_parents : List Tree → Tree → Tree
+with_parents ts (node f ps) = node f (trees ts)
+
+-- the serial number under a key
+abbrev pub keyed_serial_number : List ℕ → Tree → Option (List ℕ)
+keyed_serial_number key t = serial_text key (fields t).serial_number
+
+-- the entry with this serial number under the key, in the place of the one that was there
+abbrev pub with_keyed_serial_number : List ℕ → List ℕ → Tree → Tree
+with_keyed_serial_number key text = with_fields (λ f. record f { serial_number = Some (with_serial key text f.serial_number) })
+
+-- the fields of an entry with a key and a type alone
+abbrev pub no_fields : List ℕ → EntryType → Fields
+no_fields key kind = record {
+  key = key;
+  entry_type = kind;
+  title = None;
+  location = None;
+  organization = None;
+  archive = None;
+  archive_location = None;
+  call_number = None;
+  note = None;
+  abstract_ = None;
+  genre = None;
+  language = None;
+  serial_number = None;
+}
+
 -- an entry with a key and a type alone
 abbrev pub bare : List ℕ → EntryType → Tree
-bare key kind = node (record { key = key; entry_type = kind; language = None; serial_number = None }) no_trees
+bare key kind = node (no_fields key kind) no_trees
+
+-- these fields with the texts of others
+abbrev pub with_texts_of : Fields → Fields → Fields
+with_texts_of from f = record f {
+  title = from.title;
+  location = from.location;
+  organization = from.organization;
+  archive = from.archive;
+  archive_location = from.archive_location;
+  call_number = from.call_number;
+  note = from.note;
+  abstract_ = from.abstract_;
+  genre = from.genre;
+}
+
+-- these fields with the others of another entry
+abbrev pub with_rest_of : Fields → Fields → Fields
+with_rest_of from f = record f {
+  language = from.language;
+  serial_number = from.serial_number;
+}

@@ -1,46 +1,66 @@
-ghost use Rattle.std.specs.Prelude.{◌≡◌, ℕ, List, Some, IfOk, OnOk, OnErr, map, option_map, string_bytes, codes};
+ghost use Rattle.std.specs.Prelude.{◌≡◌, IfOk, map};
 ghost use Rattle.haya_entry.specs.Names.{has_name};
-ghost use Rattle.haya_entry.specs.Serials.{serial_view, serial_text, with_serial};
-ghost use Rattle.haya_entry.specs.Tree.{node, trees, view, fields, parents, with_fields, bare};
+ghost use Rattle.haya_entry.specs.Tree.{view, fields, parents, with_parents, bare};
 
-use crate::EntryType;
-use haya_text::{OutOfMemory, TryClone};
+mod copies;
+mod fields;
+mod serials;
+
+use crate::{EntryType, SerialNumber};
+use haya_text::{FormatString, OutOfMemory};
 use std::alloc::Global;
-use std::collections::BTreeMap;
 
-/// The numbers that catalogues know a work by, such as its DOI, each under a key.
-#[derive(PartialEq, Eq, Hash, Debug, Drop)]
-pub struct SerialNumber(pub BTreeMap<String, String>);
-
-impl TryClone for SerialNumber {
-    ghost View = { List (List ℕ × List ℕ) };
-
-    ghost view = { serial_view };
-
-    fn try_clone(&self, _alloc: Global) -> Result<SerialNumber, OutOfMemory> {
-        Ok(SerialNumber(self.0.clone()?))
-    }
-}
-
-/// A work: its key, its type, its fields, and the works that it stands in, its parents.
+/// A work of the literature: its key, its type, its fields, and the works that it stands in, its parents.
 #[derive(PartialEq, Eq, Hash, Debug, Drop)]
 pub struct Entry {
+    /// The key, under which a library keeps the entry.
     pub key: String,
+    /// What kind of work it is.
     pub entry_type: EntryType,
+    /// The works that it stands in, in order.
     pub parents: Vec<Entry>,
+    /// The title.
+    pub title: Option<FormatString>,
+    /// The place where the work was made or is kept.
+    pub location: Option<FormatString>,
+    /// The organization that the work comes from.
+    pub organization: Option<FormatString>,
+    /// The archive that keeps the work.
+    pub archive: Option<FormatString>,
+    /// The place of that archive.
+    pub archive_location: Option<FormatString>,
+    /// The number that the archive or library has it under.
+    pub call_number: Option<FormatString>,
+    /// A note on the work.
+    pub note: Option<FormatString>,
+    /// A summary of what the work says.
+    pub abstract_: Option<FormatString>,
+    /// The kind of work within its type, as `Doctoral dissertation`.
+    pub genre: Option<FormatString>,
+    /// The language of the work.
     pub language: Option<String>,
+    /// The numbers that catalogues know the work by.
     pub serial_number: Option<SerialNumber>,
 }
 
 impl Entry {
-    /// An entry with no fields and no parents.
+    /// An entry with a key and a type, no fields and no parents.
     pub fn new(alloc: Global, key: &str, entry_type: EntryType) -> Result<Entry, OutOfMemory>
-        ensures { IfOk result (λ e. view e ≡ bare key.now entry_type) }
+        ensures { IfOk result (λ entry. view entry ≡ bare key.now entry_type) }
     {
         Ok(Entry {
             key: String::from_str(alloc, key)?,
             entry_type,
             parents: Vec::new(alloc),
+            title: None,
+            location: None,
+            organization: None,
+            archive: None,
+            archive_location: None,
+            call_number: None,
+            note: None,
+            abstract_: None,
+            genre: None,
             language: None,
             serial_number: None,
         })
@@ -53,122 +73,56 @@ impl Entry {
         self.key.as_str()
     }
 
-    /// The type.
+    /// What kind of work the entry is.
     pub fn entry_type(&self) -> EntryType
         ensures { result ≡ (fields (view self.now)).entry_type }
     {
         self.entry_type
     }
 
-    /// The parents, in order.
+    /// The works that the entry stands in, in order.
     pub fn parents(&self) -> &[Entry]
         ensures { map view result.now ≡ parents (view self.now) }
     {
         self.parents.as_slice()
     }
 
-    /// Changes the parents, and nothing else.
+    /// Sets the parents, in the place of those that were there. Nothing else changes.
     pub fn set_parents(&mut self, parents: Vec<Entry>)
-        ensures { view self.new ≡ node (fields (view self.old)) (trees (map view parents.items)) }
+        ensures { view self.new ≡ with_parents (map view parents.items) (view self.old) }
     {
         self.parents = parents;
     }
 
-    /// Whether the entry has a name: that of a field that is set, or that of a serial number that is
-    /// kept (`doi`, `isbn`, `issn`, `pmid`, `pmcid`, `arxiv`).
+    /// Whether the entry has a name. It has the name of each field that is set: `title`, `location`,
+    /// `organization`, `archive`, `archive-location`, `call-number`, `note`, `abstract`, `genre`, `language`,
+    /// `serial-number`; and, of `doi`, `isbn`, `issn`, `pmid`, `pmcid` and `arxiv`, those under which a serial
+    /// number is kept. It has no other name.
     pub fn has(&self, name: &str) -> bool
         ensures { result ≡ has_name (view self.now) name.now }
     {
         match name {
+            "title" => self.title.is_some(),
+            "location" => self.location.is_some(),
+            "organization" => self.organization.is_some(),
+            "archive" => self.archive.is_some(),
+            "archive-location" => self.archive_location.is_some(),
+            "call-number" => self.call_number.is_some(),
+            "note" => self.note.is_some(),
+            "abstract" => self.abstract_.is_some(),
+            "genre" => self.genre.is_some(),
             "language" => self.language.is_some(),
             "serial-number" => self.serial_number.is_some(),
-            "doi" | "isbn" | "issn" | "pmid" | "pmcid" | "arxiv" => {
-                self.keyed_serial_number(name).is_some()
-            }
+            "doi" => self.doi().is_some(),
+            "isbn" => self.isbn().is_some(),
+            "issn" => self.issn().is_some(),
+            "pmid" => self.pmid().is_some(),
+            "pmcid" => self.pmcid().is_some(),
+            "arxiv" => self.arxiv().is_some(),
             _ => false,
         }
     }
-
-    /// The language, as it was handed in.
-    pub fn language(&self) -> Option<&str>
-        ensures { option_map (λ t. t.now) result ≡ (fields (view self.now)).language }
-    {
-        match &self.language {
-            Some(text) => Some(text.as_str()),
-            None => None,
-        }
-    }
-
-    /// Changes the language, and nothing else.
-    pub fn set_language(&mut self, language: String)
-        ensures { view self.new ≡ with_fields (λ f. record f { language = Some (string_bytes language) }) (view self.old) }
-    {
-        self.language = Some(language);
-    }
-
-    /// All serial numbers.
-    pub fn serial_number(&self) -> Option<&SerialNumber>
-        ensures { option_map (λ s. serial_view s.now) result ≡ (fields (view self.now)).serial_number }
-    {
-        self.serial_number.as_ref()
-    }
-
-    /// Changes all serial numbers, and nothing else.
-    pub fn set_serial_number(&mut self, serial_number: SerialNumber)
-        ensures { view self.new ≡ with_fields (λ f. record f { serial_number = Some (serial_view serial_number) }) (view self.old) }
-    {
-        self.serial_number = Some(serial_number);
-    }
-
-    /// The serial number under a key.
-    pub fn keyed_serial_number(&self, key: &str) -> Option<&str>
-        ensures { option_map (λ t. t.now) result ≡ serial_text key.now (fields (view self.now)).serial_number }
-    {
-        match &self.serial_number {
-            Some(serial) => match serial.0.get(key) {
-                Some(text) => Some(text.as_str()),
-                None => None,
-            },
-            None => None,
-        }
-    }
-
-    /// Keeps a text under a key, in the place of the one that was there, and changes nothing else.
-    /// Where memory is refused, nothing is changed.
-    pub fn set_keyed_serial_number(&mut self, key: &str, value: String) -> Result<(), OutOfMemory>
-        ensures ok { OnOk result (view self.new ≡
-            with_fields (λ f. record f { serial_number = Some (with_serial key.now (string_bytes value) f.serial_number) }) (view self.old)) }
-        ensures err { OnErr result (view self.new ≡ view self.old) }
-    {
-        let alloc = *self.key.allocator();
-        let key = String::from_str(alloc, key)?;
-        match &mut self.serial_number {
-            Some(serial) => {
-                serial.0.insert(key, value)?;
-            }
-            None => {
-                let mut serials = BTreeMap::new(alloc);
-                serials.insert(key, value)?;
-                self.serial_number = Some(SerialNumber(serials));
-            }
-        }
-        Ok(())
-    }
-
-    /// A copy, equal to this entry.
-    pub fn try_clone(&self, alloc: Global) -> Result<Entry, OutOfMemory>
-        ensures { IfOk result (λ copy. view copy ≡ view self.now) }
-    {
-        let mut parents = Vec::new(alloc);
-        for parent in &self.parents {
-            parents.push(parent.try_clone(alloc)?)?;
-        }
-        Ok(Entry {
-            key: self.key.try_clone(alloc)?,
-            entry_type: self.entry_type,
-            parents,
-            language: self.language.try_clone(alloc)?,
-            serial_number: self.serial_number.try_clone(alloc)?,
-        })
-    }
 }
+
+#[cfg(test)]
+mod tests;

@@ -1,11 +1,34 @@
 //! Laws of the definitions. No program calls them.
-ghost use Rattle.std.specs.Prelude.{◌≡◌, ◌↔◌, true};
+ghost use Rattle.std.specs.Prelude.{◌≡◌, ◌↔◌, ℕ, List, true, Some, if◌then◌else◌};
+ghost use Rattle.std.specs.Str.{bytes_eq};
 ghost use Rattle.haya_entry.specs.declared.entry.Entry.{Entry as EntryData};
-ghost use Rattle.haya_entry.specs.Tree.{view};
+ghost use Rattle.haya_entry.specs.declared.types.SerialNumber.{SerialNumber as SerialNumberData};
+ghost use Rattle.haya_entry.specs.Names.{has_name};
+ghost use Rattle.haya_entry.specs.SerialNumber.{serial_view};
+ghost use Rattle.haya_entry.specs.Tree.{Tree, view, keyed_serial_number, with_keyed_serial_number};
 
-use crate::Entry;
+use crate::{Entry, SerialNumber};
 
-/// `==` of two entries holds exactly where their values are equal.
-pub fn equal_by_value()
+/// `==` of two entries holds exactly where their values are equal, parents and all that is above them included.
+pub fn entries_equal_by_value()
     ensures { (a b : EntryData) → (⟦<Entry as PartialEq>⟧.eq a b ≡ true) ↔ (view a ≡ view b) }
+{}
+
+/// `==` of two serial numbers holds exactly where their values are equal.
+pub fn serial_numbers_equal_by_value()
+    ensures { (a b : SerialNumberData) →
+        (⟦<SerialNumber as PartialEq>⟧.eq a b ≡ true) ↔ (serial_view a ≡ serial_view b) }
+{}
+
+/// Equal entries have the same names.
+pub fn equal_entries_have_alike()
+    ensures { (a b : EntryData) → ⟦<Entry as PartialEq>⟧.eq a b ≡ true →
+        (name : List ℕ) → has_name (view a) name ≡ has_name (view b) name }
+{}
+
+/// A serial number that is set is the one that its key then finds; any other key finds what it found before.
+pub fn set_serial_number_is_found()
+    ensures { (key text other : List ℕ) (entry : Tree) →
+        keyed_serial_number other (with_keyed_serial_number key text entry)
+        ≡ (if bytes_eq other key then Some text else keyed_serial_number other entry) }
 {}

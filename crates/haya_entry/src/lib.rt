@@ -6,6 +6,6 @@ pub mod laws;
 mod steps;
 mod types;
 
-pub use entry::{Entry, SerialNumber};
+pub use entry::Entry;
 pub use steps::Steps;
-pub use types::{EntryType, UnknownType};
+pub use types::{EntryType, SerialNumber, UnknownType};

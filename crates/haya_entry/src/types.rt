@@ -1,42 +1,75 @@
-ghost use Rattle.std.specs.Prelude.{◌≡◌, find};
+ghost use Rattle.std.specs.Prelude.{◌≡◌, IfOk, find};
 ghost use Rattle.std.specs.Result.{result_ok};
 ghost use Rattle.haya_entry.specs.EntryType.{type_name, in_lower_case, is_named, type_read};
 
+use haya_text::{OutOfMemory, TryClone};
+use std::alloc::Global;
+use std::collections::BTreeMap;
 use std::str::FromStr;
 use thiserror::Error;
 
 /// The type of an entry: what kind of work it is.
 #[derive(Clone, Copy, Debug, PartialEq, Eq, Hash)]
 pub enum EntryType {
+    /// A short text that appears in a greater publication.
     Article,
+    /// A section of a greater work, such as a book.
     Chapter,
+    /// A short piece on a subject, as in a work of reference or a data set.
     Entry,
+    /// A text that appears in an anthology.
     Anthos,
+    /// A document on a matter, often by an organization.
     Report,
+    /// A work for a degree of a university.
     Thesis,
+    /// A piece that is native to the internet.
     Web,
+    /// A part of a show, a film or another performed work.
     Scene,
+    /// A work of art.
     Artwork,
+    /// A technical document that an office keeps, so that an invention is protected.
     Patent,
+    /// A case at a court of law.
     Case,
+    /// A newspaper, or its issue of a day.
     Newspaper,
+    /// A law, or the draft of one.
     Legislation,
+    /// A text that is handed in for publication.
     Manuscript,
+    /// A short message on a network, a forum or the like.
     Post,
+    /// What no other type fits.
     Misc,
+    /// A live performance.
     Performance,
+    /// A publication that appears in issues, such as a journal.
     Periodical,
+    /// The published record of a conference.
     Proceedings,
+    /// A long work in one binding.
     Book,
+    /// Articles of one author or group on a web site.
     Blog,
+    /// A work of reference, such as a dictionary or a manual.
     Reference,
+    /// A conference, the event itself.
     Conference,
+    /// A collection of texts on one subject.
     Anthology,
+    /// A store of code, data or papers that is open to readers.
     Repository,
+    /// A discussion that a post began.
     Thread,
+    /// A work of moving pictures.
     Video,
+    /// A work of recorded sound.
     Audio,
+    /// A show of works of art.
     Exhibition,
+    /// The work as it first appeared, where the entry is a later edition of it.
     Original,
 }
 
@@ -131,14 +164,48 @@ impl FromStr for EntryType {
 
     ghost from_str_gives = { λ text read. result_ok read ≡ type_read text };
 
-    /// The type with this name, as it is written here or all in lower case.
+    /// The type with this name: a name as it is written here, or all of it in lower case.
     fn from_str(name: &str) -> Result<EntryType, UnknownType> {
         first_named(&EntryType::ALL, name).ok_or(UnknownType)
     }
 }
 
-fn first_named(kinds: &[EntryType], name: &str) -> Option<EntryType>
-    ensures { result ≡ find (is_named name.now) kinds.now }
+// The first of the types with this name.
+fn first_named(types: &[EntryType], name: &str) -> Option<EntryType>
+    ensures { result ≡ find (is_named name.now) types.now }
 {
-    kinds.iter().copied().find(|kind| kind.is_named(name))
+    types
+        .iter()
+        .copied()
+        .find(|entry_type| entry_type.is_named(name))
 }
+
+/// The numbers that catalogues know a work by, such as its DOI: texts, each under a key.
+#[derive(PartialEq, Eq, Hash, Debug, Drop)]
+pub struct SerialNumber(pub BTreeMap<String, String>);
+
+impl SerialNumber {
+    ghost use Rattle.haya_entry.specs.SerialNumber.{serial_view};
+
+    /// A copy, equal to these serial numbers.
+    pub fn try_clone(&self, _alloc: Global) -> Result<SerialNumber, OutOfMemory>
+        ensures { IfOk result (λ copy. serial_view copy ≡ serial_view self.now) }
+    {
+        Ok(SerialNumber(self.0.clone()?))
+    }
+}
+
+impl TryClone for SerialNumber {
+    ghost use Rattle.haya_entry.specs.SerialNumber.{Serials, serial_view};
+
+    ghost View = { Serials };
+
+    ghost view = { serial_view };
+
+    fn try_clone(&self, alloc: Global) -> Result<SerialNumber, OutOfMemory> {
+        self.try_clone(alloc)
+    }
+}
+
+#[cfg(test)]
+mod tests;

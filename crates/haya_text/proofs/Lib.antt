@@ -1,1 +1,10 @@
 pub mod Tells
+pub mod Characters
+pub mod Equal
+mod Canonical
+mod Folds
+mod Grammars
+mod Normals
+mod Pushes
+mod Scans
+mod Serials

@@ -1,10 +1,18 @@
 //! Texts of a literature library: what the readers of values share, and copies that may want memory.
 #![tactic(auto)]
 
+pub mod cursor;
 mod fault;
+pub mod laws;
 mod read_text;
+mod strings;
 mod try_clone;
 
 pub use fault::{OutOfMemory, ReadFault};
 pub use read_text::ReadText;
+pub use strings::{
+    ChunkKind, ChunkedReadError, ChunkedStrParseError, ChunkedString, FoldError,
+    FoldableChunkedString, FoldableKind, FoldableStringChunk, FormatString, LongShortForm,
+    StringChunk,
+};
 pub use try_clone::TryClone;

@@ -1,1 +1,21 @@
 pub mod Syntaxes
+mod Maps
+mod Pushes
+mod Equal
+pub mod Cuts
+pub mod OneCut
+pub mod Parsing
+mod Bounds
+mod FreePlaces
+mod Greedy
+mod Lasts
+mod Paths
+mod Rows
+pub mod Queries
+pub mod Runs
+pub mod Totals
+pub mod OneOutcome
+pub mod Again
+mod SelectorsEqual
+mod ReadingRows
+mod LibraryRows

@@ -1,5 +1,5 @@
 -- The equations of `syntax`, one for each variant.
-use Rattle.std.proofs.Common.{◌≡◌, map, sym, ap, ◌∙◌, string_bytes, String, Global, Vec}
+use Rattle.std.proofs.Common.{◌≡◌, ℕ, suc, ◌+◌, ◌<◌, List, ◌∷◌, length, get_or, drop, drop-cons, add-one, refl, map, sym, ap, ◌∙◌, string_bytes, String, Global, Vec}
 use Rattle.std.specs.Prelude.{Box}
 use Rattle.haya_entry.specs.declared.types.EntryType.{EntryType}
 use Rattle.hayagriva.specs.declared.selectors.Selector.{Selector}
@@ -7,7 +7,7 @@ use Rattle.hayagriva.specs.declared.selectors.Selector.TheOpen as open'
 use Rattle.hayagriva.specs.declared.selectors.Selector.TheVariants as variant
 use Rattle.hayagriva.specs.declared.selectors.Selector.TheViews.{roll-Selector}
 use Rattle.hayagriva.specs.declared.selectors.Selector.TheFolds.{map-Selector, fold-roll-Selector}
-use Rattle.hayagriva.specs.Syntax.{Syntax, Any, OfType, Not, Named, With, Either, Together, Under, syntaxes, syntax, syntax_step}
+use Rattle.hayagriva.specs.Syntax.{Syntax, Any, OfType, Not, Named, With, Either, Together, Under, more, syntaxes, syntax, syntax_step}
 
 rolled : (x : open'.Selector-F Selector) → syntax (roll-Selector x) ≡ syntax_step (map-Selector Selector Syntax syntax x)
 rolled = fold-roll-Selector Syntax syntax_step
@@ -35,3 +35,10 @@ syntax-multi ss = ap syntax (sym (variant.rolls-Multi ss)) ∙ rolled (open'.Mul
 
 pub syntax-ancestrage : (l r : Box Selector Global) → syntax (variant.Ancestrage l r) ≡ Under (syntax l.value) (syntax r.value)
 syntax-ancestrage l r = ap syntax (sym (variant.rolls-Ancestrage l r)) ∙ rolled (open'.Ancestrage l r)
+
+-- one member after another
+pub left_more : (members : List Selector) (i : ℕ) (m : Selector) → i < length members → m ≡ get_or members i m
+    → syntaxes (map syntax (drop i members)) ≡ more (syntax m) (syntaxes (map syntax (drop (i + 1) members)))
+left_more members i m h e =
+    let d : drop i members ≡ m ∷ drop (suc i) members = drop-cons members i m h ∙ ap (λ y. y ∷ drop (suc i) members) (sym e) in
+    rw (d, add-one) refl

@@ -1,7 +1,17 @@
+mod apply;
+mod bindings;
+mod evaluate;
+mod parse;
+mod places;
+mod token;
+mod try_clone;
+
 use haya_entry::EntryType;
 use haya_text::OutOfMemory;
-use std::alloc::{AllocError, AllocFailed};
+use parse::expr;
+use std::alloc::{AllocError, AllocFailed, Global};
 use thiserror::Error;
+use token::Tokens;
 
 /// Which entries are meant, and what their parts are called.
 #[derive(Debug, Drop, PartialEq, Eq)]
@@ -22,6 +32,20 @@ pub enum Selector {
     Multi(Vec<Selector>),
     /// `l > r`: what `l` picks, with parents that `r` picks.
     Ancestrage(Box<Selector>, Box<Selector>),
+}
+
+impl Selector {
+    ghost use Rattle.std.specs.Str.{chars};
+    ghost use Rattle.hayagriva.specs.Reading.{TextGives};
+
+    /// The selector at the front of a text; what follows it is ignored. An error is the first fault from the left, or
+    /// want of memory.
+    pub fn parse(alloc: Global, text: &str) -> Result<Selector, SelectorError>
+        ensures { TextGives (chars text.now) result }
+    {
+        let mut tokens = Tokens::new(text);
+        expr(alloc, &mut tokens)
+    }
 }
 
 /// Why a text is no selector.

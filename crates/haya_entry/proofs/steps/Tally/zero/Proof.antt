@@ -1,7 +1,16 @@
 -- `zero` makes a token with the count 0.
-use Rattle.std.proofs.Common.{[], ◌∷◌, refl}
+use Rattle.std.proofs.Common.{List, [], ◌∷◌, refl}
 use Rattle.std.proofs.raw_atomic.Walks.{proved}
 use base.Fml.{ftrue}
+use base.Logic.{ent, emp}
+use mir.Syntax.{Sym}
+use mir.Val.{Val, vstruct, vcons, vnil}
+use seplogic.Ra.Ura.{Ura}
+use types.Logic.{Logic, sem}
+use denote.RattleType.{RattleType}
+use denote.Shadow.{makes_shadow}
+use denote.Struct.Struct.{Struct}
+use Rattle.std.specs.contracts.marker.PhantomData as marker
 use types.Kit.{‵, raw, ◌$◌, ◌∵◌, !, qed, done, move, keep, join, fjoin, suffices, use0}
 use types.Run.{enter, no_more, and_then, returns}
 use types.ByLocal.{alloc_all, pass_all, free_all, look_at, get, sets}
@@ -14,7 +23,17 @@ use Rattle.haya_entry.specs.contracts.steps.Tally.zero as f
 use Rattle.haya_entry.proofs.steps.Tally.zero.Statement.{statement}
 use Rattle.haya_entry.proofs.steps.Tally.zero.Code as code
 use Rattle.haya_entry.specs.contracts.steps.Tally as tally
-use Rattle.haya_entry.proofs.Walked.{token, Mark, made}
+
+-- the machine value of a token
+abbrev token : Val
+token = vstruct (vcons (vstruct vnil) vnil)
+
+module _ (ν : Sym) (types : List RattleType) (T : RattleType) where
+  abbrev Mark : RattleType
+  Mark = Struct (record { name = ν; args = []; types = types; fields = (marker.the_field T).row ∷ [] })
+
+  made : {M : Type 1} {𝓤 : Ura M} (𝓛 : Logic 𝓤) → ent 𝓤 (emp 𝓤) (sem 𝓛 (Mark.own_val (tt, tt) (token ∷ [])))
+  made 𝓛 = makes_shadow 𝓛 (Mark.own_val (tt, tt) (token ∷ [])) (λ vss. (tt, ((λ uss. (tt, tt)), tt))) ((vstruct vnil ∷ [], tt), (refl, ((tt, (refl, tt)), tt)))
 
 abbrev stayed : Stays f.ended.signature.params f.ended.kept
 stayed = tt

@@ -1,5 +1,0 @@
-use Rattle.haya_entry.proofs.Equal.{entries-tell}
-use Rattle.haya_entry.proofs.laws.equal_by_value.Goals as goal
-
-pub returns : goal.returns
-returns c = entries-tell

@@ -1,0 +1,81 @@
+-- What `scan` reads, mark by mark.
+use Rattle.std.proofs.Common.{◌≡◌, ◌≢◌, ℕ, zero, suc, Bool, true, false, ◌||◌, eqb, List, [], ◌∷◌, ◌++◌, refl, ap, sym, ◌∙◌, append_assoc, arith, Result, Ok, Err}
+use Rattle.std.proofs.lemmas.Bool.Decides.{nat_tests}
+use Rattle.haya_text.specs.Chunks.{Marked}
+use Rattle.haya_text.specs.Printed.{is_control}
+use Rattle.haya_text.specs.Reading.{after_these, kind_in, scan, told}
+use Rattle.haya_text.specs.declared.strings.reading.Mark.TheVariants.{Open}
+use Rattle.std.specs.Prelude.{slice_get, Some}
+
+pub after_these-append : (xs ys : List Marked) (r : Result (List Marked) (List ℕ)) → after_these (xs ++ ys) r ≡ after_these xs (after_these ys r)
+after_these-append xs ys (Ok zs) = ap Ok (append_assoc xs ys zs)
+after_these-append xs ys (Err rest) = refl
+
+pub after_these-nil : (r : Result (List Marked) (List ℕ)) → after_these [] r ≡ r
+after_these-nil (Ok xs) = refl
+after_these-nil (Err rest) = refl
+
+pub or-false : (a b : Bool) → (a || b) ≡ false → (a ≡ false) × (b ≡ false)
+or-false true b h = cc
+or-false false b h = (refl, h)
+
+-- what is no control character
+pub apart : (c : ℕ) → is_control c ≡ false → (eqb c 92 ≡ false) × (eqb c 123 ≡ false) × (eqb c 125 ≡ false) × (eqb c 36 ≡ false)
+apart c h =
+    let a = or-false (eqb c 92 || eqb c 123 || eqb c 125) (eqb c 36) h in
+    let b = or-false (eqb c 92 || eqb c 123) (eqb c 125) a.0 in
+    let d = or-false (eqb c 92) (eqb c 123) b.0 in
+    (d.0, d.1, b.1, a.1)
+
+-- the end
+pub scan-nil : (d : ℕ) (m : Bool) → scan d m false [] ≡ Ok []
+scan-nil d true = refl
+scan-nil zero false = refl
+scan-nil (suc d) false = refl
+
+-- a plain character
+pub scan-plain : (d : ℕ) (m : Bool) (c : ℕ) (cs : List ℕ) → is_control c ≡ false → scan d m false (c ∷ cs) ≡ after_these ((c, kind_in d m) ∷ []) (scan d m false cs)
+scan-plain d true c cs h = let t = apart c h in rw (t.0, t.3) refl
+scan-plain zero false c cs h = let t = apart c h in rw (t.0, t.1, t.2, t.3) refl
+scan-plain (suc d) false c cs h = let t = apart c h in rw (t.0, t.1, t.2, t.3) refl
+
+-- a backslash
+pub scan-backslash : (d : ℕ) (m : Bool) (cs : List ℕ) → scan d m false (92 ∷ cs) ≡ scan d m true cs
+scan-backslash d true cs = refl
+scan-backslash zero false cs = refl
+scan-backslash (suc d) false cs = refl
+
+-- behind a backslash a control character
+pub scan-escape : (d : ℕ) (m : Bool) (c : ℕ) (cs : List ℕ) → is_control c ≡ true → scan d m true (c ∷ cs) ≡ after_these ((c, kind_in d m) ∷ []) (scan d m false cs)
+scan-escape d m c cs h = rw h refl
+
+-- behind a backslash anything else
+pub scan-alone : (d : ℕ) (m : Bool) (c : ℕ) (cs : List ℕ) → is_control c ≡ false → scan d m true (c ∷ cs) ≡ after_these ((92, kind_in d m) ∷ []) (scan d m false (c ∷ cs))
+scan-alone d m c cs h =
+    (let e : scan d m true (c ∷ cs) ≡ after_these ((92, kind_in d m) ∷ (c, kind_in d m) ∷ []) (scan d m false cs) = rw h refl in e)
+    ∙ after_these-append ((92, kind_in d m) ∷ []) ((c, kind_in d m) ∷ []) (scan d m false cs) ∙ ap (after_these ((92, kind_in d m) ∷ [])) (sym (scan-plain d m c cs h))
+
+-- the signs
+pub scan-dollar : (d : ℕ) (cs : List ℕ) → scan d false false (36 ∷ cs) ≡ scan d true false cs
+scan-dollar zero cs = refl
+scan-dollar (suc d) cs = refl
+
+pub scan-open : (d : ℕ) (cs : List ℕ) → scan d false false (123 ∷ cs) ≡ scan (suc d) false false cs
+scan-open zero cs = refl
+scan-open (suc d) cs = refl
+
+-- what the reader's steps need of them
+pub scan-eaten : (d : ℕ) (m : Bool) (text cs : List ℕ) (c : ℕ) → text ≡ c ∷ cs → c ≢ 92 → c ≢ 123 → c ≢ 125 → c ≢ 36 → scan d m false text ≡ after_these ((c, kind_in d m) ∷ []) (scan d m false cs)
+scan-eaten d m text cs c e h i j k =
+    let t : is_control c ≡ false = grind (arith, nat_tests) in
+    rw e (scan-plain d m c cs t)
+
+pub scan-left_alone : (d : ℕ) (m : Bool) (c : ℕ) (text : List ℕ) → slice_get text 0 ≡ Some c → is_control c ≡ false → scan d m true text ≡ after_these ((92, kind_in d m) ∷ []) (scan d m false text)
+scan-left_alone d m c [] e h = cc
+scan-left_alone d m c (x ∷ cs) e h = let same : x ≡ c = cc in scan-alone d m x cs (rw same h)
+
+pub told-opened : (d : ℕ) (m : Bool) (text cs : List ℕ) (c : ℕ) → text ≡ c ∷ cs → c ≡ 123 → scan d m false text ≡ told d m Open cs
+told-opened zero true text cs c e h = rw (e, h) refl
+told-opened zero false text cs c e h = rw (e, h) refl
+told-opened (suc d) true text cs c e h = rw (e, h) refl
+told-opened (suc d) false text cs c e h = rw (e, h) refl

@@ -1,0 +1,295 @@
+ghost use Rattle.std.specs.Prelude.{◌≡◌, option_map, IfOk};
+
+use super::ChunkKind::{Math, Normal, Verbatim};
+use super::*;
+use crate::{OutOfMemory, ReadFault, ReadText};
+use std::alloc::Global;
+use std::borrow::CowStr;
+use std::fmt;
+use std::fmt::Write;
+use std::process::Abort;
+use std::test::Fail;
+
+fn text_of(alloc: Global, chunks: &[(&str, ChunkKind)]) -> Result<ChunkedString, OutOfMemory> {
+    let mut text = ChunkedString::new(alloc);
+    for (value, kind) in chunks {
+        text.push_chunk(StringChunk::new(String::from_str(alloc, *value)?, *kind))?;
+    }
+    Ok(text)
+}
+
+fn assert_reads(
+    rt: &impl Abort,
+    alloc: Global,
+    text: &str,
+    chunks: &[(&str, ChunkKind)],
+    serialized: &str,
+) -> Result<(), Fail> {
+    let read = ChunkedString::from_str(alloc, text)?;
+    assert_eq!(rt; read, text_of(alloc, chunks)?, "{text}");
+    assert_eq!(rt; read.to_serialized(alloc)?.as_str(), serialized, "{text}");
+    Ok(())
+}
+
+#[test]
+fn texts_are_read(rt: HostRuntime) -> Result<(), Fail> {
+    let alloc = rt.alloc();
+    assert_reads(
+        &rt,
+        alloc,
+        "a${b}$c\\",
+        &[("a", Normal), ("{b}", Math), ("c\\", Normal)],
+        "a$\\{b\\}$c\\\\",
+    )?;
+    assert_reads(
+        &rt,
+        alloc,
+        "Hello \\$World",
+        &[("Hello $World", Normal)],
+        "Hello \\$World",
+    )?;
+    assert_reads(
+        &rt,
+        alloc,
+        "Hello \\\\World",
+        &[("Hello \\World", Normal)],
+        "Hello \\\\World",
+    )?;
+    assert_reads(
+        &rt,
+        alloc,
+        "Hello \\World",
+        &[("Hello \\World", Normal)],
+        "Hello \\\\World",
+    )?;
+    assert_reads(
+        &rt,
+        alloc,
+        "{a}{b}$x",
+        &[("ab", Verbatim), ("x", Math)],
+        "{ab}$x$",
+    )?;
+    assert_reads(
+        &rt,
+        alloc,
+        "Hello {World\\{}",
+        &[("Hello ", Normal), ("World{", Verbatim)],
+        "Hello {World\\{}",
+    )?;
+    assert_reads(
+        &rt,
+        alloc,
+        "{}ab$\\$$",
+        &[("ab", Normal), ("$", Math)],
+        "ab$\\$$",
+    )?;
+    let hand_made = text_of(
+        alloc,
+        &[("", Verbatim), ("a", Normal), ("b", Normal), ("$", Math)],
+    )?;
+    assert_eq!(rt; hand_made.to_serialized(alloc)?.as_str(), "{}ab$\\$$");
+    let refused = ChunkedString::from_str(alloc, "a}b");
+    let Err(ChunkedReadError::Parse(brace)) = refused else {
+        panic!(rt; "a closing brace is read")
+    };
+    assert_eq!(rt; brace.position(), 1);
+    assert!(rt; !ChunkedReadError::Parse(brace).is_out_of_memory());
+    assert!(rt; ChunkedReadError::OutOfMemory.is_out_of_memory());
+    Ok(())
+}
+
+#[test]
+fn chunks_are_pushed(rt: HostRuntime) -> Result<(), Fail> {
+    let alloc = rt.alloc();
+    let mut text = ChunkedString::new(alloc);
+    text.push_str("", Verbatim)?;
+    assert_eq!(rt; text, text_of(alloc, &[("", Verbatim)])?);
+    assert!(rt; text.is_empty());
+    assert_eq!(rt; text.to_serialized(alloc)?.as_str(), "{}");
+    let mut text = ChunkedString::new(alloc);
+    text.push_char('a', Normal)?;
+    text.push_str("b", Normal)?;
+    text.push_chunk(StringChunk::normal(String::from_str(alloc, "c")?))?;
+    assert_eq!(rt; text, text_of(alloc, &[("ab", Normal), ("c", Normal)])?);
+    assert_eq!(rt; (text.len(), text.is_empty()), (3, false));
+    text.extend(text_of(alloc, &[("é", Normal), ("x", Math)])?)?;
+    write!(text, "d")?;
+    write!(text, "e")?;
+    let all = [
+        ("ab", Normal),
+        ("c", Normal),
+        ("é", Normal),
+        ("x", Math),
+        ("de", Normal),
+    ];
+    assert_eq!(rt; text, text_of(alloc, &all)?);
+    assert_eq!(rt; (text.try_clone(alloc)?, text.len()), (text, 8));
+    Ok(())
+}
+
+#[test]
+fn texts_are_shown(rt: HostRuntime) -> Result<(), Fail> {
+    let alloc = rt.alloc();
+    let math = ChunkedString::from_chunk(alloc, StringChunk::math(String::from_str(alloc, "x")?))?;
+    let CowStr::Borrowed(alone) = math.to_str(alloc)? else {
+        panic!(rt; "one chunk is copied")
+    };
+    assert_eq!(rt; alone, "x");
+    assert_eq!(rt; format!(in alloc; "{math}")?.as_str(), "$x$");
+    let text = text_of(alloc, &[("a", Verbatim), ("x\\", Math)])?;
+    assert_eq!(rt; text.to_str(alloc)?.as_str(), "a$x\\$");
+    assert_eq!(rt; ChunkedString::new(alloc).to_str(alloc)?.as_str(), "");
+    let mut serialized = String::new(alloc);
+    text.fmt_serialized(&mut serialized)?;
+    assert_eq!(rt; serialized.as_str(), "{a}$x\\\\$");
+    let mut chunk = StringChunk::verbatim(String::from_str(alloc, "a")?);
+    write!(chunk, "{{")?;
+    assert_eq!(rt;
+        (chunk.as_str(), chunk.len(), chunk.is_empty(), chunk.kind),
+        ("a{", 2, false, Verbatim)
+    );
+    assert_eq!(rt; format!(in alloc; "{chunk}")?.as_str(), "a{");
+    assert_eq!(rt; chunk.try_clone(alloc)?, chunk);
+    assert_eq!(rt;
+        (ChunkKind::default(), FoldableKind::default()),
+        (Normal, FoldableKind::Normal)
+    );
+    Ok(())
+}
+
+// A writer that takes so many texts and no more, and counts those that it is handed.
+#[derive(Drop)]
+struct Short {
+    room: usize,
+    handed: usize,
+}
+
+impl fmt::Write for Short {
+    fn write_str(&mut self, _text: &str) -> fmt::Result {
+        self.handed = self.handed.wrapping_add(1);
+        if self.handed > self.room {
+            Err(fmt::Error)
+        } else {
+            Ok(())
+        }
+    }
+}
+
+#[test]
+fn a_writers_fault_ends_the_call(rt: HostRuntime) -> Result<(), Fail> {
+    let text = text_of(rt.alloc(), &[("a", Normal), ("b{", Verbatim), ("x", Math)])?;
+    for room in 0..5 {
+        let mut out = Short { room, handed: 0 };
+        assert!(rt; text.fmt_serialized(&mut out).is_err());
+        assert_eq!(rt; out.handed, room + 1);
+        let mut out = Short { room, handed: 0 };
+        assert_eq!(rt; write!(out, "{text}").is_err(), room < 5);
+    }
+    Ok(())
+}
+
+#[test]
+fn texts_without_math(rt: HostRuntime) -> Result<(), Fail> {
+    let alloc = rt.alloc();
+    let Err(FoldError::Math(back)) = FoldableChunkedString::try_from_chunked(
+        alloc,
+        text_of(alloc, &[("a", Normal), ("x", Math)])?,
+    ) else {
+        panic!(rt; "math is folded")
+    };
+    assert_eq!(rt; back, text_of(alloc, &[("a", Normal), ("x", Math)])?);
+    let text = text_of(alloc, &[("a", Normal), ("", Verbatim)])?;
+    let Ok(folded) = FoldableChunkedString::try_from_chunked(alloc, text) else {
+        panic!(rt; "text without math is not folded")
+    };
+    assert_eq!(rt; folded.0.len(), 2);
+    assert_eq!(rt;
+        (folded.0[1].value.as_str(), folded.0[1].kind),
+        ("", FoldableKind::Verbatim)
+    );
+    assert_eq!(rt; folded.try_clone(alloc)?, folded);
+    assert_eq!(rt; folded.0[0].try_clone(alloc)?, folded.0[0]);
+    let Ok(unfolded) = ChunkedString::from_foldable(alloc, folded) else {
+        panic!(rt; "folded text is not taken back")
+    };
+    assert_eq!(rt; unfolded, text_of(alloc, &[("a", Normal), ("", Verbatim)])?);
+    assert_eq!(rt; FoldableChunkedString::new(alloc).0.len(), 0);
+    let math = StringChunk::math(String::from_str(alloc, "x")?);
+    let Err(math) = FoldableStringChunk::try_from(math) else {
+        panic!(rt; "a chunk of math is folded")
+    };
+    assert_eq!(rt; math, StringChunk::math(String::from_str(alloc, "x")?));
+    assert_eq!(rt; FoldableKind::try_from(Math), Err(()));
+    assert_eq!(rt;
+        FoldableKind::try_from(Verbatim),
+        Ok(FoldableKind::Verbatim)
+    );
+    assert_eq!(rt; ChunkKind::from(FoldableKind::Verbatim), Verbatim);
+    Ok(())
+}
+
+// A text as its short form is shown.
+#[derive(Drop)]
+struct ShortForm<'a>(&'a FormatString);
+
+impl fmt::Display for ShortForm<'_> {
+    fn fmt<W: fmt::Write>(&self, f: &mut fmt::Formatter<W>) -> fmt::Result {
+        self.0.fmt_short(f)
+    }
+}
+
+#[test]
+fn long_and_short_forms(rt: HostRuntime) -> Result<(), Fail> {
+    let alloc = rt.alloc();
+    let unread = FormatString::with_value(alloc, String::from_str(alloc, "a{b}")?)?;
+    assert_eq!(rt; unread.value, text_of(alloc, &[("a{b}", Normal)])?);
+    assert_eq!(rt; unread.value.to_serialized(alloc)?.as_str(), "a\\{b\\}");
+    assert_eq!(rt;
+        unread,
+        FormatString::from_string(alloc, String::from_str(alloc, "a{b}")?)?
+    );
+    assert_eq!(rt; *unread.select(LongShortForm::Short), unread.value);
+    let both = FormatString::with_short(
+        alloc,
+        String::from_str(alloc, "Long")?,
+        String::from_str(alloc, "S")?,
+    )?;
+    assert_eq!(rt;
+        *both.select(LongShortForm::Short),
+        text_of(alloc, &[("S", Normal)])?
+    );
+    assert_eq!(rt; format!(in alloc; "{both}")?.as_str(), "Long");
+    assert_eq!(rt; format!(in alloc; "{}", ShortForm(&both))?.as_str(), "S");
+    assert_eq!(rt;
+        format!(in alloc; "{}", ShortForm(&unread))?.as_str(),
+        "a{b}"
+    );
+    assert_eq!(rt; both.try_clone(alloc)?, both);
+    assert_ne!(rt; both, unread);
+    let read = FormatString::from_str(alloc, "$x$")?;
+    let chunk = StringChunk::math(String::from_str(alloc, "x")?);
+    assert_eq!(rt; read, FormatString::from_chunk(alloc, chunk)?);
+    assert!(rt; FormatString::from_str(alloc, "}").is_err());
+    assert_eq!(rt; FormatString::new(alloc).value, ChunkedString::new(alloc));
+    Ok(())
+}
+
+fn read_if_any<T: ReadText>(alloc: Global, text: &str) -> Result<Option<T>, OutOfMemory>
+    ensures { IfOk result (λ read. option_map T.value read ≡ T.reads text.now) }
+{
+    match T::from_str(alloc, text) {
+        Ok(value) => Ok(Some(value)),
+        Err(fault) if fault.is_out_of_memory() => Err(OutOfMemory),
+        Err(_) => Ok(None),
+    }
+}
+
+#[test]
+fn reads_through_the_trait(rt: HostRuntime) -> Result<(), Fail> {
+    let alloc = rt.alloc();
+    let read: Option<ChunkedString> = read_if_any(alloc, "{a}")?;
+    assert_eq!(rt; read, Some(text_of(alloc, &[("a", Verbatim)])?));
+    let none: Option<FormatString> = read_if_any(alloc, "a}")?;
+    assert!(rt; none.is_none());
+    Ok(())
+}

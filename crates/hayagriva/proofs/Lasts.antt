@@ -1,0 +1,60 @@
+-- The last pair of a name, in lists that are mapped or grow.
+use Rattle.std.proofs.Common.{Bor, ◌≡◌, ℕ, Bool, true, false, cond, List, [], ◌∷◌, ◌++◌, Option, Some, None, map, refl, sym, ap, ◌∙◌}
+use Rattle.std.specs.Prelude.{find, option_and_then, option_map, reverse}
+use Rattle.std.specs.Str.{bytes_eq}
+use Rattle.std.proofs.lemmas.List.{reverse-append}
+use mathlib.Core.List.{reverse_aux}
+use Rattle.haya_entry.specs.declared.entry.Entry.{Entry}
+use Rattle.haya_entry.specs.Tree.{Tree, view, at}
+use Rattle.hayagriva.specs.Binds.{Found, binds, bound_to, last_of, resolved, shown}
+use Rattle.hayagriva.specs.Syntax.{Syntax}
+
+reverse_aux-map : {X Y : Type 0} (h : X → Y) (xs ys : List X) → reverse_aux (map h xs) (map h ys) ≡ map h (reverse_aux xs ys)
+reverse_aux-map h [] ys = refl
+reverse_aux-map h (x ∷ xs) ys = reverse_aux-map h xs (x ∷ ys)
+
+reverse-map : {X Y : Type 0} (h : X → Y) (xs : List X) → reverse (map h xs) ≡ map h (reverse xs)
+reverse-map h xs = reverse_aux-map h xs []
+
+pub option_map-cond : {X Y : Type 0} (h : X → Y) (b : Bool) (x : X) (o : Option X) → option_map h (cond b (Some x) o) ≡ cond b (Some (h x)) (option_map h o)
+option_map-cond h true x o = refl
+option_map-cond h false x o = refl
+
+pub option_map-map : {X Y Z : Type 0} (g : Y → Z) (h : X → Y) (o : Option X) → option_map g (option_map h o) ≡ option_map (λ x. g (h x)) o
+option_map-map g h None = refl
+option_map-map g h (Some x) = refl
+
+find-map : {X Y : Type 0} (p : Y → Bool) (h : X → Y) (xs : List X) → find p (map h xs) ≡ option_map h (find (λ x. p (h x)) xs)
+find-map p h [] = refl
+find-map p h (x ∷ xs) = rw (find-map p h xs, option_map-cond) refl
+
+-- of pairs that are made of the items of a list
+pub last_of-map : {X A : Type 0} (q : List ℕ) (name : X → List ℕ) (value : X → A) (xs : List X)
+    → last_of q (map (λ x. (name x, value x)) xs) ≡ option_map value (find (λ x. bytes_eq (name x) q) (reverse xs))
+last_of-map {X} {A} q name value xs = rw (reverse-map, find-map, option_map-map) refl
+
+-- of pairs whose second parts are changed
+pub last_of-second : {A B : Type 0} (q : List ℕ) (f : A → B) (pairs : List (List ℕ × A))
+    → last_of q (map (λ p. (p.0, f p.1)) pairs) ≡ option_map f (last_of q pairs)
+last_of-second q f pairs = last_of-map q (λ p. p.0) (λ p. f p.1) pairs ∙ sym (option_map-map f (λ p. p.1) _)
+
+pub last_of-push : {A : Type 0} (q : List ℕ) (pairs : List (List ℕ × A)) (n : List ℕ) (v : A)
+    → last_of q (pairs ++ (n, v) ∷ []) ≡ cond (bytes_eq n q) (Some v) (last_of q pairs)
+last_of-push q pairs n v = rw (reverse-append, option_map-cond) refl
+
+joined : {X Y : Type 0} (h : X → Y) (o : Option X) → option_and_then (λ p. p) (option_map (λ x. Some (h x)) o) ≡ option_map h o
+joined h None = refl
+joined h (Some x) = refl
+
+joined-map : {X Y : Type 0} (h : X → Option Y) (o : Option X) → option_and_then (λ p. p) (option_map h o) ≡ option_and_then h o
+joined-map h None = refl
+joined-map h (Some x) = refl
+
+-- the last of what was found at an entry is what the name is bound to there
+pub last_is_bound : (s : Syntax) (x : Tree) (found : Found) (q : List ℕ) (o : Option (Bor Entry)) → shown found ≡ resolved (at x) (binds s x) → option_map (λ e. e.now) o ≡ last_of q found
+    → option_map (λ e. view e.now) o ≡ bound_to s x q
+last_is_bound s x found q o h e =
+    let both : option_map (λ e. Some (view e)) (last_of q found) ≡ option_map (at x) (last_of q (binds s x)) =
+        sym (last_of-second q (λ e. Some (view e)) found) ∙ ap (last_of q) h ∙ last_of-second q (at x) (binds s x) in
+    sym (option_map-map view (λ e. e.now) o) ∙ ap (option_map view) e
+    ∙ sym (joined view (last_of q found)) ∙ ap (option_and_then (λ p. p)) both ∙ joined-map (at x) (last_of q (binds s x))

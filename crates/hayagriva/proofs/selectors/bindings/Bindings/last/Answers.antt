@@ -1,0 +1,27 @@
+use Rattle.std.proofs.Common.{rules, ◌≡◌, ◌∙◌, List, ℕ, Option, None, Some, Bor, sym, ap, arith, map}
+use Rattle.std.specs.Prelude.{find, option_map, reverse}
+use Rattle.std.specs.Str.{bytes_eq}
+use Rattle.std.proofs.lemmas.Grind.{common_steps}
+use Rattle.std.proofs.lemmas.Iterator.Adapters.{YieldsList-from_rev_slice}
+use Rattle.std.proofs.lemmas.Iterator.Search.{find_from_yields_List}
+use borrow.Author.Tests.{tests}
+use Rattle.haya_entry.specs.declared.entry.Entry.{Entry}
+use Rattle.hayagriva.specs.Binds.{Found, last_of}
+use Rattle.hayagriva.proofs.Lasts.{last_of-map, option_map-map}
+use Rattle.hayagriva.proofs.selectors.bindings.Bindings.last.Goals as goal
+
+last_found : (q : List ℕ) (items : List (Bor (List ℕ) × Bor Entry)) (found : Found) (o : Option (Bor (Bor (List ℕ) × Bor Entry))) (r : Option (Bor Entry))
+    → map (λ p. (p.0.now, p.1.now)) items ≡ found
+    → option_map (λ y. y.now) o ≡ find (λ p. bytes_eq p.0.now q) (reverse items)
+    → r ≡ option_map (λ y. y.now.1) o
+    → option_map (λ e. e.now) r ≡ last_of q found
+last_found q items found o r m e h =
+    rw (h, ← m, last_of-map q (λ p. p.0.now) (λ p. p.1.now) items, ← e, option_map-map, option_map-map)
+
+pub returns : goal.returns
+returns c =
+    let q = c.args.name.now in
+    let items = c.self.inside.pairs.items in
+    let e = find_from_yields_List (λ p. bytes_eq p.0.now q) _ _ c.find-pair.result c.find-pair.ensures.ran
+        (YieldsList-from_rev_slice items (search rules)) (λ x b q k. search (rules, tests)) in
+    last_found q items c.args.self.now c.find-pair.result c.map.result c.self.view_is e (search rules)

@@ -1,0 +1,20 @@
+-- Places of a list, counted from 0.
+use Rattle.std.specs.Prelude.{ℕ, ◌+◌, Bool, not, ◌==◌, List, filter, length, take, slice_get}
+use Rattle.std.specs.List.{list_any, position_or_len, range_with_len}
+use Rattle.std.specs.Option.{option_map_or}
+
+-- all places
+abbrev pub places : {X : Type 0} → List X → List ℕ
+places xs = range_with_len 0 (length xs)
+
+-- the places that aren't among those that are taken
+abbrev pub free_places : {X : Type 0} → List X → List ℕ → List ℕ
+free_places xs taken = filter (λ i. not (list_any (λ t. t == i) taken)) (places xs)
+
+-- what f answers of the item at a place; other where there is none
+abbrev pub at_place : {X A : Type 0} → A → (X → A) → List X → ℕ → A
+at_place other f xs i = option_map_or f (slice_get xs i) other
+
+-- the items up to the first that passes, with that one
+abbrev pub up_to : {X : Type 0} → (X → Bool) → List X → List X
+up_to passes xs = take (position_or_len passes xs + 1) xs

@@ -1,0 +1,38 @@
+ghost use Rattle.std.specs.Prelude.{◌≡◌, IfOk, option_map};
+ghost use Rattle.haya_entry.specs.Tree.{Tree, view};
+ghost use Rattle.hayagriva.specs.Binds.{found_bound};
+ghost use Rattle.hayagriva.specs.Syntax.{syntax};
+
+use crate::Selector;
+use haya_entry::Entry;
+use haya_text::OutOfMemory;
+use std::alloc::Global;
+
+/// What a selector's names can be asked of.
+pub trait BoundSelect {
+    // The entry, by value.
+    ghost asked: { Self → Tree };
+
+    /// The entry that the selector bound the name to last here. `None` where the selector doesn't
+    /// hold here, or doesn't bind the name. Refused with `OutOfMemory` alone.
+    fn bound_select(
+        &self,
+        alloc: Global,
+        selector: &Selector,
+        name: &str,
+    ) -> Result<Option<&Entry>, OutOfMemory>
+        ensures { IfOk result (λ o. option_map (λ e. view e.now) o ≡ found_bound (syntax selector.now) (asked self.now) name.now) };
+}
+
+impl BoundSelect for Entry {
+    ghost asked = { view };
+
+    fn bound_select(
+        &self,
+        alloc: Global,
+        selector: &Selector,
+        name: &str,
+    ) -> Result<Option<&Entry>, OutOfMemory> {
+        selector.bound(alloc, self, name)
+    }
+}

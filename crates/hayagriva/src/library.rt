@@ -1,0 +1,180 @@
+ghost use Rattle.std.specs.Prelude.{◌≡◌, ◌↔◌, [], List, length, map, option_map, slice_get, IsTrue, OnOk, OnErr, IfOk};
+ghost use Rattle.std.specs.Iterator.{Drains, IsFinite};
+ghost use Rattle.haya_entry.specs.declared.entry.Entry.{Entry as EntryData};
+ghost use Rattle.haya_entry.specs.Tree.{view};
+ghost use Rattle.hayagriva.specs.Library.{key_of, found, pushed, all_pushed, removed, AreDistinct};
+
+mod iter;
+#[cfg(test)]
+mod tests;
+
+use haya_entry::Entry;
+use haya_text::OutOfMemory;
+use indexmap::IndexMap;
+pub use iter::{Entries, IntoEntries, Keys};
+use std::alloc::Global;
+use std::marker::Model;
+
+/// Entries in order, no two of which have the same key.
+#[derive(Drop)]
+pub struct Library {
+    stored: IndexMap<String, Entry>,
+}
+
+impl Model for Library {
+    ghost use Rattle.std.specs.Prelude.{List};
+    ghost use Rattle.std.specs.Coded.{coded_list};
+    ghost use Rattle.haya_entry.specs.Tree.{Tree};
+    ghost use Rattle.hayagriva.specs.Stored.{Fits, entries_of};
+    ghost use Rattle.hayagriva.specs.TreeCode.{tree_coded};
+
+    ghost Value = { List Tree };
+
+    ghost coded = { coded_list tree_coded };
+
+    ghost view = { λ l. entries_of l.stored.entries };
+
+    ghost invariant = { λ l. Fits l.stored.entries };
+}
+
+impl Library {
+    /// A library with no entries.
+    pub fn new(alloc: Global) -> Library
+        ensures { result ≡ [] }
+    {
+        Library {
+            stored: IndexMap::new(alloc),
+        }
+    }
+
+    /// A library of these entries, pushed in turn: of two with the same key, the later takes the
+    /// place of the earlier. The only error is refused memory.
+    pub fn from_entries<I: Iterator<Item = Entry> + Drop>(
+        alloc: Global,
+        entries: I,
+    ) -> Result<Library, OutOfMemory>
+        requires can_next { I.can_next entries }
+        requires ends { IsFinite (I.remaining entries) }
+        ensures { IfOk result (λ library.
+            (given : List EntryData) × Drains I.next_gives entries given × (library ≡ all_pushed (map view given))) }
+    {
+        let mut library = Library::new(alloc);
+        for entry in entries {
+            library.push(&entry)?;
+        }
+        Ok(library)
+    }
+
+    /// How many entries there are.
+    pub fn len(&self) -> usize
+        ensures { result ≡ length self.now }
+    {
+        self.stored.len()
+    }
+
+    /// Whether there are none.
+    pub fn is_empty(&self) -> bool
+        ensures { IsTrue result ↔ (self.now ≡ []) }
+    {
+        self.stored.is_empty()
+    }
+
+    /// The entry with the key, if there is one.
+    pub fn get(&self, key: &str) -> Option<&Entry>
+        ensures { option_map (λ e. view e.now) result ≡ found key.now self.now }
+    {
+        self.stored.get(key)
+    }
+
+    /// The entry at a place, if there is one. The first place is 0.
+    pub fn nth(&self, place: usize) -> Option<&Entry>
+        ensures { option_map (λ e. view e.now) result ≡ slice_get self.now place }
+    {
+        let (_, entry) = self.stored.get_index(place)?;
+        Some(entry)
+    }
+
+    /// The entries, in order.
+    pub fn iter(&self) -> Entries<'_>
+        ensures entries { result ≡ self.now }
+        ensures distinct { AreDistinct self.now }
+    {
+        Entries::new(self.stored.iter())
+    }
+
+    /// The keys, in order.
+    pub fn keys(&self) -> Keys<'_>
+        ensures { result ≡ map key_of self.now }
+    {
+        Keys::new(self.stored.keys())
+    }
+
+    /// Puts a copy of the entry in the place of the one with its key, or last if there is none.
+    /// Where memory is refused, the library is unchanged.
+    pub fn push(&mut self, entry: &Entry) -> Result<(), OutOfMemory>
+        ensures ok { OnOk result (self.new ≡ pushed (view entry.now) self.old) }
+        ensures err { OnErr result (self.new ≡ self.old) }
+    {
+        let alloc = *self.stored.allocator();
+        let copy = entry.try_clone(alloc)?;
+        let key = String::from_str(alloc, copy.key())?;
+        self.stored.insert(key, copy)?;
+        Ok(())
+    }
+
+    /// Takes the entry with the key out, if there is one, and closes up the others.
+    pub fn remove(&mut self, key: &str) -> Option<Entry>
+        ensures entry { option_map view result ≡ found key.now self.old }
+        ensures rest { self.new ≡ removed key.now self.old }
+    {
+        self.stored.shift_remove(key)
+    }
+
+    /// A copy: equal entries in the same order.
+    pub fn try_clone(&self, alloc: Global) -> Result<Library, OutOfMemory>
+        ensures { IfOk result (λ copy. copy ≡ self.now) }
+    {
+        let mut copy = Library::new(alloc);
+        for entry in self.iter() {
+            copy.push(entry)?;
+        }
+        Ok(copy)
+    }
+}
+
+impl<'a> IntoIterator for &'a Library {
+    type Item = &'a Entry;
+
+    type IntoIter = Entries<'a>;
+
+    ghost into_iter_gives = { λ library entries. entries ≡ library.now };
+
+    fn into_iter(self) -> Entries<'a> {
+        self.iter()
+    }
+}
+
+impl IntoIterator for Library {
+    type Item = Entry;
+
+    type IntoIter = IntoEntries;
+
+    ghost into_iter_gives = { λ library entries. entries ≡ library };
+
+    fn into_iter(self) -> IntoEntries {
+        IntoEntries::new(self.stored.into_iter())
+    }
+}
+
+impl PartialEq for Library {
+    ghost use Rattle.hayagriva.specs.Equality.{library_eq};
+    ghost use Rattle.hayagriva.specs.EqualityLaws.{library_laws};
+
+    ghost eq = { library_eq };
+
+    ghost laws = { library_laws };
+
+    fn eq(&self, other: &Library) -> bool {
+        self.stored == other.stored
+    }
+}

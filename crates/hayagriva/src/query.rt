@@ -1,0 +1,67 @@
+//! The entries that the selector of a text picks from a library.
+ghost use Rattle.std.specs.Prelude.{◌≡◌, ◌+◌, ◌*◌, ◌≤◌, IfOk, OnOk, sum_by};
+ghost use Rattle.std.specs.Str.{chars};
+ghost use Rattle.haya_entry.specs.Tree.{size};
+ghost use Rattle.hayagriva.specs.Calls.{calls};
+ghost use Rattle.hayagriva.specs.Fault.{Fault};
+ghost use Rattle.hayagriva.specs.Query.{AreHits, QueryGives};
+ghost use Rattle.hayagriva.specs.Reading.{TextReads, TextFails};
+ghost use Rattle.hayagriva.specs.Syntax.{Syntax, syntax, nodes};
+
+use crate::{Library, Selector, SelectorError};
+use haya_entry::{Entry, Steps};
+use haya_text::OutOfMemory;
+use std::alloc::Global;
+use std::collections::HashMap;
+
+/// An entry that a selector picks, and the entries that its names are bound to.
+#[derive(Drop)]
+pub struct Hit<'s> {
+    /// The entry of the library.
+    pub entry: &'s Entry,
+    /// For each name that the selector binds there, the entry or the ancestor that it stands for.
+    pub bindings: HashMap<String, &'s Entry>,
+}
+
+impl Library {
+    /// The entries that the selector of the text picks, in the library's order, each with its bindings.
+    ///
+    /// Refuses with the grammar's first fault where the text is no selector, and with `OutOfMemory` where
+    /// memory is refused. `steps` ticks once for each call of the evaluator: at most as often as the selector
+    /// has forms times the library has entries, with all their ancestors.
+    pub fn query<'s>(
+        &'s self,
+        alloc: Global,
+        text: &str,
+        steps: &mut Steps,
+    ) -> Result<Vec<Hit<'s>>, SelectorError>
+        ensures answer { QueryGives (chars text.now) self.now result }
+        ensures ticks { (s : Syntax) → TextReads (chars text.now) s → OnOk result (steps.new ≡ steps.old + sum_by (calls s) self.now) }
+        ensures most { (s : Syntax) → TextReads (chars text.now) s → steps.new ≤ steps.old + nodes s * sum_by size self.now }
+        ensures refused { (f : Fault) → TextFails (chars text.now) f → steps.new ≡ steps.old }
+    {
+        let selector = Selector::parse(alloc, text)?;
+        let hits = self.hits(alloc, &selector, steps)?;
+        Ok(hits)
+    }
+
+    // The entries where the selector holds.
+    fn hits<'s>(
+        &'s self,
+        alloc: Global,
+        selector: &Selector,
+        steps: &mut Steps,
+    ) -> Result<Vec<Hit<'s>>, OutOfMemory>
+        ensures hits { IfOk result (λ hits. AreHits (syntax selector.now) self.now hits.items) }
+        ensures ticks { OnOk result (steps.new ≡ steps.old + sum_by (calls (syntax selector.now)) self.now) }
+        ensures most { steps.new ≤ steps.old + nodes (syntax selector.now) * sum_by size self.now }
+    {
+        let mut hits = Vec::new(alloc);
+        'entries: for entry in self.iter() {
+            if let Some(bindings) = selector.apply_counted(alloc, entry, steps)? {
+                hits.push(Hit { entry, bindings })?;
+            }
+        }
+        Ok(hits)
+    }
+}

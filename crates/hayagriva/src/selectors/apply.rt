@@ -1,0 +1,82 @@
+ghost use Rattle.std.specs.Prelude.{◌≡◌, ◌+◌, ◌*◌, ◌≤◌, ℕ, List, IfOk, IfSome, is_some, option_map};
+ghost use Rattle.std.specs.HashMap.{get_by_text};
+ghost use Rattle.haya_entry.specs.Tree.{view, size};
+ghost use Rattle.hayagriva.specs.Binds.{bound_to, found_bound};
+ghost use Rattle.hayagriva.specs.Calls.{calls};
+ghost use Rattle.hayagriva.specs.Holds.{holds as holds_for};
+ghost use Rattle.hayagriva.specs.Syntax.{syntax, nodes};
+
+use super::bindings::Bindings;
+use super::evaluate::holds_at;
+use super::Selector;
+use haya_entry::{Entry, Steps};
+use haya_text::OutOfMemory;
+use std::alloc::Global;
+use std::collections::HashMap;
+
+impl Selector {
+    /// What the selector's names stand for at an entry: each bound name with the entry that it was
+    /// bound to last. `None` where the selector doesn't hold at the entry. Refused with
+    /// `OutOfMemory` alone.
+    pub fn apply<'e>(
+        &self,
+        alloc: Global,
+        entry: &'e Entry,
+    ) -> Result<Option<HashMap<String, &'e Entry>>, OutOfMemory>
+        ensures holds { IfOk result (λ o. is_some o ≡ holds_for (syntax self.now) (view entry.now)) }
+        ensures bound { IfOk result
+            (λ o. IfSome o (λ m. (q : List ℕ) → option_map (λ e. view e.now) (get_by_text m q) ≡ bound_to (syntax self.now) (view entry.now) q)) }
+    {
+        self.apply_counted(alloc, entry, &mut Steps::new())
+    }
+
+    /// The same, with a tick for each call of the evaluator, one for a form of the selector at an
+    /// entry, or a list of parents, that it is asked of: never more than the selector has forms times
+    /// the entry has entries.
+    #[tactic(auto, using(crate::proofs::Bounds::calls_at_most))]
+    pub fn apply_counted<'e>(
+        &self,
+        alloc: Global,
+        entry: &'e Entry,
+        steps: &mut Steps,
+    ) -> Result<Option<HashMap<String, &'e Entry>>, OutOfMemory>
+        ensures holds { IfOk result (λ o. is_some o ≡ holds_for (syntax self.now) (view entry.now)) }
+        ensures bound { IfOk result
+            (λ o. IfSome o (λ m. (q : List ℕ) → option_map (λ e. view e.now) (get_by_text m q) ≡ bound_to (syntax self.now) (view entry.now) q)) }
+        ensures ticks { IfOk result (λ _. steps.new ≡ steps.old + calls (syntax self.now) (view entry.now)) }
+        ensures most { steps.new ≤ steps.old + nodes (syntax self.now) * size (view entry.now) }
+    {
+        let mut found = Bindings::new(alloc);
+        if holds_at(self, alloc, entry, &mut found, steps)? {
+            Ok(Some(found.to_map(alloc)?))
+        } else {
+            Ok(None)
+        }
+    }
+
+    /// Whether the selector holds at an entry. Refused with `OutOfMemory` alone.
+    pub fn matches(&self, alloc: Global, entry: &Entry) -> Result<bool, OutOfMemory>
+        ensures { IfOk result (λ b. b ≡ holds_for (syntax self.now) (view entry.now)) }
+    {
+        let mut found = Bindings::new(alloc);
+        holds_at(self, alloc, entry, &mut found, &mut Steps::new())
+    }
+
+    /// The entry that a name was bound to last at an entry. `None` where the selector doesn't hold
+    /// at the entry, or doesn't bind the name. Refused with `OutOfMemory` alone.
+    pub fn bound<'e>(
+        &self,
+        alloc: Global,
+        entry: &'e Entry,
+        name: &str,
+    ) -> Result<Option<&'e Entry>, OutOfMemory>
+        ensures { IfOk result (λ o. option_map (λ e. view e.now) o ≡ found_bound (syntax self.now) (view entry.now) name.now) }
+    {
+        let mut found = Bindings::new(alloc);
+        if holds_at(self, alloc, entry, &mut found, &mut Steps::new())? {
+            Ok(found.last(name))
+        } else {
+            Ok(None)
+        }
+    }
+}

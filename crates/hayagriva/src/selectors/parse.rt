@@ -1,0 +1,165 @@
+//! Reads a selector: a function for each form.
+ghost use Rattle.std.specs.Prelude.{◌≡◌, ◌≤◌, ◌∷◌, length};
+ghost use Rattle.hayagriva.specs.Grammar.{Value, Factor, Attributes, Binding, Term, Expr};
+ghost use Rattle.hayagriva.specs.Reading.{Gives, GivesNames, GivesRun};
+ghost use Rattle.hayagriva.specs.Syntax.{syntax};
+ghost use Rattle.hayagriva.specs.Token.{Word};
+
+use super::token::{Sign, Tokens};
+use super::{Selector, SelectorError};
+use haya_entry::{EntryType, UnknownType};
+use std::alloc::Global;
+use std::str::FromStr;
+
+#[cfg(test)]
+mod tests;
+
+/// Terms with `>` between.
+#[cycle(parser)]
+pub(super) fn expr(alloc: Global, tokens: &mut Tokens<'_>) -> Result<Selector, SelectorError>
+    ensures value { Gives Expr tokens.old tokens.new result }
+    ensures shorter { length tokens.new ≤ length tokens.old }
+{
+    let mut left = term(alloc, tokens)?;
+    'chain: while tokens.eat_sign(Sign::Chevron) {
+        let right = term(alloc, tokens)?;
+        left = Selector::Ancestrage(Box::new(alloc, left)?, Box::new(alloc, right)?);
+    }
+    Ok(left)
+}
+
+/// Bindings with `|` or `&` between.
+#[cycle(parser)]
+fn term(alloc: Global, tokens: &mut Tokens<'_>) -> Result<Selector, SelectorError>
+    ensures value { Gives Term tokens.old tokens.new result }
+    ensures shorter { length tokens.new ≤ length tokens.old }
+{
+    let mut left = binding(alloc, tokens)?;
+    'runs: loop {
+        if tokens.eat_sign(Sign::Pipe) {
+            left = Selector::Alt(run(alloc, tokens, left, Sign::Pipe)?);
+        } else if tokens.eat_sign(Sign::Ampersand) {
+            left = Selector::Multi(run(alloc, tokens, left, Sign::Ampersand)?);
+        } else {
+            return Ok(left);
+        }
+    }
+}
+
+/// The members of a run of one sign, behind the first member and sign.
+#[cycle(parser)]
+fn run(
+    alloc: Global,
+    tokens: &mut Tokens<'_>,
+    first: Selector,
+    sign: Sign,
+) -> Result<Vec<Selector>, SelectorError>
+    ensures value { GivesRun sign (syntax first) tokens.old tokens.new result }
+    ensures shorter { length tokens.new ≤ length tokens.old }
+{
+    let mut members = Vec::new(alloc);
+    members.push(first)?;
+    'members: loop {
+        let member = binding(alloc, tokens)?;
+        members.push(member)?;
+        if !tokens.eat_sign(sign) {
+            return Ok(members);
+        }
+    }
+}
+
+/// Attributes, with a name and `:` before them or not.
+#[cycle(parser)]
+fn binding(alloc: Global, tokens: &mut Tokens<'_>) -> Result<Selector, SelectorError>
+    ensures value { Gives Binding tokens.old tokens.new result }
+    ensures shorter { length tokens.new ≤ length tokens.old }
+{
+    let Some(name) = tokens.eat_name() else {
+        return attributes(alloc, tokens);
+    };
+    let inner = attributes(alloc, tokens)?;
+    Ok(Selector::Binding(String::from_str(alloc, name)?, Box::new(alloc, inner)?))
+}
+
+/// A factor, with a bracket list behind it or not.
+#[cycle(parser)]
+fn attributes(alloc: Global, tokens: &mut Tokens<'_>) -> Result<Selector, SelectorError>
+    ensures value { Gives Attributes tokens.old tokens.new result }
+    ensures shorter { length tokens.new ≤ length tokens.old }
+{
+    let inner = factor(alloc, tokens)?;
+    if !tokens.eat_sign(Sign::LeftBracket) {
+        return Ok(inner);
+    }
+    let list = names(alloc, tokens)?;
+    Ok(Selector::Attr(Box::new(alloc, inner)?, list))
+}
+
+/// A value, behind any number of `!`.
+#[cycle(parser)]
+fn factor(alloc: Global, tokens: &mut Tokens<'_>) -> Result<Selector, SelectorError>
+    ensures value { Gives Factor tokens.old tokens.new result }
+    ensures shorter { length tokens.new ≤ length tokens.old }
+{
+    if !tokens.eat_sign(Sign::ExclamationMark) {
+        return value(alloc, tokens);
+    }
+    let inner = factor(alloc, tokens)?;
+    Ok(Selector::Neg(Box::new(alloc, inner)?))
+}
+
+/// A selector in parentheses, `*` or a type.
+#[cycle(parser)]
+fn value(alloc: Global, tokens: &mut Tokens<'_>) -> Result<Selector, SelectorError>
+    ensures value { Gives Value tokens.old tokens.new result }
+    ensures shorter { length tokens.new ≤ length tokens.old }
+{
+    if tokens.eat_sign(Sign::LeftParen) {
+        let inner = expr(alloc, tokens)?;
+        if !tokens.eat_sign(Sign::RightParen) {
+            return Err(SelectorError::UnbalancedParens);
+        }
+        return Ok(inner);
+    }
+    if tokens.eat_sign(Sign::Star) {
+        return Ok(Selector::Wildcard);
+    }
+    let Some(name) = tokens.eat_word() else {
+        return Err(SelectorError::MissingValue);
+    };
+    entry_type(alloc, name)
+}
+
+/// The type that an identifier names, in upper or lower case.
+fn entry_type(alloc: Global, name: &str) -> Result<Selector, SelectorError>
+    ensures { (rest : _) → Gives Value (Word name.now ∷ rest) rest result }
+{
+    let lower = name.to_ascii_lowercase(alloc)?;
+    match EntryType::from_str(&lower) {
+        Ok(kind) => Ok(Selector::Entry(kind)),
+        Err(UnknownType) => Err(SelectorError::UnknownEntryType(lower)),
+    }
+}
+
+/// The names of a bracket list, behind its `[`.
+fn names(alloc: Global, tokens: &mut Tokens<'_>) -> Result<Vec<String>, SelectorError>
+    ensures value { GivesNames tokens.old tokens.new result }
+    ensures shorter { length tokens.new ≤ length tokens.old }
+{
+    let mut list = Vec::new(alloc);
+    'list: loop {
+        if tokens.eat_sign(Sign::RightBracket) {
+            return Ok(list);
+        }
+        let Some(name) = tokens.eat_word() else {
+            return Err(SelectorError::MalformedAttribute);
+        };
+        list.push(String::from_str(alloc, name)?)?;
+        if tokens.eat_sign(Sign::RightBracket) {
+            return Ok(list);
+        }
+        if !tokens.eat_sign(Sign::Comma) {
+            return Err(SelectorError::MissingComma);
+        }
+    }
+}

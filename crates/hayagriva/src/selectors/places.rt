@@ -1,0 +1,61 @@
+ghost use Rattle.std.specs.Prelude.{◌≡◌, ◌==◌, ℕ, false, IfOk, map, option_map, string_bytes};
+ghost use Rattle.std.specs.List.{list_any};
+ghost use Rattle.haya_entry.specs.Names.{has_all as all_had};
+ghost use Rattle.haya_entry.specs.Tree.{view};
+ghost use Rattle.hayagriva.specs.Holds.{some_places, kept};
+ghost use Rattle.hayagriva.specs.Places.{places, at_place};
+
+use haya_entry::Entry;
+use haya_text::OutOfMemory;
+use std::alloc::Global;
+
+/// Whether the entry has every name.
+pub fn has_all(entry: &Entry, names: &[String]) -> bool
+    ensures { result ≡ all_had (map string_bytes names.now) (view entry.now) }
+{
+    names.iter().all(|name| entry.has(name.as_str()))
+}
+
+// The places, or none where there are no places.
+fn if_any(places: Vec<usize>) -> Option<Vec<usize>>
+    ensures { option_map (λ v. v.items) result ≡ some_places places.items }
+{
+    if places.is_empty() { None } else { Some(places) }
+}
+
+/// All places of the parents, or none where there is no parent.
+pub fn all_places(alloc: Global, parents: &[Entry]) -> Result<Option<Vec<usize>>, OutOfMemory>
+    ensures { IfOk result (λ o. option_map (λ v. v.items) o ≡ some_places (places (map view parents.now))) }
+{
+    Ok(if_any((0..parents.len()).collect(alloc)?))
+}
+
+/// The candidates that have every name, or none where no candidate does. Where there are no
+/// candidates, nothing is tested.
+pub fn kept_places(names: &[String], parents: &[Entry], candidates: Vec<usize>) -> Option<Vec<usize>>
+    ensures { option_map (λ v. v.items) result ≡ kept (map string_bytes names.now) (map view parents.now) candidates.items }
+{
+    if candidates.is_empty() {
+        return Some(candidates);
+    }
+    let mut left = candidates;
+    left.retain(|place| has_all_at(names, parents, *place));
+    if_any(left)
+}
+
+// Whether there is a parent at the place, with every name.
+fn has_all_at(names: &[String], parents: &[Entry], place: usize) -> bool
+    ensures { result ≡ at_place false (all_had (map string_bytes names.now)) (map view parents.now) place }
+{
+    match parents.get(place) {
+        Some(parent) => has_all(parent, names),
+        None => false,
+    }
+}
+
+/// Whether the place is among those that are taken.
+pub fn is_taken(taken: &[usize], place: usize) -> bool
+    ensures { result ≡ list_any (λ t. t == place) taken.now }
+{
+    taken.iter().any(|other| *other == place)
+}
