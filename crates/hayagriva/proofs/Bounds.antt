@@ -31,7 +31,7 @@ sum_by-filter-le f p [] = omega arith
 sum_by-filter-le f p (x ∷ xs) =
     let rest = sum_by-filter-le f p xs in
     elim (p x) as (λ b. sum_by f (cond b (x ∷ filter p xs) (filter p xs)) ≤ sum_by f (x ∷ xs)) [
-      true ↦ omega (arith, rest, sum_by-cons f x xs, sum_by-cons f x (filter p xs))
+      | true ↦ omega (arith, rest, sum_by-cons f x xs, sum_by-cons f x (filter p xs))
       | false ↦ omega (arith, rest, sum_by-cons f x xs)
     ]
 
@@ -75,9 +75,12 @@ mutual
   calls_on_at_most (Either ss) xs = omega (arith, first_calls_on_at_most ss xs)
   calls_on_at_most (Together ss) xs = omega (arith, greedy_calls_at_most ss xs [])
   calls_on_at_most (Under l r) xs =
-      omega (arith, first_at_most (calls (Under l r)) (1 + nodes l + nodes r)
-        (λ x. omega (arith, size_is x, calls_at_most l x, calls_on_at_most r (parents x), either_at_most (holds l x) (calls_on r (parents x)) 0, ap (λ n. nodes r * n) (size_is x)))
-        (holds (Under l r)) xs)
+      omega (
+        arith,
+        first_at_most (calls (Under l r)) (1 + nodes l + nodes r)
+            (λ x. omega (arith, size_is x, calls_at_most l x, calls_on_at_most r (parents x), either_at_most (holds l x) (calls_on r (parents x)) 0, ap (λ n. nodes r * n) (size_is x)))
+            (holds (Under l r)) xs,
+      )
 
   first_calls_on_at_most : (ss : Syntaxes) (xs : List Tree) → first_calls_on ss xs ≤ nodes_of_all ss * (1 + total xs)
   first_calls_on_at_most none xs = omega arith
@@ -89,10 +92,10 @@ mutual
   greedy_calls_at_most (more s ss) xs taken =
       let here = free_at_most (calls s) (nodes s) (calls_at_most s) (holds s) xs taken in
       let rest : option_map_or (λ i. greedy_calls ss xs (taken ++ i ∷ [])) (least_free (holds s) xs taken) 0 ≤ nodes_of_all ss * total xs =
-          elim (least_free (holds s) xs taken) as (λ o. option_map_or (λ i. greedy_calls ss xs (taken ++ i ∷ [])) o 0 ≤ nodes_of_all ss * total xs) [
-            None ↦ omega arith
-            | Some i ↦ greedy_calls_at_most ss xs (taken ++ i ∷ [])
-          ] in
+      elim (least_free (holds s) xs taken) as (λ o. option_map_or (λ i. greedy_calls ss xs (taken ++ i ∷ [])) o 0 ≤ nodes_of_all ss * total xs) [
+        | None ↦ omega arith
+        | Some i ↦ greedy_calls_at_most ss xs (taken ++ i ∷ [])
+      ] in
       omega (arith, here, rest)
 
 -- one tick before

@@ -18,7 +18,7 @@ pub up_to-cons : {X : Type 0} (p : X → Bool) (x : X) (xs : List X) → up_to p
 up_to-cons p x xs =
     let next : 1 + position_or_len p xs + 1 ≡ suc (position_or_len p xs + 1) = omega arith in
     elim (p x) as (λ b. take (cond (not b) (1 + position_or_len p xs) 0 + 1) (x ∷ xs) ≡ x ∷ cond b [] (take (position_or_len p xs + 1) xs)) [
-      true ↦ refl
+      | true ↦ refl
       | false ↦ ap (λ n. take n (x ∷ xs)) next
     ]
 
@@ -26,7 +26,7 @@ pub sum_by-up_to : {X : Type 0} (f : X → ℕ) (p : X → Bool) (x : X) (xs : L
 sum_by-up_to f p x xs =
     ap (sum_by f) (up_to-cons p x xs)
     ∙ (elim (p x) as (λ b. sum_by f (x ∷ cond b [] (up_to p xs)) ≡ f x + cond b 0 (sum_by f (up_to p xs))) [
-      true ↦ sum_by-cons f x []
+      | true ↦ sum_by-cons f x []
       | false ↦ sum_by-cons f x (up_to p xs)
     ])
 
@@ -68,7 +68,7 @@ position-cons : {X : Type 0} (p : X → Bool) (x : X) (xs : List X) → position
 position-cons p x xs =
     let at = λ (b : Bool). cond (not b) (1 + position_or_len p xs) 0 in
     elim (p x) as (λ b. cond (nat_lt (at b) (suc (length xs))) (Some (at b)) None ≡ cond b (Some 0) (option_map (λ j. 1 + j) (position p xs))) [
-      true ↦ grind (arith, nat_tests)
+      | true ↦ grind (arith, nat_tests)
       | false ↦ one_later (position_or_len p xs) (length xs)
     ]
 

@@ -19,15 +19,15 @@ pub each-greedy : (ss : Syntaxes) (xs : List Tree) (taken : List ℕ) (is : List
 each-greedy none xs taken is e = refl
 each-greedy (more s ss) xs taken is e =
     (elim (least_free (holds s) xs taken) as (λ o. option_and_then (λ i. option_map (λ is. i ∷ is) (greedy ss xs (taken ++ i ∷ []))) o ≡ Some is
-        → each_binds (more s ss) xs is ≡ option_map_or (λ i. led (binds s) xs i ++ greedy_binds ss xs (taken ++ i ∷ [])) o []) [
-      None ↦ λ h. absurd (cc)
+    → each_binds (more s ss) xs is ≡ option_map_or (λ i. led (binds s) xs i ++ greedy_binds ss xs (taken ++ i ∷ [])) o []) [
+      | None ↦ λ h. absurd (cc)
       | Some i ↦ (elim (greedy ss xs (taken ++ i ∷ [])) as (λ o. greedy ss xs (taken ++ i ∷ []) ≡ o → option_map (λ is. i ∷ is) o ≡ Some is
           → each_binds (more s ss) xs is ≡ led (binds s) xs i ++ greedy_binds ss xs (taken ++ i ∷ [])) [
-        None ↦ λ g h. absurd (cc)
-        | Some js ↦ λ g h.
-            let e : i ∷ js ≡ is = cc in
-            rw (← e) (ap (λ pairs. led (binds s) xs i ++ pairs) (each-greedy ss xs (taken ++ i ∷ []) js g))
-      ]) refl
+            | None ↦ λ g h. absurd (cc)
+            | Some js ↦ λ g h.
+                let e : i ∷ js ≡ is = cc in
+                rw (← e) (ap (λ pairs. led (binds s) xs i ++ pairs) (each-greedy ss xs (taken ++ i ∷ []) js g))
+          ]) refl
     ]) e
 
 -- the places that are taken in the end, with those that were taken before

@@ -55,6 +55,6 @@ pub last_is_bound : (s : Syntax) (x : Tree) (found : Found) (q : List ℕ) (o : 
     → option_map (λ e. view e.now) o ≡ bound_to s x q
 last_is_bound s x found q o h e =
     let both : option_map (λ e. Some (view e)) (last_of q found) ≡ option_map (at x) (last_of q (binds s x)) =
-        sym (last_of-second q (λ e. Some (view e)) found) ∙ ap (last_of q) h ∙ last_of-second q (at x) (binds s x) in
+    sym (last_of-second q (λ e. Some (view e)) found) ∙ ap (last_of q) h ∙ last_of-second q (at x) (binds s x) in
     sym (option_map-map view (λ e. e.now) o) ∙ ap (option_map view) e
     ∙ sym (joined view (last_of q found)) ∙ ap (option_and_then (λ p. p)) both ∙ joined-map (at x) (last_of q (binds s x))

@@ -101,7 +101,7 @@ find_in : (test : ℕ → Bool) (xs : List Tree) (is : List ℕ) → In xs is �
 find_in test xs [] h = tt
 find_in test xs (i ∷ is) h =
     elim (test i) as (λ b. IfSome (cond b (Some i) (find test is)) (λ j. j < length xs)) [
-      true ↦ All-head (λ j. j < length xs) i is h
+      | true ↦ All-head (λ j. j < length xs) i is h
       | false ↦ find_in test xs is (All-tail (λ j. j < length xs) i is h)
     ]
 
@@ -112,9 +112,9 @@ greedy_in : (ss : Syntaxes) (xs : List Tree) (taken : List ℕ) → IfSome (gree
 greedy_in none xs taken = All-nil _
 greedy_in (more s ss) xs taken =
     (elim (least_free (holds s) xs taken) as (λ o. IfSome o (λ i. i < length xs) → IfSome (option_and_then (λ i. option_map (λ is. i ∷ is) (greedy ss xs (taken ++ i ∷ []))) o) (In xs)) [
-      None ↦ λ h. tt
+      | None ↦ λ h. tt
       | Some i ↦ λ h. (elim (greedy ss xs (taken ++ i ∷ [])) as (λ o. IfSome o (In xs) → IfSome (option_map (λ is. i ∷ is) o) (In xs)) [
-        None ↦ λ g. tt
+        | None ↦ λ g. tt
         | Some is ↦ λ g. All-cons (λ j. j < length xs) i is h g
       ]) (greedy_in ss xs (taken ++ i ∷ []))
     ]) (free_in (holds s) xs taken)
@@ -135,7 +135,7 @@ mutual
   first_candidates_in none xs = tt
   first_candidates_in (more s ss) xs =
       (elim (candidates s xs) as (λ o. IfSome o (In xs) → IfSome (option_or o (first_candidates ss xs)) (In xs)) [
-        None ↦ λ h. first_candidates_in ss xs
+        | None ↦ λ h. first_candidates_in ss xs
         | Some is ↦ λ h. h
       ]) (candidates_in s xs)
 

@@ -16,3 +16,8 @@ pub mod Holds
 pub mod Binds
 pub mod Calls
 pub mod Query
+pub use Rattle.haya_entry.specs.EntryType
+pub use Rattle.haya_entry.specs.SerialNumber
+pub use Rattle.haya_entry.specs.Tree
+pub use Rattle.haya_entry.specs.Names
+pub use Rattle.haya_text.specs.Texts

@@ -1,12 +1,12 @@
 -- The row that a line's items make.
-use Rattle.std.proofs.Common.{◌≡◌, ℕ, ◌≤◌, List, [], ◌∷◌, Option, None, Some, Result, Ok, Err, length, map, take, drop, get_or, ◌-◌, refl, sym, ap, ◌∙◌, subst, arith, rules, tests}
+use Rattle.std.proofs.Common.{◌⊎◌, inl, inr, ⊎_elim, ◌≡◌, ℕ, ◌≤◌, List, [], ◌∷◌, Option, None, Some, Result, Ok, Err, length, map, take, drop, get_or, ◌-◌, refl, sym, ap, ◌∙◌, subst, arith, rules, tests}
 use Rattle.std.specs.Prelude.{IsOkAnd, IfOk, ok_or}
 use Rattle.std.proofs.lemmas.List.{take_all}
 use Rattle.hayagriva.specs.declared.types.EntryType.{EntryType}
 use Rattle.hayagriva.specs.EntryType.{type_read}
 use Rattle.hayagriva.specs.Tree.{Tree, Fields, fields, with_fields, bare}
 use Rattle.hayagriva_query.specs.declared.fault.LineFault.{LineFault}
-use Rattle.hayagriva_query.specs.declared.fault.LineFault.TheVariants.{Depth, UnknownType}
+use Rattle.hayagriva_query.specs.declared.fault.LineFault.TheVariants.{Depth, OutOfMemory, UnknownType}
 use Rattle.hayagriva_query.specs.Input.{Row, and_then, leaf, depth_read, fields_read, row_read}
 
 joined : {K : Type 0} (depth : Option ℕ) (kind : Option K) (read : K → Result Fields LineFault) (n : ℕ) (k : K) (P : Fields → Type 0)
@@ -74,3 +74,15 @@ row_taken m deepest items n entry Q same = subst (λ d. Read d → All → Taken
     by : (r : Result Row LineFault) → IfOk r (λ row. row.depth ≤ deepest) → IsOkAnd r (λ row. (n ≡ row.depth) × (entry ≡ leaf row.fields)) → All → IsOkAnd r Q
     by (Ok row) within h all = all row h.0 (omega arith) h.1
     by (Err e) within h all = h
+
+-- a fault of the fields is the row's
+pub row_read-err : {X : Type 0} (text : X → List ℕ) (items : List X) (x : X) (deepest n : ℕ) (k : EntryType) (first : Tree) (e : LineFault) → 3 ≤ length items
+    → depth_read deepest (text (get_or items 0 x)) ≡ Some n → type_read (text (get_or items 2 x)) ≡ Some k → first ≡ bare (text (get_or items 1 x)) k
+    → (e ≡ OutOfMemory) ⊎ (fields_read (fields first) (map text (take (length items - 3) (drop 3 items))) ≡ Err e)
+    → (e ≡ OutOfMemory) ⊎ (row_read deepest (map text items) ≡ Err e)
+row_read-err text (a ∷ b ∷ c ∷ more) x deepest n k first e three d t made fault =
+    let rest : take (length (a ∷ b ∷ c ∷ more) - 3) more ≡ more = take_all _ more (omega arith) in
+    ⊎_elim (λ h. inl h)
+    (λ h. let same : fields_read (fields (bare (text b) k)) (map text more) ≡ Err e = rw (made, rest) at h in
+    inr (rw (d, t) (ap (λ r. and_then r (λ f. Ok (record { depth = n; fields = f }))) same))) fault
+row_read-err text _ x deepest n k first e three d t made fault = absurd (omega arith)

@@ -6,8 +6,7 @@ use Rattle.std.specs.Str.{bytes_eq}
 use Rattle.std.specs.Str.Lines.{lines}
 use Rattle.std.specs.Str.Parse.{digits_value}
 use Rattle.hayagriva.specs.EntryType.{type_read}
-use Rattle.hayagriva.specs.Names.{serial_names}
-use Rattle.hayagriva.specs.Serials.{with_serial}
+use Rattle.hayagriva.specs.SerialNumber.{with_serial}
 use Rattle.hayagriva.specs.Tree.{Tree, Trees, Fields, node, no_trees, one_more, trees, fields, bare}
 use Rattle.hayagriva.specs.Library.{all_pushed}
 use Rattle.hayagriva_query.specs.declared.fault.LineFault.{LineFault}
@@ -35,6 +34,10 @@ depth_read deepest item = if is_depth deepest item then Some (digits_value 10 it
 -- a name and a value: what stands before the first `=`, and what stands behind it
 abbrev pub named : List ℕ → Option (List ℕ × List ℕ)
 named item = option_map (λ i. (take i item, drop (i + 1) item)) (position (λ b. b == 61) item)
+
+-- the serial numbers that have a name of their own
+abbrev pub serial_names : List (List ℕ)
+serial_names = codes "doi" ∷ codes "isbn" ∷ codes "issn" ∷ codes "pmid" ∷ codes "pmcid" ∷ codes "arxiv" ∷ []
 
 -- the fields with this value under this name, if it is a name of the input
 abbrev pub field_set : List ℕ → List ℕ → Fields → Option Fields

@@ -86,18 +86,16 @@ fn is_all_digits(item: &str) -> bool
 }
 
 // Sets the field with this name, in the place of what was there.
-fn set_field(
-    alloc: Global,
-    entry: &mut Entry,
-    name: &str,
-    value: &str,
-) -> Result<(), LineFault>
+fn set_field(alloc: Global, entry: &mut Entry, name: &str, value: &str) -> Result<(), LineFault>
     ensures ok { OnOk result (IsSomeAnd (field_set name.now value.now (fields (view entry.old))) (λ f. view entry.new ≡ with_fields (λ _. f) (view entry.old))) }
     ensures fault { IfErr result (λ e. (e ≡ OutOfMemory) ⊎ ((e ≡ UnknownField) × (field_set name.now value.now (fields (view entry.old)) ≡ None))) }
 {
     match name {
         "language" => entry.set_language(String::from_str(alloc, value)?),
-        "serial-number" => entry.set_keyed_serial_number("serial", String::from_str(alloc, value)?)?,
+        "serial-number" => entry.set_keyed_serial_number(
+            "serial",
+            String::from_str(alloc, value)?,
+        )?,
         "doi" | "isbn" | "issn" | "pmid" | "pmcid" | "arxiv" => {
             entry.set_keyed_serial_number(name, String::from_str(alloc, value)?)?;
         }

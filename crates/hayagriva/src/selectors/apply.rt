@@ -6,9 +6,9 @@ ghost use Rattle.hayagriva.specs.Calls.{calls};
 ghost use Rattle.hayagriva.specs.Holds.{holds as holds_for};
 ghost use Rattle.hayagriva.specs.Syntax.{syntax, nodes};
 
+use super::Selector;
 use super::bindings::Bindings;
 use super::evaluate::holds_at;
-use super::Selector;
 use haya_entry::{Entry, Steps};
 use haya_text::OutOfMemory;
 use std::alloc::Global;

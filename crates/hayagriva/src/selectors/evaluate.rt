@@ -8,9 +8,9 @@ ghost use Rattle.hayagriva.specs.Holds.{holds, some_holds, candidates, first_alo
 ghost use Rattle.hayagriva.specs.Places.{up_to};
 ghost use Rattle.hayagriva.specs.Syntax.{syntax, syntaxes};
 
+use super::Selector;
 use super::bindings::Bindings;
 use super::places::{all_places, has_all, is_taken, kept_places};
-use super::Selector;
 use haya_entry::{Entry, Steps};
 use haya_text::OutOfMemory;
 use std::alloc::Global;

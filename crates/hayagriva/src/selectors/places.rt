@@ -20,7 +20,11 @@ pub fn has_all(entry: &Entry, names: &[String]) -> bool
 fn if_any(places: Vec<usize>) -> Option<Vec<usize>>
     ensures { option_map (λ v. v.items) result ≡ some_places places.items }
 {
-    if places.is_empty() { None } else { Some(places) }
+    if places.is_empty() {
+        None
+    } else {
+        Some(places)
+    }
 }
 
 /// All places of the parents, or none where there is no parent.
@@ -32,7 +36,11 @@ pub fn all_places(alloc: Global, parents: &[Entry]) -> Result<Option<Vec<usize>>
 
 /// The candidates that have every name, or none where no candidate does. Where there are no
 /// candidates, nothing is tested.
-pub fn kept_places(names: &[String], parents: &[Entry], candidates: Vec<usize>) -> Option<Vec<usize>>
+pub fn kept_places(
+    names: &[String],
+    parents: &[Entry],
+    candidates: Vec<usize>,
+) -> Option<Vec<usize>>
     ensures { option_map (λ v. v.items) result ≡ kept (map string_bytes names.now) (map view parents.now) candidates.items }
 {
     if candidates.is_empty() {

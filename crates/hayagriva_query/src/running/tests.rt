@@ -54,11 +54,23 @@ fn texts(alloc: Global, all: &[&str]) -> Result<Vec<String>, AllocError> {
 fn prints_a_line_for_each_hit(rt: HostRuntime) -> Result<(), Fail> {
     let cases = [
         (ARTICLES, "article[doi] > periodical", "dependence\n"),
-        (ARTICLES, "* > (periodical | blog)", "dependence\nfeminism\n"),
+        (
+            ARTICLES,
+            "* > (periodical | blog)",
+            "dependence\nfeminism\n",
+        ),
         (ARTICLES, "article > b:periodical", "dependence\tb=toplas\n"),
         (SMALL, "*[doi] | *[language]", "paper\nnote\n"),
-        (SMALL, "article > (j:periodical > w:*[language])", "paper\tj=journal\tw=site\n"),
-        (SMALL, "article > (w:periodical > j:*[language])", "paper\tj=site\tw=journal\n"),
+        (
+            SMALL,
+            "article > (j:periodical > w:*[language])",
+            "paper\tj=journal\tw=site\n",
+        ),
+        (
+            SMALL,
+            "article > (w:periodical > j:*[language])",
+            "paper\tj=site\tw=journal\n",
+        ),
         (SMALL, "(article > j:periodical) > w:*[language]", ""),
         (SMALL, "a:* > a:*", "paper\ta=journal\n"),
         (SMALL, "* > !blog", "paper\nnote\n"),
@@ -73,11 +85,23 @@ fn prints_a_line_for_each_hit(rt: HostRuntime) -> Result<(), Fail> {
         // what a line may be, and what stays as it is
         ("\n\r\n0\ta\tbook\r\n\n0\tb\tBook\n\n", "book", "a\nb\n"),
         ("000\ta\tbook\n00\tb\tweb", "*", "a\nb\n"),
-        ("0\t\tbook\n0\t =\r\u{FEFF}k\tweb\n", "*", "\n =\r\u{FEFF}k\n"),
+        (
+            "0\t\tbook\n0\t =\r\u{FEFF}k\tweb\n",
+            "*",
+            "\n =\r\u{FEFF}k\n",
+        ),
         ("0\ta\tbook\tlanguage=en\r", "*[language]", "a\n"),
         ("0\ta\tbook\tdoi=\tdoi=x=y\n", "*[doi]", "a\n"),
-        ("0\ta\tbook\tserial-number=1\n0\tb\tweb\n", "*[serial-number]", "a\n"),
-        ("0\ta\tbook\tisbn=1\tissn=2\tpmid=3\tpmcid=4\tarxiv=5\n", "*[isbn, issn, pmid, pmcid, arxiv]", "a\n"),
+        (
+            "0\ta\tbook\tserial-number=1\n0\tb\tweb\n",
+            "*[serial-number]",
+            "a\n",
+        ),
+        (
+            "0\ta\tbook\tisbn=1\tissn=2\tpmid=3\tpmcid=4\tarxiv=5\n",
+            "*[isbn, issn, pmid, pmcid, arxiv]",
+            "a\n",
+        ),
     ];
     for (input, selector, printed) in cases {
         let end = run_on(rt.alloc(), &[selector], input.as_bytes())?;
@@ -106,7 +130,11 @@ fn prints_nothing_at_a_fault(rt: HostRuntime) -> Result<(), Fail> {
         ("*", b"0\ta\tbook\t", "line 1: shape"),
         ("*", b"0\ta\tbook\tlanguage\ttitle=a", "line 1: shape"),
         ("*", b"0\ta\tbook\n2\tb\tweb", "line 2: depth"),
-        ("*", b"0\ta\tbook\n1\tb\tweb\n0\tc\tweb\n2\td\tweb", "line 4: depth"),
+        (
+            "*",
+            b"0\ta\tbook\n1\tb\tweb\n0\tc\tweb\n2\td\tweb",
+            "line 4: depth",
+        ),
         ("*", b"\ta\tbook", "line 1: depth"),
         ("*", b" 0\ta\tbook", "line 1: depth"),
         ("*", b"+0\ta\tbook", "line 1: depth"),
@@ -183,8 +211,16 @@ fn says_that_it_cannot_read(rt: HostRuntime) -> Result<(), Fail> {
                 };
                 let status = run(rt.alloc(), words.as_slice(), &mut input, &mut out, &mut err);
                 assert_eq!(rt; status == 0, good >= wanted, "{step} {good}");
-                assert_eq!(rt; out.as_slice() == b"note\n".as_slice(), good >= wanted, "{step} {good}");
-                assert_eq!(rt; err.as_slice() == b"cannot read\n".as_slice(), good < wanted, "{step} {good}");
+                assert_eq!(rt;
+                    out.as_slice() == b"note\n".as_slice(),
+                    good >= wanted,
+                    "{step} {good}"
+                );
+                assert_eq!(rt;
+                    err.as_slice() == b"cannot read\n".as_slice(),
+                    good < wanted,
+                    "{step} {good}"
+                );
             }
         }
     }

@@ -36,7 +36,7 @@ first_free-returns-in_err-holds_at-clause-ticks t c =
     MatchResult-from_err c.from_residual.result _ _ (search rules) (λ _. omega (arith, m, c.loop-place.invariant.1, c.in_err-holds_at.ensures.ticks))
 
 pub first_free-returns-then-branch-clause-answer : goal.first_free-returns-then-branch-clause-answer
-first_free-returns-then-branch-clause-answer t c = 
+first_free-returns-then-branch-clause-answer t c =
     let s = syntax c.args.selector.now in
     let m = met_yes (holds s) (calls s) c.args.parents.now c.args.taken.now c.loop-place.place c.index-parents-place.result (omega arith) (search rules) (search rules) (search rules) in
     sym m.0 ∙ c.loop-place.invariant.0
@@ -56,13 +56,13 @@ first_free-returns-then-branch-clause-ticks t c =
     omega (arith, m.1, c.loop-place.invariant.1, c.in_ok-holds_at.ensures.ticks)
 
 pub first_free-returns-clause-answer : goal.first_free-returns-clause-answer
-first_free-returns-clause-answer t c = 
+first_free-returns-clause-answer t c =
     let s = syntax c.args.selector.now in
     let w = walked (holds s) (calls s) c.args.parents.now c.args.taken.now c.loop-place.place (search rules) in
     sym w.0 ∙ c.loop-place.invariant.0
 
 pub first_free-returns-clause-ticks : goal.first_free-returns-clause-ticks
-first_free-returns-clause-ticks t c = 
+first_free-returns-clause-ticks t c =
     let s = syntax c.args.selector.now in
     let w = walked (holds s) (calls s) c.args.parents.now c.args.taken.now c.loop-place.place (search rules) in
     omega (arith, w.1, c.loop-place.invariant.1)
@@ -84,7 +84,7 @@ each_takes_one-loop-member-preserved t c =
       sym (taken_some s rest xs taken i e) ∙ inv.0,
       omega (arith, inv.1, calls_some s rest xs taken i e, rw d at c.in_ok-place.ensures.ticks),
       bound_next s rest xs taken i e (shown c.loop-member.found) _ _ inv.2 k,
-      kept_next old (shown c.loop-member.found) _ _ inv.3 k
+      kept_next old (shown c.loop-member.found) _ _ inv.3 k,
     )
 
 pub each_takes_one-returns-in_err-place-clause-ticks : goal.each_takes_one-returns-in_err-place-clause-ticks
@@ -140,12 +140,12 @@ candidates_on-returns-in-Binding-clause-bound t c =
     let h = rw (c.in-Some-2.is, c.deref-in-Binding.ensures) at c.in_ok-candidates_on-in-Binding.ensures.bound in
     rw (ap syntax c.in-Binding.is ∙ syntax-binding c.in-Binding.name c.in-Binding.inner)
     (bound_named (syntax c.in-Binding.inner.value) (map view c.args.parents.now) (string_bytes c.in-Binding.name) _ (search rules) c.in-Some-2.places.items _ c.deref-in-Some-2.ensures.value _ _ _
-      e h c.in_ok-bind_first-in-Some-2.ensures)
+    e h c.in_ok-bind_first-in-Some-2.ensures)
 
 pub candidates_on-returns-in-Entry-clause-answer : goal.candidates_on-returns-in-Entry-clause-answer
 candidates_on-returns-in-Entry-clause-answer t c =
     elim c.in-Entry.is [
-      inl w ↦ let e = ap syntax w.1 ∙ syntax-entry w.0 in rw e (rw e at c.first_alone.ensures.answer)
+      | inl w ↦ let e = ap syntax w.1 ∙ syntax-entry w.0 in rw e (rw e at c.first_alone.ensures.answer)
       | inr w ↦ let e = ap syntax w.2 ∙ syntax-ancestrage w.0 w.1 in rw e (rw e at c.first_alone.ensures.answer)
     ]
 
@@ -153,7 +153,7 @@ pub candidates_on-returns-in-Entry-clause-bound : goal.candidates_on-returns-in-
 candidates_on-returns-in-Entry-clause-bound t c =
     let xs = map view c.args.parents.now in
     elim c.in-Entry.is [
-      inl w ↦ let e = ap syntax w.1 ∙ syntax-entry w.0 in rw e (rw (e, led_nothing xs (position (is_type w.0) xs)) at c.first_alone.ensures.bound)
+      | inl w ↦ let e = ap syntax w.1 ∙ syntax-entry w.0 in rw e (rw (e, led_nothing xs (position (is_type w.0) xs)) at c.first_alone.ensures.bound)
       | inr w ↦ let e = ap syntax w.2 ∙ syntax-ancestrage w.0 w.1 in rw e (rw e at c.first_alone.ensures.bound)
     ]
 
@@ -163,7 +163,7 @@ candidates_on-returns-in-Entry-clause-ticks t c =
     let more = λ (s : Syntax). ticks_more c.first_alone.result c.args.steps.now c.first_alone.new.steps (sum_by (calls s) (up_to (holds s) xs)) in
     let h = rw c.tick.ensures at c.first_alone.ensures.ticks in
     elim c.in-Entry.is [
-      inl w ↦ let e = ap syntax w.1 ∙ syntax-entry w.0 in rw e (more (OfType w.0) (rw e at h))
+      | inl w ↦ let e = ap syntax w.1 ∙ syntax-entry w.0 in rw e (more (OfType w.0) (rw e at h))
       | inr w ↦ let e = ap syntax w.2 ∙ syntax-ancestrage w.0 w.1 in rw e (more (Under (syntax w.0.value) (syntax w.1.value)) (rw e at h))
     ]
 

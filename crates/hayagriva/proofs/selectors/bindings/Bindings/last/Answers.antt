@@ -23,5 +23,5 @@ returns c =
     let q = c.args.name.now in
     let items = c.self.inside.pairs.items in
     let e = find_from_yields_List (λ p. bytes_eq p.0.now q) _ _ c.find-pair.result c.find-pair.ensures.ran
-        (YieldsList-from_rev_slice items (search rules)) (λ x b q k. search (rules, tests)) in
+    (YieldsList-from_rev_slice items (search rules)) (λ x b q k. search (rules, tests)) in
     last_found q items c.args.self.now c.find-pair.result c.map.result c.self.view_is e (search rules)
