@@ -19,3 +19,5 @@ pub mod Again
 mod SelectorsEqual
 mod ReadingRows
 mod LibraryRows
+
+pub use Rattle.haya_entry.proofs.Trees
