@@ -1,9 +1,9 @@
 -- Longest runs have the characters that they are made of, and what is read is in longest runs.
-use Rattle.std.proofs.Common.{◌≡◌, ◌≢◌, ℕ, Bool, true, false, ◌&&◌, List, [], ◌∷◌, ◌++◌, refl, ap, sym, ◌∙◌, Some, subst, arith, length, length-append}
+use Rattle.std.proofs.Common.{◌≡◌, ◌≢◌, ℕ, Bool, true, false, List, [], ◌∷◌, ◌++◌, refl, ap, sym, ◌∙◌, Some, subst, arith, length, length-append}
 use denote.Enum.Bare.{sameb, same_true, true_same}
-use lib.Utf8.{scalar, scalars, encode}
+use lib.Utf8.{scalar, scalars}
 use Rattle.std.proofs.lemmas.List.{append-nil}
-use Rattle.std.proofs.lemmas.Str.{chars-append, chars-encodes, chars-nil, scalars-chars, encodes-chars, IsUtf8-append, length-encode, len_utf8_bounds}
+use Rattle.std.proofs.lemmas.Str.{chars-append, chars-encodes, scalars-chars, encodes-chars, IsUtf8-append, length-encode, len_utf8_bounds}
 use Rattle.std.specs.Char.{encode_utf8}
 use Rattle.std.specs.Str.{IsUtf8, chars, encode_utf8_all}
 use Rattle.haya_text.specs.contracts.strings.kind.ChunkKind.{the_type}

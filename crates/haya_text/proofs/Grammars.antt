@@ -13,7 +13,8 @@ use Rattle.haya_text.specs.Chunks.{Chunk, Marked}
 use Rattle.haya_text.specs.Normal.{runs}
 use Rattle.haya_text.specs.Grammar.{Extent, closed, at_end, Alone, Body, no_body, body_plain, body_backslash, body_escape, Items, no_items, plain, backslash, escape, group, math, open_group, open_math, ReadsAs, IsRefusedAt}
 use Rattle.haya_text.specs.Printed.{is_control}
-use Rattle.haya_text.specs.Reading.{after_these, kind_in, scan, chunks_read, told}
+use Rattle.haya_text.specs.Marks.{told}
+use Rattle.haya_text.specs.Reading.{after_these, kind_in, scan, chunks_read}
 use Rattle.haya_text.specs.declared.strings.reading.Mark.{Mark}
 use Rattle.haya_text.specs.declared.strings.reading.Mark.TheVariants.{Close}
 use Rattle.haya_text.proofs.Scans.{after_these-append, after_these-nil, or-false, apart, scan-nil, scan-plain, scan-backslash, scan-escape, scan-alone, scan-dollar, scan-open}

@@ -3,7 +3,8 @@ use Rattle.std.proofs.Common.{◌≡◌, ◌≢◌, ℕ, zero, suc, Bool, true, 
 use Rattle.std.proofs.lemmas.Bool.Decides.{nat_tests}
 use Rattle.haya_text.specs.Chunks.{Marked}
 use Rattle.haya_text.specs.Printed.{is_control}
-use Rattle.haya_text.specs.Reading.{after_these, kind_in, scan, told}
+use Rattle.haya_text.specs.Marks.{told}
+use Rattle.haya_text.specs.Reading.{after_these, kind_in, scan}
 use Rattle.haya_text.specs.declared.strings.reading.Mark.TheVariants.{Open}
 use Rattle.std.specs.Prelude.{slice_get, Some}
 

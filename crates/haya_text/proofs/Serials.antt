@@ -1,15 +1,15 @@
 -- What is serialized is read back.
-use Rattle.std.proofs.Common.{◌≡◌, ℕ, Bool, true, false, cond, ◌&&◌, List, [], ◌∷◌, ◌++◌, refl, ap, sym, ◌∙◌, zero, suc, append_assoc, flat_map, Result, Ok, Err, Some}
+use Rattle.std.proofs.Common.{◌≡◌, ℕ, Bool, true, false, cond, ◌&&◌, List, [], ◌∷◌, ◌++◌, refl, ap, sym, ◌∙◌, append_assoc, flat_map, Ok, Some}
 use lib.Utf8.{scalar, scalars}
 use Rattle.std.proofs.lemmas.Str.{chars-encodes, encodes-append, encode_ascii, scalars-chars}
 use Rattle.std.proofs.Common.{lit<}
 use Rattle.std.specs.Char.{encode_utf8}
 use Rattle.std.specs.Prelude.{option_map}
 use Rattle.std.specs.Result.{result_ok}
-use Rattle.std.specs.Str.{IsUtf8, chars, encode_utf8_all}
+use Rattle.std.specs.Str.{chars, encode_utf8_all}
 use Rattle.haya_text.specs.declared.strings.kind.ChunkKind.{ChunkKind}
 use Rattle.haya_text.specs.declared.strings.kind.ChunkKind.TheVariants.{Normal, Verbatim, Math}
-use Rattle.haya_text.specs.Chunks.{Chunk, Marked, marked, characters}
+use Rattle.haya_text.specs.Chunks.{Chunk, marked, characters}
 use Rattle.haya_text.specs.Normal.{runs, norm}
 use Rattle.haya_text.specs.Printed.{is_control, escape, serialized}
 use Rattle.haya_text.specs.Reading.{after_these, kind_in, scan, chunks_read}

@@ -1,7 +1,8 @@
-pub mod Cursor
 pub mod Chunks
+pub mod Cursor
 pub mod Foldable
 pub mod Grammar
+pub mod Marks
 pub mod Normal
 pub mod Printed
 pub mod Reading

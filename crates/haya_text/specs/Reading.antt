@@ -1,5 +1,5 @@
 -- What a chunked text reads as, computed.
-use Rattle.std.specs.Prelude.{◌≡◌, ℕ, zero, suc, Bool, true, false, List, [], ◌∷◌, ◌++◌, ◌==◌, if◌then◌else◌, Option, option_map, Result, Ok, Err}
+use Rattle.std.specs.Prelude.{ℕ, zero, suc, Bool, true, false, List, [], ◌∷◌, ◌++◌, ◌==◌, if◌then◌else◌, Option, option_map, Result, Ok, Err}
 use Rattle.std.specs.Result.{result_ok}
 use Rattle.std.specs.Str.{chars}
 use Rattle.haya_text.specs.declared.strings.kind.ChunkKind.{ChunkKind}
@@ -7,10 +7,7 @@ use Rattle.haya_text.specs.declared.strings.kind.ChunkKind.TheVariants.{Normal, 
 use Rattle.haya_text.specs.declared.strings.reading.ChunkedReadError.{ChunkedReadError}
 use Rattle.haya_text.specs.declared.strings.reading.ChunkedReadError.TheVariants.{Parse, OutOfMemory}
 use Rattle.haya_text.specs.declared.strings.reading.ChunkedStrParseError.{ChunkedStrParseError}
-use Rattle.haya_text.specs.declared.strings.reading.Mark.{Mark}
-use Rattle.haya_text.specs.declared.strings.reading.Mark.TheVariants.{Plain, Open, Close, Dollar}
-use Rattle.haya_text.specs.declared.strings.reading.Reader.{Reader}
-use Rattle.haya_text.specs.Chunks.{Chunk, Marked, chunks, characters}
+use Rattle.haya_text.specs.Chunks.{Chunk, Marked}
 use Rattle.haya_text.specs.Grammar.{IsRefusedAt}
 use Rattle.haya_text.specs.Normal.{runs}
 use Rattle.haya_text.specs.Printed.{is_control}
@@ -53,29 +50,9 @@ scan (suc depth) false false (c ∷ cs) =
 abbrev pub chunks_read : List ℕ → Option (List Chunk)
 chunks_read text = option_map runs (result_ok (scan 0 false false (chars text)))
 
--- what is read of a text that begins with this mark
-abbrev pub told : ℕ → Bool → Mark → List ℕ → Result (List Marked) (List ℕ)
-told depth math (Plain c) rest = after_these ((c, kind_in depth math) ∷ []) (scan depth math false rest)
-told depth true Open rest = after_these ((123, Math) ∷ []) (scan depth true false rest)
-told depth true Close rest = after_these ((125, Math) ∷ []) (scan depth true false rest)
-told depth true Dollar rest = scan depth false false rest
-told depth false Dollar rest = scan depth true false rest
-told depth false Open rest = scan (suc depth) false false rest
-told (suc depth) false Close rest = scan depth false false rest
-told zero false Close rest = Err (125 ∷ rest)
-
--- what is read of a text where a reader stands before this rest of it
-abbrev pub standing : Reader → List ℕ → Result (List Marked) (List ℕ)
-standing r rest = after_these (characters (chunks r.read)) (scan r.depth r.math false rest)
-
 -- how many bytes stand before the brace that is refused
 abbrev pub position_of : ChunkedStrParseError → ℕ
 position_of brace = brace.position
-
--- a fault in the text is told with its place: a closing brace stands there, and no group or math is open
-abbrev pub Refuses : ℕ → Reader → Mark → ChunkedReadError → Type 0
-Refuses place r mark (Parse brace) = (position_of brace ≡ place) × (mark ≡ Close) × (r.depth ≡ 0) × (r.math ≡ false)
-Refuses place r mark OutOfMemory = Unit {0}
 
 abbrev pub is_memory : ChunkedReadError → Bool
 is_memory (Parse brace) = false

@@ -2,7 +2,8 @@ ghost use Rattle.std.specs.Prelude.{◌≡◌, ◌+◌, ◌^◌, ◌<◌, ◌≤
 ghost use Rattle.haya_text.specs.Chunks.{chunks, characters};
 ghost use Rattle.haya_text.specs.Cursor.{text_len};
 ghost use Rattle.haya_text.specs.Normal.{norm};
-ghost use Rattle.haya_text.specs.Reading.{kind_in, after_these, scan, told, standing, Refuses, chunks_read, IsRefusal};
+ghost use Rattle.haya_text.specs.Marks.{told, standing, Refuses};
+ghost use Rattle.haya_text.specs.Reading.{kind_in, after_these, scan, chunks_read, IsRefusal};
 ghost use Rattle.haya_text.specs.declared.strings.reading.Mark.TheVariants.{Close};
 
 use super::printing::is_control;

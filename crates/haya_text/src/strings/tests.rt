@@ -102,28 +102,45 @@ fn texts_are_read(rt: HostRuntime) -> Result<(), Fail> {
 fn chunks_are_pushed(rt: HostRuntime) -> Result<(), Fail> {
     let alloc = rt.alloc();
     let mut text = ChunkedString::new(alloc);
-    text.push_str("", Verbatim)?;
-    assert_eq!(rt; text, text_of(alloc, &[("", Verbatim)])?);
-    assert!(rt; text.is_empty());
-    assert_eq!(rt; text.to_serialized(alloc)?.as_str(), "{}");
-    let mut text = ChunkedString::new(alloc);
     text.push_char('a', Normal)?;
     text.push_str("b", Normal)?;
     text.push_chunk(StringChunk::normal(String::from_str(alloc, "c")?))?;
     assert_eq!(rt; text, text_of(alloc, &[("ab", Normal), ("c", Normal)])?);
     assert_eq!(rt; (text.len(), text.is_empty()), (3, false));
+    Ok(())
+}
+
+#[test]
+fn an_empty_chunk_is_pushed(rt: HostRuntime) -> Result<(), Fail> {
+    let alloc = rt.alloc();
+    let mut text = ChunkedString::new(alloc);
+    text.push_str("", Verbatim)?;
+    assert_eq!(rt; text, text_of(alloc, &[("", Verbatim)])?);
+    assert!(rt; text.is_empty());
+    assert_eq!(rt; text.to_serialized(alloc)?.as_str(), "{}");
+    Ok(())
+}
+
+#[test]
+fn a_text_is_extended(rt: HostRuntime) -> Result<(), Fail> {
+    let alloc = rt.alloc();
+    let mut text = text_of(alloc, &[("c", Normal)])?;
     text.extend(text_of(alloc, &[("é", Normal), ("x", Math)])?)?;
-    write!(text, "d")?;
-    write!(text, "e")?;
-    let all = [
-        ("ab", Normal),
-        ("c", Normal),
-        ("é", Normal),
-        ("x", Math),
-        ("de", Normal),
-    ];
+    text.write_str("d")?;
+    text.write_str("e")?;
+    let all = [("c", Normal), ("é", Normal), ("x", Math), ("de", Normal)];
     assert_eq!(rt; text, text_of(alloc, &all)?);
-    assert_eq!(rt; (text.try_clone(alloc)?, text.len()), (text, 8));
+    assert_eq!(rt; text.try_clone(alloc)?, text);
+    Ok(())
+}
+
+fn assert_shows(
+    rt: &impl Abort,
+    alloc: Global,
+    text: &ChunkedString,
+    shown: &str,
+) -> Result<(), Fail> {
+    assert_eq!(rt; format!(in alloc; "{text}")?.as_str(), shown);
     Ok(())
 }
 
@@ -131,22 +148,25 @@ fn chunks_are_pushed(rt: HostRuntime) -> Result<(), Fail> {
 fn texts_are_shown(rt: HostRuntime) -> Result<(), Fail> {
     let alloc = rt.alloc();
     let math = ChunkedString::from_chunk(alloc, StringChunk::math(String::from_str(alloc, "x")?))?;
+    assert_shows(&rt, alloc, &math, "$x$")?;
     let CowStr::Borrowed(alone) = math.to_str(alloc)? else {
         panic!(rt; "one chunk is copied")
     };
     assert_eq!(rt; alone, "x");
-    assert_eq!(rt; format!(in alloc; "{math}")?.as_str(), "$x$");
     let text = text_of(alloc, &[("a", Verbatim), ("x\\", Math)])?;
     assert_eq!(rt; text.to_str(alloc)?.as_str(), "a$x\\$");
     assert_eq!(rt; ChunkedString::new(alloc).to_str(alloc)?.as_str(), "");
-    let mut serialized = String::new(alloc);
-    text.fmt_serialized(&mut serialized)?;
-    assert_eq!(rt; serialized.as_str(), "{a}$x\\\\$");
+    Ok(())
+}
+
+#[test]
+fn one_chunk(rt: HostRuntime) -> Result<(), Fail> {
+    let alloc = rt.alloc();
     let mut chunk = StringChunk::verbatim(String::from_str(alloc, "a")?);
-    write!(chunk, "{{")?;
+    chunk.write_str("{")?;
     assert_eq!(rt;
-        (chunk.as_str(), chunk.len(), chunk.is_empty(), chunk.kind),
-        ("a{", 2, false, Verbatim)
+        (chunk.as_str(), chunk.len(), chunk.is_empty()),
+        ("a{", 2, false)
     );
     assert_eq!(rt; format!(in alloc; "{chunk}")?.as_str(), "a{");
     assert_eq!(rt; chunk.try_clone(alloc)?, chunk);
@@ -239,7 +259,7 @@ impl fmt::Display for ShortForm<'_> {
 }
 
 #[test]
-fn long_and_short_forms(rt: HostRuntime) -> Result<(), Fail> {
+fn unread_forms(rt: HostRuntime) -> Result<(), Fail> {
     let alloc = rt.alloc();
     let unread = FormatString::with_value(alloc, String::from_str(alloc, "a{b}")?)?;
     assert_eq!(rt; unread.value, text_of(alloc, &[("a{b}", Normal)])?);
@@ -249,6 +269,25 @@ fn long_and_short_forms(rt: HostRuntime) -> Result<(), Fail> {
         FormatString::from_string(alloc, String::from_str(alloc, "a{b}")?)?
     );
     assert_eq!(rt; *unread.select(LongShortForm::Short), unread.value);
+    assert_eq!(rt; FormatString::new(alloc).value, ChunkedString::new(alloc));
+    Ok(())
+}
+
+fn assert_forms(
+    rt: &impl Abort,
+    alloc: Global,
+    text: &FormatString,
+    long: &str,
+    short: &str,
+) -> Result<(), Fail> {
+    assert_eq!(rt; format!(in alloc; "{text}")?.as_str(), long);
+    assert_eq!(rt; format!(in alloc; "{}", ShortForm(text))?.as_str(), short);
+    Ok(())
+}
+
+#[test]
+fn short_forms(rt: HostRuntime) -> Result<(), Fail> {
+    let alloc = rt.alloc();
     let both = FormatString::with_short(
         alloc,
         String::from_str(alloc, "Long")?,
@@ -258,19 +297,13 @@ fn long_and_short_forms(rt: HostRuntime) -> Result<(), Fail> {
         *both.select(LongShortForm::Short),
         text_of(alloc, &[("S", Normal)])?
     );
-    assert_eq!(rt; format!(in alloc; "{both}")?.as_str(), "Long");
-    assert_eq!(rt; format!(in alloc; "{}", ShortForm(&both))?.as_str(), "S");
-    assert_eq!(rt;
-        format!(in alloc; "{}", ShortForm(&unread))?.as_str(),
-        "a{b}"
-    );
+    assert_forms(&rt, alloc, &both, "Long", "S")?;
     assert_eq!(rt; both.try_clone(alloc)?, both);
-    assert_ne!(rt; both, unread);
     let read = FormatString::from_str(alloc, "$x$")?;
+    assert_forms(&rt, alloc, &read, "$x$", "$x$")?;
     let chunk = StringChunk::math(String::from_str(alloc, "x")?);
     assert_eq!(rt; read, FormatString::from_chunk(alloc, chunk)?);
     assert!(rt; FormatString::from_str(alloc, "}").is_err());
-    assert_eq!(rt; FormatString::new(alloc).value, ChunkedString::new(alloc));
     Ok(())
 }
 

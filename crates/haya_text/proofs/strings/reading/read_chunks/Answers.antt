@@ -2,7 +2,8 @@ use Rattle.std.proofs.Common.{◌≡◌, ◌∷◌, ℕ, List, false, Err, Some,
 use Rattle.std.proofs.lemmas.Result.{err_from_is_err_and}
 use Rattle.std.specs.Str.{chars}
 use Rattle.haya_text.specs.Chunks.{characters, chunks}
-use Rattle.haya_text.specs.Reading.{IsRefusal, Refuses, after_these, scan}
+use Rattle.haya_text.specs.Marks.{Refuses}
+use Rattle.haya_text.specs.Reading.{IsRefusal, after_these, scan}
 use Rattle.haya_text.specs.declared.strings.reading.ChunkedReadError.{ChunkedReadError}
 use Rattle.haya_text.specs.declared.strings.reading.ChunkedReadError.TheVariants.{Parse, OutOfMemory}
 use Rattle.haya_text.specs.declared.strings.reading.Mark.{Mark}

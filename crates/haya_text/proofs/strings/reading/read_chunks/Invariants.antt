@@ -3,7 +3,8 @@ use Rattle.std.specs.Str.{chars}
 use Rattle.haya_text.specs.Chunks.{chunks}
 use Rattle.haya_text.specs.Cursor.{text_len}
 use Rattle.haya_text.specs.Normal.{norm}
-use Rattle.haya_text.specs.Reading.{scan, standing}
+use Rattle.haya_text.specs.Marks.{standing}
+use Rattle.haya_text.specs.Reading.{scan}
 use Rattle.haya_text.proofs.strings.reading.read_chunks.Given as goal
 
 -- what is read so far, joined with what is left, is what the text reads as
