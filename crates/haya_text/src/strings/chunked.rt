@@ -111,7 +111,7 @@ impl ChunkedString {
 
     /// Whether no chunk has a text.
     pub fn is_empty(&self) -> bool
-        ensures { IsTrue result ↔ All (λ c. string_bytes c.value ≡ []) self.now.0.items }
+        ensures { IsTrue result ↔ All (λ c. c.0 ≡ []) (chunks self.now) }
     {
         for chunk in &self.0 {
             if !chunk.is_empty() {
