@@ -4,7 +4,6 @@ use super::ChunkKind::{Math, Normal, Verbatim};
 use super::*;
 use crate::{OutOfMemory, ReadFault, ReadText};
 use std::alloc::Global;
-use std::borrow::CowStr;
 use std::fmt;
 use std::fmt::Write;
 use std::process::Abort;
@@ -18,77 +17,54 @@ fn text_of(alloc: Global, chunks: &[(&str, ChunkKind)]) -> Result<ChunkedString,
     Ok(text)
 }
 
-fn assert_reads(
-    rt: &impl Abort,
-    alloc: Global,
-    text: &str,
-    chunks: &[(&str, ChunkKind)],
-    serialized: &str,
-) -> Result<(), Fail> {
-    let read = ChunkedString::from_str(alloc, text)?;
-    assert_eq!(rt; read, text_of(alloc, chunks)?, "{text}");
-    assert_eq!(rt; read.to_serialized(alloc)?.as_str(), serialized, "{text}");
-    Ok(())
-}
+// A text, the chunks that it reads as, and what these are serialized as.
+type Row<'t> = (&'t str, &'t [(&'t str, ChunkKind)], &'t str);
+
+const READ: [Row<'static>; 8] = [
+    (
+        "a${b}$c\\",
+        &[("a", Normal), ("{b}", Math), ("c\\", Normal)],
+        "a$\\{b\\}$c\\\\",
+    ),
+    (
+        "Hello \\$World",
+        &[("Hello $World", Normal)],
+        "Hello \\$World",
+    ),
+    (
+        "Hello \\\\World",
+        &[("Hello \\World", Normal)],
+        "Hello \\\\World",
+    ),
+    (
+        "Hello \\World",
+        &[("Hello \\World", Normal)],
+        "Hello \\\\World",
+    ),
+    ("{a}{b}$x", &[("ab", Verbatim), ("x", Math)], "{ab}$x$"),
+    (
+        "Hello {World\\{}",
+        &[("Hello ", Normal), ("World{", Verbatim)],
+        "Hello {World\\{}",
+    ),
+    ("{}ab$\\$$", &[("ab", Normal), ("$", Math)], "ab$\\$$"),
+    ("", &[], ""),
+];
 
 #[test]
 fn texts_are_read(rt: HostRuntime) -> Result<(), Fail> {
     let alloc = rt.alloc();
-    assert_reads(
-        &rt,
-        alloc,
-        "a${b}$c\\",
-        &[("a", Normal), ("{b}", Math), ("c\\", Normal)],
-        "a$\\{b\\}$c\\\\",
-    )?;
-    assert_reads(
-        &rt,
-        alloc,
-        "Hello \\$World",
-        &[("Hello $World", Normal)],
-        "Hello \\$World",
-    )?;
-    assert_reads(
-        &rt,
-        alloc,
-        "Hello \\\\World",
-        &[("Hello \\World", Normal)],
-        "Hello \\\\World",
-    )?;
-    assert_reads(
-        &rt,
-        alloc,
-        "Hello \\World",
-        &[("Hello \\World", Normal)],
-        "Hello \\\\World",
-    )?;
-    assert_reads(
-        &rt,
-        alloc,
-        "{a}{b}$x",
-        &[("ab", Verbatim), ("x", Math)],
-        "{ab}$x$",
-    )?;
-    assert_reads(
-        &rt,
-        alloc,
-        "Hello {World\\{}",
-        &[("Hello ", Normal), ("World{", Verbatim)],
-        "Hello {World\\{}",
-    )?;
-    assert_reads(
-        &rt,
-        alloc,
-        "{}ab$\\$$",
-        &[("ab", Normal), ("$", Math)],
-        "ab$\\$$",
-    )?;
-    let hand_made = text_of(
-        alloc,
-        &[("", Verbatim), ("a", Normal), ("b", Normal), ("$", Math)],
-    )?;
-    assert_eq!(rt; hand_made.to_serialized(alloc)?.as_str(), "{}ab$\\$$");
-    let refused = ChunkedString::from_str(alloc, "a}b");
+    for (text, chunks, serialized) in READ {
+        let read = ChunkedString::from_str(alloc, text)?;
+        assert_eq!(rt; read, text_of(alloc, chunks)?, "{text}");
+        assert_eq!(rt; read.to_serialized(alloc)?.as_str(), serialized, "{text}");
+    }
+    Ok(())
+}
+
+#[test]
+fn a_closing_brace_is_refused(rt: HostRuntime) -> Result<(), Fail> {
+    let refused = ChunkedString::from_str(rt.alloc(), "a}b");
     let Err(ChunkedReadError::Parse(brace)) = refused else {
         panic!(rt; "a closing brace is read")
     };
@@ -134,28 +110,38 @@ fn a_text_is_extended(rt: HostRuntime) -> Result<(), Fail> {
     Ok(())
 }
 
-fn assert_shows(
-    rt: &impl Abort,
-    alloc: Global,
-    text: &ChunkedString,
-    shown: &str,
-) -> Result<(), Fail> {
-    assert_eq!(rt; format!(in alloc; "{text}")?.as_str(), shown);
-    Ok(())
-}
+// Chunks, what they are serialized as, what they are shown as, and what `to_str` answers.
+type Shown<'t> = (&'t [(&'t str, ChunkKind)], &'t str, &'t str, &'t str);
+
+const SHOWN: [Shown<'static>; 5] = [
+    (&[], "", "", ""),
+    (&[("", Verbatim)], "{}", "", ""),
+    (&[("x", Math)], "$x$", "$x$", "x"),
+    (
+        &[("a", Verbatim), ("x\\", Math)],
+        "{a}$x\\\\$",
+        "a$x\\$",
+        "a$x\\$",
+    ),
+    (
+        &[("", Verbatim), ("a", Normal), ("b", Normal), ("$", Math)],
+        "{}ab$\\$$",
+        "ab$$$",
+        "ab$$$",
+    ),
+];
 
 #[test]
 fn texts_are_shown(rt: HostRuntime) -> Result<(), Fail> {
     let alloc = rt.alloc();
-    let math = ChunkedString::from_chunk(alloc, StringChunk::math(String::from_str(alloc, "x")?))?;
-    assert_shows(&rt, alloc, &math, "$x$")?;
-    let CowStr::Borrowed(alone) = math.to_str(alloc)? else {
-        panic!(rt; "one chunk is copied")
-    };
-    assert_eq!(rt; alone, "x");
-    let text = text_of(alloc, &[("a", Verbatim), ("x\\", Math)])?;
-    assert_eq!(rt; text.to_str(alloc)?.as_str(), "a$x\\$");
-    assert_eq!(rt; ChunkedString::new(alloc).to_str(alloc)?.as_str(), "");
+    for (chunks, serialized, shown, alone) in SHOWN {
+        let text = text_of(alloc, chunks)?;
+        let mut out = String::new(alloc);
+        text.fmt_serialized(&mut out)?;
+        assert_eq!(rt; out.as_str(), serialized);
+        assert_eq!(rt; format!(in alloc; "{text}")?.as_str(), shown);
+        assert_eq!(rt; text.to_str(alloc)?.as_str(), alone);
+    }
     Ok(())
 }
 
