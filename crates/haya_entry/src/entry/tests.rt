@@ -1,24 +1,10 @@
+//! What each call gives back where there is memory. A refused allocation ends a test, and each entry is let go by
+//! a call: so no test has a path on which it has to drop entries, and the proof stays short.
 use crate::{Entry, EntryType, SerialNumber};
 use haya_text::{FormatString, OutOfMemory, TryClone};
 use std::alloc::Global;
 use std::collections::BTreeMap;
-use std::test::Fail;
-
-// The names of the fields that are texts.
-const TEXT_FIELDS: [&str; 9] = [
-    "title",
-    "location",
-    "organization",
-    "archive",
-    "archive-location",
-    "call-number",
-    "note",
-    "abstract",
-    "genre",
-];
-
-// The serial numbers that have calls of their own.
-const SERIAL_NUMBERS: [&str; 6] = ["doi", "isbn", "issn", "pmid", "pmcid", "arxiv"];
+use std::process::Abort;
 
 // All names that an entry may have, then texts that are no names.
 const TEXTS: [&str; 27] = [
@@ -63,216 +49,199 @@ fn names_had(entry: &Entry, alloc: Global) -> Result<String, OutOfMemory> {
     Ok(names)
 }
 
-// Sets the text field of this name to its name.
-fn set_text(entry: &mut Entry, alloc: Global, name: &str) -> Result<(), OutOfMemory> {
-    let text = FormatString::with_value(alloc, String::from_str(alloc, name)?)?;
-    match name {
-        "title" => entry.set_title(text),
-        "location" => entry.set_location(text),
-        "organization" => entry.set_organization(text),
-        "archive" => entry.set_archive(text),
-        "archive-location" => entry.set_archive_location(text),
-        "call-number" => entry.set_call_number(text),
-        "note" => entry.set_note(text),
-        "abstract" => entry.set_abstract_(text),
-        "genre" => entry.set_genre(text),
-        _ => {}
-    }
-    Ok(())
+// Whether these are the names that the entry has.
+fn has_names(rt: &(impl Abort + AllocGlobal), entry: &Entry, names: &str) -> bool {
+    names_had(entry, rt.alloc()).expect(rt, "memory").as_str() == names
 }
 
-fn text_of<'a>(entry: &'a Entry, name: &str) -> Option<&'a FormatString> {
-    match name {
-        "title" => entry.title(),
-        "location" => entry.location(),
-        "organization" => entry.organization(),
-        "archive" => entry.archive(),
-        "archive-location" => entry.archive_location(),
-        "call-number" => entry.call_number(),
-        "note" => entry.note(),
-        "abstract" => entry.abstract_(),
-        "genre" => entry.genre(),
-        _ => None,
-    }
+fn string(rt: &(impl Abort + AllocGlobal), value: &str) -> String {
+    String::from_str(rt.alloc(), value).expect(rt, "memory")
 }
 
-// Keeps the serial number of this name, or else of this key, with its name as the number.
-fn set_serial(entry: &mut Entry, alloc: Global, name: &str) -> Result<(), OutOfMemory> {
-    let number = String::from_str(alloc, name)?;
-    match name {
-        "doi" => entry.set_doi(number),
-        "isbn" => entry.set_isbn(number),
-        "issn" => entry.set_issn(number),
-        "pmid" => entry.set_pmid(number),
-        "pmcid" => entry.set_pmcid(number),
-        "arxiv" => entry.set_arxiv(number),
-        key => entry.set_keyed_serial_number(key, number),
-    }
+fn text(rt: &(impl Abort + AllocGlobal), value: &str) -> FormatString {
+    FormatString::with_value(rt.alloc(), string(rt, value)).expect(rt, "memory")
 }
 
-fn serial_of<'a>(entry: &'a Entry, name: &str) -> Option<&'a str> {
-    match name {
-        "doi" => entry.doi(),
-        "isbn" => entry.isbn(),
-        "issn" => entry.issn(),
-        "pmid" => entry.pmid(),
-        "pmcid" => entry.pmcid(),
-        "arxiv" => entry.arxiv(),
-        key => entry.keyed_serial_number(key),
-    }
+fn entry(rt: &(impl Abort + AllocGlobal), key: &str, entry_type: EntryType) -> Entry {
+    Entry::new(rt.alloc(), key, entry_type).expect(rt, "memory")
 }
 
-// The names of a fresh entry whose text field of this name was set, and of one with this serial number.
-fn names_with_text(alloc: Global, name: &str) -> Result<String, OutOfMemory> {
-    let mut entry = Entry::new(alloc, "key", EntryType::Book)?;
-    set_text(&mut entry, alloc, name)?;
-    names_had(&entry, alloc)
-}
-
-fn names_with_serial(alloc: Global, name: &str) -> Result<String, OutOfMemory> {
-    let mut entry = Entry::new(alloc, "key", EntryType::Book)?;
-    set_serial(&mut entry, alloc, name)?;
-    names_had(&entry, alloc)
+fn is_text(rt: &(impl Abort + AllocGlobal), found: Option<&FormatString>, wanted: &str) -> bool {
+    found == Some(&text(rt, wanted))
 }
 
 #[test]
-fn has_a_text_once_it_is_set(rt: HostRuntime) -> Result<(), Fail> {
-    for name in TEXT_FIELDS {
-        assert_eq!(rt;
-            names_with_text(rt.alloc(), name)?.as_str().trim_end(),
-            name
-        );
-    }
-    Ok(())
-}
-
-#[test]
-fn has_serial_numbers_by_their_names(rt: HostRuntime) -> Result<(), Fail> {
-    for (name, had) in [
-        ("doi", "serial-number doi "),
-        ("isbn", "serial-number isbn "),
-        ("issn", "serial-number issn "),
-        ("pmid", "serial-number pmid "),
-        ("pmcid", "serial-number pmcid "),
-        ("arxiv", "serial-number arxiv "),
-        ("type", "serial-number "),
-        ("parent", "serial-number "),
-        ("serial", "serial-number "),
-        ("DOI", "serial-number "),
-        ("", "serial-number "),
-    ] {
-        assert_eq!(rt; names_with_serial(rt.alloc(), name)?.as_str(), had);
-    }
-    Ok(())
-}
-
-#[test]
-fn has_other_fields_once_they_are_set(rt: HostRuntime) -> Result<(), Fail> {
-    let alloc = rt.alloc();
-    let mut entry = Entry::new(alloc, "key", EntryType::Book)?;
-    assert_eq!(rt; names_had(&entry, alloc)?.as_str(), "");
-    entry.set_language(String::from_str(alloc, "en")?);
-    entry.set_serial_number(SerialNumber(BTreeMap::new(alloc)));
-    assert_eq!(rt;
-        names_had(&entry, alloc)?.as_str(),
-        "language serial-number "
+fn has_a_text_once_it_is_set(rt: HostRuntime) {
+    let mut entry = entry(&rt, "key", EntryType::Book);
+    assert!(rt; has_names(&rt, &entry, ""));
+    entry.set_title(text(&rt, "title"));
+    assert!(rt; has_names(&rt, &entry, "title "));
+    entry.set_genre(text(&rt, "genre"));
+    assert!(rt; has_names(&rt, &entry, "title genre "));
+    entry.set_archive_location(text(&rt, "archive-location"));
+    assert!(rt; has_names(&rt, &entry, "title archive-location genre "));
+    entry.set_location(text(&rt, "location"));
+    assert!(rt; has_names(&rt, &entry, "title location archive-location genre "));
+    entry.set_abstract_(text(&rt, "abstract"));
+    assert!(rt;
+        has_names(
+            &rt,
+            &entry,
+            "title location archive-location abstract genre "
+        )
     );
-    Ok(())
+    drop(entry);
 }
 
 #[test]
-fn gets_what_was_set(rt: HostRuntime) -> Result<(), Fail> {
-    let alloc = rt.alloc();
-    let mut entry = Entry::new(alloc, "tolkien", EntryType::Book)?;
+fn has_the_other_texts_once_they_are_set(rt: HostRuntime) {
+    let mut entry = entry(&rt, "key", EntryType::Book);
+    entry.set_note(text(&rt, "note"));
+    assert!(rt; has_names(&rt, &entry, "note "));
+    entry.set_organization(text(&rt, "organization"));
+    assert!(rt; has_names(&rt, &entry, "organization note "));
+    entry.set_call_number(text(&rt, "call-number"));
+    assert!(rt; has_names(&rt, &entry, "organization call-number note "));
+    entry.set_archive(text(&rt, "archive"));
+    assert!(rt; has_names(&rt, &entry, "organization archive call-number note "));
+    drop(entry);
+}
+
+#[test]
+fn has_a_language_and_serial_numbers_once_they_are_set(rt: HostRuntime) {
+    let mut entry = entry(&rt, "key", EntryType::Book);
+    entry.set_language(string(&rt, "en"));
+    assert!(rt; has_names(&rt, &entry, "language "));
+    entry.set_serial_number(SerialNumber(BTreeMap::new(rt.alloc())));
+    assert!(rt; has_names(&rt, &entry, "language serial-number "));
+    drop(entry);
+}
+
+// Keeps a serial number under this key.
+fn keep(rt: &(impl Abort + AllocGlobal), entry: &mut Entry, key: &str, number: &str) {
+    let number = string(rt, number);
+    entry
+        .set_keyed_serial_number(key, number)
+        .expect(rt, "memory");
+}
+
+#[test]
+fn has_no_name_for_another_key(rt: HostRuntime) {
+    let mut entry = entry(&rt, "key", EntryType::Book);
+    for key in ["type", "parent", "serial", "key", "DOI", "title", ""] {
+        keep(&rt, &mut entry, key, "1");
+        assert!(rt; has_names(&rt, &entry, "serial-number "), "{key}");
+    }
+    drop(entry);
+}
+
+#[test]
+fn has_serial_numbers_by_their_names(rt: HostRuntime) {
+    let mut entry = entry(&rt, "key", EntryType::Book);
+    keep(&rt, &mut entry, "pmid", "1");
+    assert!(rt; has_names(&rt, &entry, "serial-number pmid "));
+    keep(&rt, &mut entry, "doi", "1");
+    assert!(rt; has_names(&rt, &entry, "serial-number doi pmid "));
+    keep(&rt, &mut entry, "arxiv", "1");
+    assert!(rt; has_names(&rt, &entry, "serial-number doi pmid arxiv "));
+    keep(&rt, &mut entry, "isbn", "1");
+    assert!(rt; has_names(&rt, &entry, "serial-number doi isbn pmid arxiv "));
+    keep(&rt, &mut entry, "pmcid", "1");
+    assert!(rt; has_names(&rt, &entry, "serial-number doi isbn pmid pmcid arxiv "));
+    keep(&rt, &mut entry, "issn", "1");
+    assert!(rt; has_names(&rt, &entry, "serial-number doi isbn issn pmid pmcid arxiv "));
+    drop(entry);
+}
+
+// An entry with a text in each text field, and one with each serial number that has a name.
+fn with_texts(rt: &(impl Abort + AllocGlobal), key: &str) -> Entry {
+    let mut entry = entry(rt, key, EntryType::Article);
+    entry.set_title(text(rt, "title"));
+    entry.set_location(text(rt, "location"));
+    entry.set_organization(text(rt, "organization"));
+    entry.set_archive(text(rt, "archive"));
+    entry.set_archive_location(text(rt, "archive-location"));
+    entry.set_call_number(text(rt, "call-number"));
+    entry.set_note(text(rt, "note"));
+    entry.set_abstract_(text(rt, "abstract"));
+    entry.set_genre(text(rt, "genre"));
+    entry
+}
+
+fn with_serials(rt: &(impl Abort + AllocGlobal)) -> Entry {
+    let mut entry = entry(rt, "key", EntryType::Article);
+    entry.set_doi(string(rt, "doi")).expect(rt, "memory");
+    entry.set_isbn(string(rt, "isbn")).expect(rt, "memory");
+    entry.set_issn(string(rt, "issn")).expect(rt, "memory");
+    entry.set_pmid(string(rt, "pmid")).expect(rt, "memory");
+    entry.set_pmcid(string(rt, "pmcid")).expect(rt, "memory");
+    entry.set_arxiv(string(rt, "arxiv")).expect(rt, "memory");
+    entry
+}
+
+#[test]
+fn gets_the_texts_that_were_set(rt: HostRuntime) {
+    let entry = with_texts(&rt, "key");
+    assert!(rt; is_text(&rt, entry.title(), "title"));
+    assert!(rt; is_text(&rt, entry.location(), "location"));
+    assert!(rt; is_text(&rt, entry.organization(), "organization"));
+    assert!(rt; is_text(&rt, entry.archive(), "archive"));
+    assert!(rt; is_text(&rt, entry.archive_location(), "archive-location"));
+    assert!(rt; is_text(&rt, entry.call_number(), "call-number"));
+    assert!(rt; is_text(&rt, entry.note(), "note"));
+    assert!(rt; is_text(&rt, entry.abstract_(), "abstract"));
+    assert!(rt; is_text(&rt, entry.genre(), "genre"));
+    drop(entry);
+}
+
+#[test]
+fn gets_the_serial_numbers_that_were_set(rt: HostRuntime) {
+    let entry = with_serials(&rt);
+    assert_eq!(rt; entry.doi(), Some("doi"));
+    assert_eq!(rt; entry.isbn(), Some("isbn"));
+    assert_eq!(rt; entry.issn(), Some("issn"));
+    assert_eq!(rt; entry.pmid(), Some("pmid"));
+    assert_eq!(rt; entry.pmcid(), Some("pmcid"));
+    assert_eq!(rt; entry.arxiv(), Some("arxiv"));
+    for key in ["doi", "isbn", "issn", "pmid", "pmcid", "arxiv"] {
+        assert_eq!(rt; entry.keyed_serial_number(key), Some(key));
+    }
+    drop(entry);
+}
+
+#[test]
+fn replaces_a_serial_number(rt: HostRuntime) {
+    let mut entry = with_serials(&rt);
+    keep(&rt, &mut entry, "doi", "10.1145/24039.24041");
+    assert_eq!(rt; entry.doi(), Some("10.1145/24039.24041"));
+    assert_eq!(rt; entry.isbn(), Some("isbn"));
+    assert_eq!(rt; entry.keyed_serial_number("DOI"), None);
+    drop(entry);
+}
+
+#[test]
+fn gets_the_other_fields(rt: HostRuntime) {
+    let mut entry = entry(&rt, "tolkien", EntryType::Book);
     assert_eq!(rt; entry.key(), "tolkien");
     assert_eq!(rt; entry.entry_type(), EntryType::Book);
     assert!(rt; entry.parents().is_empty() && entry.serial_number().is_none());
     assert_eq!(rt; entry.language(), None);
-    for language in ["en", "de"] {
-        entry.set_language(String::from_str(alloc, language)?);
-        assert_eq!(rt; entry.language(), Some(language));
-    }
-    let serial = SerialNumber(BTreeMap::new(alloc));
-    entry.set_serial_number(serial.try_clone(alloc)?);
+    entry.set_language(string(&rt, "en"));
+    assert_eq!(rt; entry.language(), Some("en"));
+    entry.set_language(string(&rt, "de"));
+    assert_eq!(rt; entry.language(), Some("de"));
+    let serial = one_number(rt.alloc()).expect(&rt, "memory");
+    entry.set_serial_number(serial.try_clone(rt.alloc()).expect(&rt, "memory"));
     assert!(rt; entry.serial_number() == Some(&serial));
-    Ok(())
+    drop(entry);
 }
 
-// An entry with a text in each text field, and one with each serial number that has a name.
-fn with_texts(alloc: Global, key: &str) -> Result<Entry, OutOfMemory> {
-    let mut entry = Entry::new(alloc, key, EntryType::Article)?;
-    for name in TEXT_FIELDS {
-        set_text(&mut entry, alloc, name)?;
-    }
-    Ok(entry)
-}
-
-fn with_serials(alloc: Global) -> Result<Entry, OutOfMemory> {
-    let mut entry = Entry::new(alloc, "key", EntryType::Article)?;
-    for name in SERIAL_NUMBERS {
-        set_serial(&mut entry, alloc, name)?;
-    }
-    Ok(entry)
-}
-
-#[test]
-fn gets_the_texts_that_were_set(rt: HostRuntime) -> Result<(), Fail> {
-    let entry = with_texts(rt.alloc(), "key")?;
-    for name in TEXT_FIELDS {
-        let value = String::from_str(rt.alloc(), name)?;
-        let text = FormatString::with_value(rt.alloc(), value)?;
-        assert!(rt; text_of(&entry, name) == Some(&text));
-    }
-    Ok(())
-}
-
-#[test]
-fn gets_the_serial_numbers_that_were_set(rt: HostRuntime) -> Result<(), Fail> {
-    let entry = with_serials(rt.alloc())?;
-    for name in SERIAL_NUMBERS {
-        assert_eq!(rt; serial_of(&entry, name), Some(name));
-        assert_eq!(rt; entry.keyed_serial_number(name), Some(name));
-    }
-    Ok(())
-}
-
-#[test]
-fn replaces_a_serial_number(rt: HostRuntime) -> Result<(), Fail> {
-    let mut entry = with_serials(rt.alloc())?;
-    entry.set_keyed_serial_number("doi", String::from_str(rt.alloc(), "10.1145/24039.24041")?)?;
-    assert_eq!(rt; entry.doi(), Some("10.1145/24039.24041"));
-    assert_eq!(rt; entry.isbn(), Some("isbn"));
-    assert_eq!(rt; entry.keyed_serial_number("DOI"), None);
-    Ok(())
-}
-
-// An article in a journal that stands in a site.
-fn article(alloc: Global, site: &str) -> Result<Entry, OutOfMemory> {
-    let mut sites = Vec::new(alloc);
-    sites.push(Entry::new(alloc, site, EntryType::Web)?)?;
-    let mut journal = with_serials(alloc)?;
-    journal.set_parents(sites);
-    let mut journals = Vec::new(alloc);
-    journals.push(journal)?;
-    let mut article = with_texts(alloc, "article")?;
-    article.set_parents(journals);
-    Ok(article)
-}
-
-#[test]
-fn is_equal_to_its_copy_alone(rt: HostRuntime) -> Result<(), Fail> {
-    let alloc = rt.alloc();
-    let here = article(alloc, "here")?;
-    assert!(rt; here.try_clone(alloc)? == here, "a copy");
-    assert!(rt;
-        article(alloc, "there")? != here,
-        "the sites differ, two levels above"
-    );
-    assert!(rt;
-        here.try_clone(alloc)?.parents() == here.parents(),
-        "the parents of a copy"
-    );
-    Ok(())
+// A DOI alone.
+fn one_number(alloc: Global) -> Result<SerialNumber, OutOfMemory> {
+    let mut map = BTreeMap::new(alloc);
+    let text = String::from_str(alloc, "10.1/a")?;
+    map.insert(String::from_str(alloc, "doi")?, text)?;
+    Ok(SerialNumber(map))
 }
 
 fn copied<T: TryClone>(alloc: Global, value: &T) -> Result<T, OutOfMemory> {
@@ -280,15 +249,36 @@ fn copied<T: TryClone>(alloc: Global, value: &T) -> Result<T, OutOfMemory> {
 }
 
 #[test]
-fn copies_serial_numbers(rt: HostRuntime) -> Result<(), Fail> {
-    let alloc = rt.alloc();
-    let mut map = BTreeMap::new(alloc);
-    map.insert(
-        String::from_str(alloc, "doi")?,
-        String::from_str(alloc, "10.1/a")?,
-    )?;
-    let serial = SerialNumber(map);
-    assert!(rt; serial.try_clone(alloc)? == serial);
-    assert!(rt; copied(alloc, &serial)? == serial, "through the trait");
-    Ok(())
+fn copies_serial_numbers(rt: HostRuntime) {
+    let serial = one_number(rt.alloc()).expect(&rt, "memory");
+    let copy = serial.try_clone(rt.alloc()).expect(&rt, "memory");
+    assert!(rt; copy == serial);
+    let copy = copied(rt.alloc(), &serial).expect(&rt, "memory");
+    assert!(rt; copy == serial, "through the trait");
+}
+
+fn under(rt: &(impl Abort + AllocGlobal), mut entry: Entry, parent: Entry) -> Entry {
+    let mut parents = Vec::new(rt.alloc());
+    parents.push(parent).expect(rt, "memory");
+    entry.set_parents(parents);
+    entry
+}
+
+// An article in a journal that stands in a site.
+fn article(rt: &(impl Abort + AllocGlobal), site: &str) -> Entry {
+    let journal = under(rt, with_serials(rt), entry(rt, site, EntryType::Web));
+    under(rt, with_texts(rt, "article"), journal)
+}
+
+#[test]
+fn is_equal_to_its_copy_alone(rt: HostRuntime) {
+    let here = article(&rt, "here");
+    let copy = here.try_clone(rt.alloc()).expect(&rt, "memory");
+    assert!(rt; copy == here, "a copy");
+    assert!(rt; copy.parents() == here.parents(), "the parents of a copy");
+    let there = article(&rt, "there");
+    assert!(rt; there != here, "the sites differ, two levels above");
+    drop(copy);
+    drop(there);
+    drop(here);
 }
