@@ -1,30 +1,29 @@
-use crate::{Library, SelectorError};
-use haya_entry::{Entry, EntryType, Steps};
+use crate::works::{below, english, entry, string};
+use crate::{Hit, Library, SelectorError};
+use haya_entry::{EntryType, Steps};
+use haya_text::OutOfMemory;
 use std::alloc::Global;
-use std::test::Fail;
+use std::process::Abort;
 
 // A paper in a journal on a site, and a note.
-fn small_library(alloc: Global) -> Result<Library, Fail> {
-    let mut site = Entry::new(alloc, "site", EntryType::Web)?;
-    site.set_language(String::from_str(alloc, "en")?);
-    let mut journal = Entry::new(alloc, "journal", EntryType::Periodical)?;
-    journal.set_parents(vec![in alloc; site]?);
-    let mut paper = Entry::new(alloc, "paper", EntryType::Article)?;
-    paper.set_doi(String::from_str(alloc, "10.1/a")?)?;
-    paper.set_parents(vec![in alloc; journal]?);
-    let mut note = Entry::new(alloc, "note", EntryType::Book)?;
-    note.set_language(String::from_str(alloc, "de")?);
-
-    let mut library = Library::new(alloc);
-    library.push(&paper)?;
-    library.push(&note)?;
-    Ok(library)
+fn small_library(rt: &(impl Abort + AllocGlobal)) -> Library {
+    let site = english(rt, "site", EntryType::Web);
+    let journal = below(rt, entry(rt, "journal", EntryType::Periodical), site);
+    let mut paper = below(rt, entry(rt, "paper", EntryType::Article), journal);
+    paper.set_doi(string(rt, "10.1/a")).expect(rt, "memory");
+    let note = english(rt, "note", EntryType::Book);
+    let mut library = Library::new(rt.alloc());
+    library.push(&paper).expect(rt, "memory");
+    library.push(&note).expect(rt, "memory");
+    drop(paper);
+    drop(note);
+    library
 }
 
 // Each hit's key, behind `=` the key of the entry that `j` is bound to, and a blank.
-fn answer(alloc: Global, library: &Library, text: &str) -> Result<String, Fail> {
+fn shown(alloc: Global, hits: &[Hit]) -> Result<String, OutOfMemory> {
     let mut shown = String::new(alloc);
-    for hit in &library.query(alloc, text, &mut Steps::new())? {
+    for hit in hits {
         shown.push_str(hit.entry.key())?;
         if let Some(bound) = hit.bindings.get("j") {
             shown.push('=')?;
@@ -35,9 +34,16 @@ fn answer(alloc: Global, library: &Library, text: &str) -> Result<String, Fail> 
     Ok(shown)
 }
 
+fn answer(rt: &(impl Abort + AllocGlobal), library: &Library, text: &str) -> String {
+    let hits = library
+        .query(rt.alloc(), text, &mut Steps::new())
+        .expect(rt, "memory");
+    shown(rt.alloc(), hits.as_slice()).expect(rt, "memory")
+}
+
 #[test]
-fn answers_in_order(rt: HostRuntime) -> Result<(), Fail> {
-    let library = small_library(rt.alloc())?;
+fn answers_in_order(rt: HostRuntime) {
+    let library = small_library(&rt);
     let rows = [
         ("*[doi] | *[language]", "paper note "),
         ("article > (j:periodical > w:*[language])", "paper=journal "),
@@ -48,21 +54,26 @@ fn answers_in_order(rt: HostRuntime) -> Result<(), Fail> {
         ("*[serial]", ""),
     ];
     for (text, wanted) in rows {
-        let shown = answer(rt.alloc(), &library, text)?;
+        let shown = answer(&rt, &library, text);
         assert_eq!(rt; shown.as_str(), wanted, "{text}");
     }
-    Ok(())
+    drop(library);
 }
 
 #[test]
-fn counts_the_calls_of_a_query(rt: HostRuntime) -> Result<(), Fail> {
-    let alloc = rt.alloc();
-    let library = small_library(alloc)?;
+fn counts_the_calls_of_a_query(rt: HostRuntime) {
+    let library = small_library(&rt);
     let mut steps = Steps::new();
-    assert_eq!(rt; library.query(alloc, "!*", &mut steps)?.len(), 0);
+    assert!(rt;
+        library
+            .query(rt.alloc(), "!*", &mut steps)
+            .expect(&rt, "memory")
+            .is_empty()
+    );
     assert_eq!(rt; steps.seen(), 4);
-    let refused = library.query(alloc, "book >", &mut steps);
+    let refused = library.query(rt.alloc(), "book >", &mut steps);
     assert!(rt; matches!(refused, Err(SelectorError::MissingValue)));
+    drop(refused);
     assert_eq!(rt; steps.seen(), 4);
-    Ok(())
+    drop(library);
 }

@@ -161,49 +161,37 @@ fn sign_of(c: char) -> Option<Sign>
 
 #[cfg(test)]
 mod tests {
-    use super::{Lexeme, Sign, Tokens};
+    use super::Tokens;
+    use std::alloc::Global;
+    use std::fmt::Write;
     use std::test::Fail;
+
+    // The tokens of a text, a blank behind each.
+    fn shown(alloc: Global, text: &str) -> Result<String, Fail> {
+        let mut shown = String::new(alloc);
+        let mut tokens = Tokens::new(text);
+        for _ in text.chars() {
+            if let Some(token) = tokens.next() {
+                write!(shown, "{token:?} ")?;
+            }
+        }
+        Ok(shown)
+    }
 
     #[test]
     fn cuts(rt: HostRuntime) -> Result<(), Fail> {
         let rows = [
             (
                 "g5:(Blog | Misc)",
-                [
-                    Some(Lexeme::Word("g5")),
-                    Some(Lexeme::Sign(Sign::Colon)),
-                    Some(Lexeme::Sign(Sign::LeftParen)),
-                    Some(Lexeme::Word("Blog")),
-                    Some(Lexeme::Sign(Sign::Pipe)),
-                    Some(Lexeme::Word("Misc")),
-                    Some(Lexeme::Sign(Sign::RightParen)),
-                    None,
-                    None,
-                    None,
-                ],
+                "Word(\"g5\") Sign(Colon) Sign(LeftParen) Word(\"Blog\") Sign(Pipe) Word(\"Misc\") Sign(RightParen) ",
             ),
             (
                 "alpha:!* > (a & b)",
-                [
-                    Some(Lexeme::Word("alpha")),
-                    Some(Lexeme::Sign(Sign::Colon)),
-                    Some(Lexeme::Sign(Sign::ExclamationMark)),
-                    Some(Lexeme::Sign(Sign::Star)),
-                    Some(Lexeme::Sign(Sign::Chevron)),
-                    Some(Lexeme::Sign(Sign::LeftParen)),
-                    Some(Lexeme::Word("a")),
-                    Some(Lexeme::Sign(Sign::Ampersand)),
-                    Some(Lexeme::Word("b")),
-                    Some(Lexeme::Sign(Sign::RightParen)),
-                ],
+                "Word(\"alpha\") Sign(Colon) Sign(ExclamationMark) Sign(Star) Sign(Chevron) Sign(LeftParen) Word(\"a\") Sign(Ampersand) Word(\"b\") Sign(RightParen) ",
             ),
         ];
         for (text, wanted) in rows {
-            let mut tokens = Tokens::new(text);
-            for token in wanted {
-                assert_eq!(rt; tokens.next(), token);
-            }
-            assert_eq!(rt; tokens.next(), None);
+            assert_eq!(rt; shown(rt.alloc(), text)?.as_str(), wanted);
         }
         Ok(())
     }

@@ -74,38 +74,24 @@ impl SelectorError {
 
 #[cfg(test)]
 mod tests {
-    use super::*;
-    use haya_entry::EntryType;
-    use std::test::Fail;
+    use crate::works::{selector, string};
+    use crate::{Selector, SelectorError};
 
-    // `*[date, url] > (n:blog | (!* & web))`, made by hand.
-    fn every_form(alloc: Global) -> Result<Selector, Fail> {
-        let mut names = Vec::new(alloc);
-        names.push(String::from_str(alloc, "date")?)?;
-        names.push(String::from_str(alloc, "url")?)?;
-        let left = Selector::Attr(Box::new(alloc, Selector::Wildcard)?, names);
-
-        let blog = Box::new(alloc, Selector::Entry(EntryType::Blog))?;
-        let mut members = Vec::new(alloc);
-        members.push(Selector::Neg(Box::new(alloc, Selector::Wildcard)?))?;
-        members.push(Selector::Entry(EntryType::Web))?;
-        let mut choices = Vec::new(alloc);
-        choices.push(Selector::Binding(String::from_str(alloc, "n")?, blog))?;
-        choices.push(Selector::Multi(members))?;
-        let right = Selector::Alt(choices);
-        Ok(Selector::Ancestrage(Box::new(alloc, left)?, Box::new(alloc, right)?))
+    #[test]
+    fn copies_are_equal(rt: HostRuntime) {
+        let original = selector(&rt, "*[date, url] > (n:blog | (!* & web))");
+        let copy = original.try_clone(rt.alloc()).expect(&rt, "memory");
+        assert!(rt; copy == original && copy != Selector::Wildcard);
+        drop(copy);
+        drop(original);
     }
 
     #[test]
-    fn copies_are_equal(rt: HostRuntime) -> Result<(), Fail> {
-        let alloc = rt.alloc();
-        let selector = every_form(alloc)?;
-        assert!(rt; selector.try_clone(alloc)? == selector);
-        assert!(rt; selector != Selector::Wildcard);
-
-        let error = SelectorError::UnknownEntryType(String::from_str(alloc, "a")?);
-        assert!(rt; error.try_clone(alloc)? == error);
-        assert!(rt; error != SelectorError::UnknownEntryType(String::from_str(alloc, "b")?));
-        Ok(())
+    fn copies_of_errors_are_equal(rt: HostRuntime) {
+        let original = SelectorError::UnknownEntryType(string(&rt, "a"));
+        let copy = original.try_clone(rt.alloc()).expect(&rt, "memory");
+        assert!(rt; copy == original && copy != SelectorError::MissingComma);
+        drop(copy);
+        drop(original);
     }
 }

@@ -1,8 +1,7 @@
-use crate::BoundSelect;
-use crate::selectors::Selector;
+use crate::works::{below, english, entry, selector, string};
+use crate::{BoundSelect, Selector};
 use haya_entry::{Entry, EntryType, Steps};
-use std::alloc::Global;
-use std::test::Fail;
+use std::process::Abort;
 
 #[derive(Clone, Copy)]
 enum Work {
@@ -14,163 +13,154 @@ enum Work {
     WebInEnglish,
 }
 
-fn made(alloc: Global, work: Work) -> Result<Entry, Fail> {
-    let (key, kind, has_language) = match work {
-        Work::Article => ("article", EntryType::Article, false),
-        Work::Blog => ("blog", EntryType::Blog, false),
-        Work::Book => ("book", EntryType::Book, false),
-        Work::BookInEnglish => ("book", EntryType::Book, true),
-        Work::Periodical => ("periodical", EntryType::Periodical, false),
-        Work::WebInEnglish => ("web", EntryType::Web, true),
-    };
-    let mut entry = Entry::new(alloc, key, kind)?;
-    if has_language {
-        entry.set_language(String::from_str(alloc, "en")?);
+fn made(rt: &(impl Abort + AllocGlobal), work: Work) -> Entry {
+    match work {
+        Work::Article => entry(rt, "article", EntryType::Article),
+        Work::Blog => entry(rt, "blog", EntryType::Blog),
+        Work::Book => entry(rt, "book", EntryType::Book),
+        Work::BookInEnglish => english(rt, "book", EntryType::Book),
+        Work::Periodical => entry(rt, "periodical", EntryType::Periodical),
+        Work::WebInEnglish => english(rt, "web", EntryType::Web),
     }
-    Ok(entry)
 }
 
-fn above(alloc: Global, entry: Work, parents: &[Work]) -> Result<Entry, Fail> {
-    let mut list = Vec::new(alloc);
+fn article(rt: &(impl Abort + AllocGlobal), parents: &[Work]) -> Entry {
+    let mut made_so_far = made(rt, Work::Article);
     for parent in parents {
-        list.push(made(alloc, *parent)?)?;
+        made_so_far = below(rt, made_so_far, made(rt, *parent));
     }
-    let mut entry = made(alloc, entry)?;
-    entry.set_parents(list);
-    Ok(entry)
+    made_so_far
 }
 
 // `no` where the selector doesn't hold, else `yes`, or the key of the entry that `a` is bound to.
-fn answer(alloc: Global, text: &str, entry: Work, parents: &[Work]) -> Result<String, Fail> {
-    let selector = Selector::parse(alloc, text)?;
-    let entry = above(alloc, entry, parents)?;
-    let Some(map) = selector.apply(alloc, &entry)? else {
-        return Ok(String::from_str(alloc, "no")?);
-    };
-    match map.get("a") {
-        Some(bound) => Ok(String::from_str(alloc, bound.key())?),
-        None => Ok(String::from_str(alloc, "yes")?),
+fn applied(rt: &(impl Abort + AllocGlobal), selector: &Selector, entry: &Entry) -> String {
+    match selector.apply(rt.alloc(), entry).expect(rt, "memory") {
+        None => string(rt, "no"),
+        Some(map) => match map.get("a") {
+            Some(bound) => string(rt, bound.key()),
+            None => string(rt, "yes"),
+        },
     }
 }
 
 // The same by `matches`, `bound` and `bound_select`; `unlike` where the last two differ.
-fn asked_apart(alloc: Global, text: &str, entry: Work, parents: &[Work]) -> Result<String, Fail> {
-    let selector = Selector::parse(alloc, text)?;
-    let entry = above(alloc, entry, parents)?;
-    let holds = selector.matches(alloc, &entry)?;
-    let selected = entry.bound_select(alloc, &selector, "a")?.is_some();
-    match selector.bound(alloc, &entry, "a")? {
-        Some(bound) if holds && selected => Ok(String::from_str(alloc, bound.key())?),
-        None if holds && !selected => Ok(String::from_str(alloc, "yes")?),
-        None if !selected => Ok(String::from_str(alloc, "no")?),
-        _ => Ok(String::from_str(alloc, "unlike")?),
+fn asked(rt: &(impl Abort + AllocGlobal), selector: &Selector, entry: &Entry) -> String {
+    let holds = selector.matches(rt.alloc(), entry).expect(rt, "memory");
+    let bound = selector.bound(rt.alloc(), entry, "a").expect(rt, "memory");
+    let selected = entry
+        .bound_select(rt.alloc(), selector, "a")
+        .expect(rt, "memory");
+    match (bound, selected) {
+        (Some(bound), Some(selected)) if holds && bound == selected => string(rt, bound.key()),
+        (None, None) if holds => string(rt, "yes"),
+        (None, None) => string(rt, "no"),
+        _ => string(rt, "unlike"),
     }
 }
 
-// Each row: a selector, an entry, its parents, and the answer.
+fn is_answer(rt: &(impl Abort + AllocGlobal), text: &str, entry: &Entry, wanted: &str) -> bool {
+    let selector = selector(rt, text);
+    let whole = applied(rt, &selector, entry);
+    let apart = asked(rt, &selector, entry);
+    drop(selector);
+    whole.as_str() == wanted && apart.as_str() == wanted
+}
+
+// Each row: a selector, the parents of an article, and the answer.
 #[test]
-fn holds_and_binds(rt: HostRuntime) -> Result<(), Fail> {
-    let rows: [(&str, Work, &[Work], &str); 16] = [
+fn holds_and_binds_on_parents(rt: HostRuntime) {
+    let rows: [(&str, &[Work], &str); 13] = [
         (
             "* > a:*[language]",
-            Work::Article,
             &[Work::Blog, Work::WebInEnglish],
             "web",
         ),
         (
             "* > book[language]",
-            Work::Article,
             &[Work::Book, Work::BookInEnglish],
             "no",
         ),
-        ("!book[language]", Work::WebInEnglish, &[], "yes"),
-        ("!book[language]", Work::Article, &[], "no"),
-        ("!book[language]", Work::BookInEnglish, &[], "no"),
-        ("* > !blog", Work::Article, &[], "yes"),
-        (
-            "* > !blog",
-            Work::Article,
-            &[Work::WebInEnglish, Work::Blog],
-            "no",
-        ),
-        ("a:* > a:*", Work::Article, &[Work::WebInEnglish], "web"),
-        ("a:* > a:*", Work::Article, &[], "no"),
-        (
-            "* > (* & article)",
-            Work::Article,
-            &[Work::Article, Work::Book],
-            "no",
-        ),
-        (
-            "* > (article & a:*)",
-            Work::Article,
-            &[Work::Article, Work::Book],
-            "book",
-        ),
+        ("* > !blog", &[], "yes"),
+        ("* > !blog", &[Work::WebInEnglish, Work::Blog], "no"),
+        ("a:* > a:*", &[Work::WebInEnglish], "web"),
+        ("a:* > a:*", &[], "no"),
+        ("* > (* & article)", &[Work::Article, Work::Book], "no"),
+        ("* > (article & a:*)", &[Work::Article, Work::Book], "book"),
         (
             "article > periodical > web",
-            Work::Article,
             &[Work::Periodical, Work::WebInEnglish],
             "yes",
         ),
-        (
-            "article > (blog | a:web)",
-            Work::Article,
-            &[Work::WebInEnglish],
-            "web",
-        ),
-        ("article | blog", Work::WebInEnglish, &[], "no"),
-        ("article & article", Work::Article, &[], "no"),
-        ("a:article[language]", Work::Article, &[], "no"),
+        ("article > (blog | a:web)", &[Work::WebInEnglish], "web"),
+        ("article & article", &[], "no"),
+        ("a:article[language]", &[], "no"),
+        ("a:*", &[Work::Blog], "article"),
     ];
-    for (text, entry, parents, wanted) in rows {
-        let whole = answer(rt.alloc(), text, entry, parents)?;
-        assert_eq!(rt; whole.as_str(), wanted, "{text}");
-        let apart = asked_apart(rt.alloc(), text, entry, parents)?;
-        assert_eq!(rt; apart.as_str(), wanted, "{text}");
+    for (text, parents, wanted) in rows {
+        let entry = article(&rt, parents);
+        assert!(rt; is_answer(&rt, text, &entry, wanted), "{text}");
+        drop(entry);
     }
-    Ok(())
+}
+
+// Each row: a selector, an entry without parents, and the answer.
+#[test]
+fn holds_without_parents(rt: HostRuntime) {
+    let rows = [
+        ("!book[language]", Work::WebInEnglish, "yes"),
+        ("!book[language]", Work::Article, "no"),
+        ("!book[language]", Work::BookInEnglish, "no"),
+        ("article | blog", Work::WebInEnglish, "no"),
+    ];
+    for (text, work, wanted) in rows {
+        let entry = made(&rt, work);
+        assert!(rt; is_answer(&rt, text, &entry, wanted), "{text}");
+        drop(entry);
+    }
 }
 
 // An article whose periodical stands in a web site: the web isn't a parent of the article.
 #[test]
-fn asks_direct_parents_alone(rt: HostRuntime) -> Result<(), Fail> {
-    let alloc = rt.alloc();
-    let mut list = Vec::new(alloc);
-    list.push(above(alloc, Work::Periodical, &[Work::WebInEnglish])?)?;
-    let mut entry = made(alloc, Work::Article)?;
-    entry.set_parents(list);
-    let selector = Selector::parse(alloc, "article > periodical > web")?;
-    assert!(rt; !selector.matches(alloc, &entry)?);
-    let selector = Selector::parse(alloc, "article > (periodical > web)")?;
-    assert!(rt; selector.matches(alloc, &entry)?);
-    Ok(())
+fn asks_direct_parents_alone(rt: HostRuntime) {
+    let periodical = below(
+        &rt,
+        made(&rt, Work::Periodical),
+        made(&rt, Work::WebInEnglish),
+    );
+    let entry = below(&rt, made(&rt, Work::Article), periodical);
+    assert!(rt; is_answer(&rt, "article > periodical > web", &entry, "no"));
+    assert!(rt; is_answer(&rt, "article > (periodical > web)", &entry, "yes"));
+    drop(entry);
+}
+
+fn holds_above_any(rt: &(impl Abort + AllocGlobal), parents: Selector) -> bool {
+    let child = Box::new(rt.alloc(), Selector::Wildcard).expect(rt, "memory");
+    let above = Box::new(rt.alloc(), parents).expect(rt, "memory");
+    let selector = Selector::Ancestrage(child, above);
+    let entry = made(rt, Work::Article);
+    let holds = selector.matches(rt.alloc(), &entry).expect(rt, "memory");
+    drop(entry);
+    drop(selector);
+    holds
 }
 
 // No text reads as these: an `Alt` without members never holds, a `Multi` without members always does.
 #[test]
-fn lists_without_members(rt: HostRuntime) -> Result<(), Fail> {
-    let alloc = rt.alloc();
-    let entry = made(alloc, Work::Article)?;
-    let over = |inner: Selector| -> Result<Selector, Fail> {
-        Ok(Selector::Ancestrage(
-            Box::new(alloc, Selector::Wildcard)?,
-            Box::new(alloc, inner)?,
-        ))
-    };
-    assert!(rt; !over(Selector::Alt(Vec::new(alloc)))?.matches(alloc, &entry)?);
-    assert!(rt; over(Selector::Multi(Vec::new(alloc)))?.matches(alloc, &entry)?);
-    Ok(())
+fn lists_without_members(rt: HostRuntime) {
+    assert!(rt; !holds_above_any(&rt, Selector::Alt(Vec::new(rt.alloc()))));
+    assert!(rt; holds_above_any(&rt, Selector::Multi(Vec::new(rt.alloc()))));
 }
 
 // `* > a:*[language]` over two parents: at the entry, `*`, the binding, the list and its `*`.
 #[test]
-fn counts_calls(rt: HostRuntime) -> Result<(), Fail> {
-    let alloc = rt.alloc();
-    let entry = above(alloc, Work::Article, &[Work::Blog, Work::WebInEnglish])?;
+fn counts_calls(rt: HostRuntime) {
+    let entry = article(&rt, &[Work::Blog, Work::WebInEnglish]);
+    let selector = selector(&rt, "* > a:*[language]");
     let mut steps = Steps::new();
-    let selector = Selector::parse(alloc, "* > a:*[language]")?;
-    assert!(rt; selector.apply_counted(alloc, &entry, &mut steps)?.is_some());
+    let found = selector
+        .apply_counted(rt.alloc(), &entry, &mut steps)
+        .expect(&rt, "memory");
+    assert!(rt; found.is_some());
     assert_eq!(rt; steps.seen(), 5);
-    Ok(())
+    drop(selector);
 }
