@@ -10,7 +10,7 @@ use Rattle.hayagriva.specs.declared.selectors.Selector.TheVariants.{Entry, Alt, 
 use Rattle.hayagriva.specs.declared.selectors.SelectorError.{SelectorError}
 use Rattle.hayagriva.specs.Fault.{Fault, MalformedAttribute, MissingComma, UnknownEntryType}
 use Rattle.hayagriva.specs.Grammar.{type_of, ReadsNames, closed, last_name, next_name, FailsNames, no_name, no_comma, later_name, Joint, Or, And, sign, joined, before_runs, runs, in_runs, Value, Factor, Attributes, Binding, Term, Expr, Reads, of_type, plain, unnamed, term, chain, ReadsPairs, no_pair, next_pair, ReadsTerms, next_term, Fails, unknown, in_parens, in_negated, in_plain, in_named, in_unnamed, in_pairs, in_terms, FailsPairs, in_pair, past_pair, FailsTerms, past_next}
-use Rattle.hayagriva.specs.Reading.{Gives, ReadsRun, run_end, run_on, FailsRun, in_member, past_member}
+use Rattle.hayagriva.specs.Parser.{Gives, ReadsRun, run_end, run_on, FailsRun, in_member, past_member}
 use Rattle.hayagriva.specs.Syntax.{Syntax, Under, Either, Together, syntax, syntaxes}
 use Rattle.hayagriva.specs.Token.{Token, Mark, Word, BeginsNot, BeginsNoWord, BeginsNoName}
 use Rattle.hayagriva.proofs.Syntaxes.{syntax-entry, syntax-alt, syntax-multi}

@@ -9,6 +9,7 @@ pub mod Token
 pub mod Cut
 pub mod Grammar
 pub mod Reading
+pub mod Parser
 pub mod ReadingLaws
 pub mod Spelled
 pub mod Places

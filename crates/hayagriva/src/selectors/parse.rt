@@ -1,7 +1,7 @@
 //! Reads a selector: a function for each form.
 ghost use Rattle.std.specs.Prelude.{◌≡◌, ◌≤◌, ◌∷◌, length};
 ghost use Rattle.hayagriva.specs.Grammar.{Value, Factor, Attributes, Binding, Term, Expr};
-ghost use Rattle.hayagriva.specs.Reading.{Gives, GivesNames, GivesRun};
+ghost use Rattle.hayagriva.specs.Parser.{Gives, GivesNames, GivesRun};
 ghost use Rattle.hayagriva.specs.Syntax.{syntax};
 ghost use Rattle.hayagriva.specs.Token.{Word};
 

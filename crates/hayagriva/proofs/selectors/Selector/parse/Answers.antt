@@ -3,7 +3,8 @@ use Rattle.hayagriva.specs.declared.selectors.Selector.{Selector}
 use Rattle.hayagriva.specs.declared.selectors.SelectorError.{SelectorError}
 use Rattle.hayagriva.specs.Fault.{Fault}
 use Rattle.hayagriva.specs.Grammar.{Expr, Fails}
-use Rattle.hayagriva.specs.Reading.{Gives, TextGives, TextFails}
+use Rattle.hayagriva.specs.Parser.{Gives}
+use Rattle.hayagriva.specs.Reading.{TextGives, TextFails}
 use Rattle.hayagriva.specs.Token.{Token, AreTokens}
 use Rattle.hayagriva.proofs.Parsing.{of_part}
 use Rattle.hayagriva.proofs.selectors.Selector.parse.Goals as goal

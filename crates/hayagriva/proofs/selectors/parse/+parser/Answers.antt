@@ -2,7 +2,7 @@ use Rattle.std.proofs.Common.{[], sym, ◌∙◌}
 use Rattle.std.proofs.lemmas.List.{map-append}
 use Rattle.std.proofs.lemmas.Result.{err_from_is_err_and}
 use Rattle.hayagriva.specs.Grammar.{Or, And, bare, with_names, in_factor, in_names, in_term, in_next, no_term, unbalanced, parens, wildcard, no_value, negated, named, in_binding, no_pair}
-use Rattle.hayagriva.specs.Reading.{in_member}
+use Rattle.hayagriva.specs.Parser.{in_member}
 use Rattle.hayagriva.proofs.Parsing.{of_part, terms_from, terms_next, in_parens_at, word_value, factor_value, binding_attributes, in_negated_at, in_named_at, run_closed, run_next, pairs_from, pairs_next, run_fails, alt_next, multi_next}
 use Rattle.hayagriva.proofs.Syntaxes.{syntax-wildcard, syntax-neg, syntax-binding, syntax-attr, syntax-ancestrage}
 use Rattle.hayagriva.proofs.selectors.parse.+parser.Goals as goal
