@@ -1,12 +1,12 @@
 -- The last pair of a name, in lists that are mapped or grow.
 use Rattle.std.proofs.Common.{Bor, ◌≡◌, ℕ, Bool, true, false, cond, List, [], ◌∷◌, ◌++◌, Option, Some, None, map, refl, sym, ap, ◌∙◌}
-use Rattle.std.specs.Prelude.{find, option_and_then, option_map, reverse}
+use Rattle.std.specs.Prelude.{find, is_some, option_and_then, option_map, reverse}
 use Rattle.std.specs.Str.{bytes_eq}
 use Rattle.std.proofs.lemmas.List.{reverse-append}
 use mathlib.Core.List.{reverse_aux}
 use Rattle.haya_entry.specs.declared.entry.Entry.{Entry}
 use Rattle.haya_entry.specs.Tree.{Tree, view, at}
-use Rattle.hayagriva.specs.Binds.{binds, bound_to, last_of}
+use Rattle.hayagriva.specs.Binds.{binds, bound_to, is_bound, last_of}
 use Rattle.hayagriva.specs.Evaluation.{Found, resolved, shown}
 use Rattle.hayagriva.specs.Syntax.{Syntax}
 
@@ -43,6 +43,10 @@ pub last_of-push : {A : Type 0} (q : List ℕ) (pairs : List (List ℕ × A)) (n
     → last_of q (pairs ++ (n, v) ∷ []) ≡ cond (bytes_eq n q) (Some v) (last_of q pairs)
 last_of-push q pairs n v = rw (reverse-append, option_map-cond) refl
 
+is_some-map : {X Y : Type 0} (h : X → Y) (o : Option X) → is_some (option_map h o) ≡ is_some o
+is_some-map h None = refl
+is_some-map h (Some x) = refl
+
 joined : {X Y : Type 0} (h : X → Y) (o : Option X) → option_and_then (λ p. p) (option_map (λ x. Some (h x)) o) ≡ option_map h o
 joined h None = refl
 joined h (Some x) = refl
@@ -51,11 +55,19 @@ joined-map : {X Y : Type 0} (h : X → Option Y) (o : Option X) → option_and_t
 joined-map h None = refl
 joined-map h (Some x) = refl
 
--- the last of what was found at an entry is what the name is bound to there
-pub last_is_bound : (s : Syntax) (x : Tree) (found : Found) (q : List ℕ) (o : Option (Bor Entry)) → shown found ≡ resolved (at x) (binds s x) → option_map (λ e. e.now) o ≡ last_of q found
-    → option_map (λ e. view e.now) o ≡ bound_to s x q
-last_is_bound s x found q o h e =
-    let both : option_map (λ e. Some (view e)) (last_of q found) ≡ option_map (at x) (last_of q (binds s x)) =
-    sym (last_of-second q (λ e. Some (view e)) found) ∙ ap (last_of q) h ∙ last_of-second q (at x) (binds s x) in
-    sym (option_map-map view (λ e. e.now) o) ∙ ap (option_map view) e
-    ∙ sym (joined view (last_of q found)) ∙ ap (option_and_then (λ p. p)) both ∙ joined-map (at x) (last_of q (binds s x))
+module _ (s : Syntax) (x : Tree) (found : Found) (q : List ℕ) (o : Option (Bor Entry)) (h : shown found ≡ resolved (at x) (binds s x))
+    (e : option_map (λ e. e.now) o ≡ last_of q found) where
+  both : option_map (λ e. Some (view e)) (last_of q found) ≡ option_map (at x) (last_of q (binds s x))
+  both = sym (last_of-second q (λ e. Some (view e)) found) ∙ ap (last_of q) h ∙ last_of-second q (at x) (binds s x)
+
+  -- a name is found at an entry where it is bound there
+  pub found_is_bound : is_some o ≡ is_bound s x q
+  found_is_bound =
+      sym (is_some-map (λ e. e.now) o) ∙ ap is_some e
+      ∙ sym (is_some-map (λ e. Some (view e)) (last_of q found)) ∙ ap is_some both ∙ is_some-map (at x) (last_of q (binds s x))
+
+  -- the last of what was found at an entry is what the name is bound to there
+  pub last_is_bound : option_map (λ e. view e.now) o ≡ bound_to s x q
+  last_is_bound =
+      sym (option_map-map view (λ e. e.now) o) ∙ ap (option_map view) e
+      ∙ sym (joined view (last_of q found)) ∙ ap (option_and_then (λ p. p)) both ∙ joined-map (at x) (last_of q (binds s x))

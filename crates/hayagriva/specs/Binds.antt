@@ -67,6 +67,10 @@ abbrev mutual
 abbrev pub last_of : {A : Type 0} → List ℕ → List (List ℕ × A) → Option A
 last_of q pairs = option_map (λ p. p.1) (find (λ p. bytes_eq p.0 q) (reverse pairs))
 
+-- whether the name is bound where the selector holds
+abbrev pub is_bound : Syntax → Tree → List ℕ → Bool
+is_bound s x q = is_some (last_of q (binds s x))
+
 -- the entry that the name is bound to where the selector holds
 abbrev pub bound_to : Syntax → Tree → List ℕ → Option Tree
 bound_to s x q = option_and_then (at x) (last_of q (binds s x))

@@ -1,7 +1,7 @@
 ghost use Rattle.std.specs.Prelude.{◌≡◌, ◌+◌, ◌*◌, ◌≤◌, ℕ, List, IfOk, IfSome, is_some, option_map};
 ghost use Rattle.std.specs.HashMap.{get_by_text};
 ghost use Rattle.haya_entry.specs.Tree.{view, size};
-ghost use Rattle.hayagriva.specs.Binds.{bound_to, found_bound};
+ghost use Rattle.hayagriva.specs.Binds.{bound_to, found_bound, is_bound};
 ghost use Rattle.hayagriva.specs.Calls.{calls};
 ghost use Rattle.hayagriva.specs.Holds.{holds as holds_for};
 ghost use Rattle.hayagriva.specs.Syntax.{syntax, nodes};
@@ -24,6 +24,8 @@ impl Selector {
         entry: &'e Entry,
     ) -> Result<Option<HashMap<String, &'e Entry>>, OutOfMemory>
         ensures holds { IfOk result (λ o. is_some o ≡ holds_for (syntax self.now) (view entry.now)) }
+        ensures names { IfOk result
+            (λ o. IfSome o (λ m. (q : List ℕ) → is_some (get_by_text m q) ≡ is_bound (syntax self.now) (view entry.now) q)) }
         ensures bound { IfOk result
             (λ o. IfSome o (λ m. (q : List ℕ) → option_map (λ e. view e.now) (get_by_text m q) ≡ bound_to (syntax self.now) (view entry.now) q)) }
     {
@@ -41,6 +43,8 @@ impl Selector {
         steps: &mut Steps,
     ) -> Result<Option<HashMap<String, &'e Entry>>, OutOfMemory>
         ensures holds { IfOk result (λ o. is_some o ≡ holds_for (syntax self.now) (view entry.now)) }
+        ensures names { IfOk result
+            (λ o. IfSome o (λ m. (q : List ℕ) → is_some (get_by_text m q) ≡ is_bound (syntax self.now) (view entry.now) q)) }
         ensures bound { IfOk result
             (λ o. IfSome o (λ m. (q : List ℕ) → option_map (λ e. view e.now) (get_by_text m q) ≡ bound_to (syntax self.now) (view entry.now) q)) }
         ensures ticks { IfOk result (λ _. steps.new ≡ steps.old + calls (syntax self.now) (view entry.now)) }
