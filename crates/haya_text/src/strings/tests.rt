@@ -220,6 +220,12 @@ fn texts_without_math(rt: HostRuntime) -> Result<(), Fail> {
     };
     assert_eq!(rt; unfolded, text_of(alloc, &[("a", Normal), ("", Verbatim)])?);
     assert_eq!(rt; FoldableChunkedString::new(alloc).0.len(), 0);
+    Ok(())
+}
+
+#[test]
+fn chunks_of_math_are_not_folded(rt: HostRuntime) -> Result<(), Fail> {
+    let alloc = rt.alloc();
     let math = StringChunk::math(String::from_str(alloc, "x")?);
     let Err(math) = FoldableStringChunk::try_from(math) else {
         panic!(rt; "a chunk of math is folded")
@@ -255,6 +261,10 @@ fn unread_forms(rt: HostRuntime) -> Result<(), Fail> {
         FormatString::from_string(alloc, String::from_str(alloc, "a{b}")?)?
     );
     assert_eq!(rt; *unread.select(LongShortForm::Short), unread.value);
+    assert_eq!(rt;
+        unread.value,
+        ChunkedString::from_string(alloc, String::from_str(alloc, "a{b}")?)?
+    );
     assert_eq!(rt; FormatString::new(alloc).value, ChunkedString::new(alloc));
     Ok(())
 }
@@ -289,6 +299,8 @@ fn short_forms(rt: HostRuntime) -> Result<(), Fail> {
     assert_forms(&rt, alloc, &read, "$x$", "$x$")?;
     let chunk = StringChunk::math(String::from_str(alloc, "x")?);
     assert_eq!(rt; read, FormatString::from_chunk(alloc, chunk)?);
+    let chunk = StringChunk::math(String::from_str(alloc, "x")?);
+    assert_eq!(rt; read.value, ChunkedString::from_chunk(alloc, chunk)?);
     assert!(rt; FormatString::from_str(alloc, "}").is_err());
     Ok(())
 }
