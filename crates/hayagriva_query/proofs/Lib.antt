@@ -1,3 +1,7 @@
 mod Depths
 mod FieldsRead
 mod Rows
+mod Chains
+mod Progress
+mod InputRows
+mod Views

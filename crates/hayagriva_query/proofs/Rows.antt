@@ -1,6 +1,6 @@
 -- The row that a line's items make.
-use Rattle.std.proofs.Common.{◌⊎◌, inl, inr, ⊎_elim, ◌≡◌, ℕ, ◌≤◌, List, [], ◌∷◌, Option, Some, Result, Ok, Err, length, map, take, drop, get_or, ◌-◌, refl, ap, ◌∙◌, subst, arith}
-use Rattle.std.specs.Prelude.{IsOkAnd, ok_or}
+use Rattle.std.proofs.Common.{◌⊎◌, inl, inr, ⊎_elim, ◌≡◌, ℕ, ◌≤◌, List, ◌∷◌, Option, None, Some, Result, Ok, Err, length, map, take, drop, get_or, ◌-◌, refl, sym, ap, subst, arith, rules, tests}
+use Rattle.std.specs.Prelude.{IsOkAnd, IfOk, ok_or}
 use Rattle.std.proofs.lemmas.List.{take_all}
 use Rattle.hayagriva.specs.declared.types.EntryType.{EntryType}
 use Rattle.hayagriva.specs.EntryType.{type_read}
@@ -37,6 +37,43 @@ row_read-ok text (a ∷ b ∷ c ∷ more) x deepest n k first last three d t mad
     (set_leaf (text b) k first last (λ f. fields_read f (map text more)) made
     (subst (λ l. IsOkAnd (fields_read (fields first) (map text l)) (λ f. last ≡ with_fields (λ _. f) first)) rest set))
 row_read-ok text _ x deepest n k first last three d t made set = absurd (omega arith)
+
+depth_within : (deepest : ℕ) (item : List ℕ) (d : ℕ) → depth_read deepest item ≡ Some d → d ≤ deepest
+depth_within deepest item d is = search (rules, tests)
+
+-- no row is deeper than it may be
+pub row_within : (deepest : ℕ) (items : List (List ℕ)) → IfOk (row_read deepest items) (λ row. row.depth ≤ deepest)
+row_within deepest (a ∷ b ∷ c ∷ more) = by (depth_read deepest a) (depth_within deepest a) (type_read c)
+  where
+    fields_within : (d : ℕ) → d ≤ deepest → (r : Result Fields LineFault) → IfOk {T = Row} (and_then r (λ f. Ok (record { depth = d; fields = f }))) (λ row. row.depth ≤ deepest)
+    fields_within d within (Ok f) = within
+    fields_within d within (Err e) = tt
+
+    by : (o : Option ℕ) → ((d : ℕ) → o ≡ Some d → d ≤ deepest) → (t : Option EntryType)
+        → IfOk {T = Row} (and_then (ok_or o Depth) (λ d. and_then (ok_or t UnknownType) (λ k. and_then (fields_read (fields (bare b k)) more) (λ f. Ok (record { depth = d; fields = f }))))) (λ row. row.depth ≤ deepest)
+    by None within t = tt
+    by (Some d) within None = tt
+    by (Some d) within (Some k) = fields_within d (within d refl) (fields_read (fields (bare b k)) more)
+row_within deepest _ = tt
+
+-- what holds of the row that was read
+pub row_taken : (m deepest : ℕ) (items : List (List ℕ)) (n : ℕ) (entry : Tree) (Q : Row → Type 0) → m ≡ deepest
+    → IsOkAnd (row_read m items) (λ row. (n ≡ row.depth) × (entry ≡ leaf row.fields))
+    → ((row : Row) → n ≡ row.depth → n ≤ deepest → entry ≡ leaf row.fields → Q row) → IsOkAnd (row_read deepest items) Q
+row_taken m deepest items n entry Q same = subst (λ d. Read d → All → Taken) (sym same) (by (row_read deepest items) (row_within deepest items))
+  where
+    Read : ℕ → Type 0
+    Read d = IsOkAnd (row_read d items) (λ row. (n ≡ row.depth) × (entry ≡ leaf row.fields))
+
+    All : Type 0
+    All = (row : Row) → n ≡ row.depth → n ≤ deepest → entry ≡ leaf row.fields → Q row
+
+    Taken : Type 0
+    Taken = IsOkAnd (row_read deepest items) Q
+
+    by : (r : Result Row LineFault) → IfOk r (λ row. row.depth ≤ deepest) → IsOkAnd r (λ row. (n ≡ row.depth) × (entry ≡ leaf row.fields)) → All → IsOkAnd r Q
+    by (Ok row) within h all = all row h.0 (omega arith) h.1
+    by (Err e) within h all = h
 
 -- a fault of the fields is the row's
 pub row_read-err : {X : Type 0} (text : X → List ℕ) (items : List X) (x : X) (deepest n : ℕ) (k : EntryType) (first : Tree) (e : LineFault) → 3 ≤ length items

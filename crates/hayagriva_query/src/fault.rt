@@ -1,6 +1,6 @@
 //! Why the program ends with another status than 0.
-ghost use Rattle.std.specs.Prelude.{◌≡◌, ◌↔◌};
-ghost use Rattle.hayagriva_query.specs.declared.fault.Fault.TheVariants.{Usage};
+ghost use Rattle.std.specs.Prelude.{◌≡◌, ◌≢◌};
+ghost use Rattle.hayagriva_query.specs.declared.fault.Fault.TheVariants.{Usage, Line};
 
 use hayagriva::{OutOfMemory, SelectorError};
 use std::alloc::{AllocError, AllocFailed};
@@ -43,7 +43,7 @@ pub enum Fault {
     NotText,
     /// The line with this number, from 1 on, is the first with a fault.
     #[error("line {0}: {1}")]
-    Line(u64, LineFault),
+    Line(usize, LineFault),
     /// The argument is no selector.
     #[error("{0}")]
     Selector(SelectorError),
@@ -58,7 +58,8 @@ pub enum Fault {
 impl Fault {
     /// The status that the process is to end with: 2 where the arguments are wrong, else 1.
     pub fn status(&self) -> u8
-        ensures usage { (result ≡ 2) ↔ (self.now ≡ Usage) }
+        ensures usage { self.now ≡ Usage → result ≡ 2 }
+        ensures other { self.now ≢ Usage → result ≡ 1 }
     {
         match self {
             Fault::Usage => 2,
@@ -67,7 +68,10 @@ impl Fault {
     }
 
     /// The fault of the line with this number. Want of memory is none of the line's.
-    pub fn of_line(number: u64, fault: LineFault) -> Fault {
+    pub fn of_line(number: usize, fault: LineFault) -> Fault
+        ensures memory { fault ≡ LineFault.OutOfMemory → result ≡ Fault.OutOfMemory }
+        ensures line { fault ≢ LineFault.OutOfMemory → result ≡ Line number fault }
+    {
         match fault {
             LineFault::OutOfMemory => Fault::OutOfMemory,
             _ => Fault::Line(number, fault),
@@ -76,6 +80,11 @@ impl Fault {
 }
 
 impl From<SelectorError> for Fault {
+    ghost use Rattle.hayagriva.specs.declared.selectors.SelectorError.TheVariants as error;
+    ghost use Rattle.hayagriva_query.specs.declared.fault.Fault.TheVariants.{OutOfMemory, Selector};
+
+    ghost from_gives = { λ s e. (s ≡ error.OutOfMemory → e ≡ OutOfMemory) × (s ≢ error.OutOfMemory → e ≡ Selector s) };
+
     fn from(error: SelectorError) -> Fault {
         match error {
             SelectorError::OutOfMemory => Fault::OutOfMemory,

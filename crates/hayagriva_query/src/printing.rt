@@ -1,11 +1,16 @@
 //! Prints hits, a line each.
+ghost use Rattle.std.specs.Prelude.{◌≡◌, ◌⊎◌, IfErr, IsOkUnless};
+ghost use Rattle.hayagriva_query.specs.declared.fault.Fault.TheVariants.{CannotWrite, OutOfMemory};
+
 use crate::fault::Fault;
 use hayagriva::Hit;
 use std::alloc::Global;
 use std::io::Write;
 
 /// Prints each hit's line. A line is handed on whole, so that nothing of a later one stands before it.
-pub fn print_hits<W: Write>(alloc: Global, hits: &[Hit], out: &mut W) -> Result<(), Fault> {
+pub fn print_hits<W: Write>(alloc: Global, hits: &[Hit], out: &mut W) -> Result<(), Fault>
+    ensures fault { IfErr result (λ e. (e ≡ CannotWrite) ⊎ (e ≡ OutOfMemory)) }
+{
     for hit in hits {
         let line = line_of(alloc, hit)?;
         if out.write_all(line.as_bytes()).is_err() {
@@ -19,7 +24,9 @@ pub fn print_hits<W: Write>(alloc: Global, hits: &[Hit], out: &mut W) -> Result<
 }
 
 // The entry's key, then a tab and `name=key` for each binding, in byte order of the names, and a line feed.
-fn line_of(alloc: Global, hit: &Hit) -> Result<String, Fault> {
+fn line_of(alloc: Global, hit: &Hit) -> Result<String, Fault>
+    ensures fault { IsOkUnless result OutOfMemory }
+{
     let mut line = String::from_str(alloc, hit.entry.key())?;
     let mut bindings = hit.bindings.iter().collect::<Vec<_>>(alloc)?;
     bindings.sort_unstable_by(|a, b| a.0.cmp(b.0));

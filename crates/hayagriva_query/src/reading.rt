@@ -1,5 +1,6 @@
 //! Reads the whole input, in a bounded number of reads.
-ghost use Rattle.std.specs.Prelude.{IfOk, OnOk};
+ghost use Rattle.std.specs.Prelude.{◌≡◌, ◌⊎◌, IfOk, IfErr, OnOk};
+ghost use Rattle.hayagriva_query.specs.declared.fault.Fault.TheVariants.{CannotRead, OutOfMemory};
 ghost use Rattle.std.specs.Io.KnownBytes.{Consumes, IsAtEnd};
 
 use crate::fault::Fault;
@@ -11,6 +12,7 @@ use std::io::Read;
 /// `CannotRead` is any other failed read, and an end that 4294967295 reads don't reach.
 pub fn read_all<R: Read>(alloc: Global, input: &mut R) -> Result<Vec<u8>, Fault>
     ensures bytes { IfOk result (λ bytes. Consumes (R.remaining input.old) (R.remaining input.new) bytes.items) }
+    ensures fault { IfErr result (λ e. (e ≡ CannotRead) ⊎ (e ≡ OutOfMemory)) }
     ensures end { OnOk result (IsAtEnd (R.remaining input.new)) }
 {
     let mut bytes = Vec::new(alloc);

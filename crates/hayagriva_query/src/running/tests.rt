@@ -68,8 +68,8 @@ fn prints_a_line_for_each_hit(rt: HostRuntime) -> Result<(), Fail> {
         ),
         (
             SMALL,
-            "article > (w:periodical > j:*[language])",
-            "paper\tj=site\tw=journal\n",
+            "article > (a:periodical > W:*[language])",
+            "paper\tW=site\ta=journal\n",
         ),
         (SMALL, "(article > j:periodical) > w:*[language]", ""),
         (SMALL, "a:* > a:*", "paper\ta=journal\n"),
@@ -231,13 +231,15 @@ fn says_that_it_cannot_read(rt: HostRuntime) -> Result<(), Fail> {
 fn says_that_it_cannot_write(rt: HostRuntime) -> Result<(), Fail> {
     let words = texts(rt.alloc(), &["*"])?;
     let whole = b"paper\nnote\n";
-    for room in 0..whole.len() {
+    for room in 0..whole.len() + 1 {
         for recovers in [false, true] {
             let (mut input, mut err) = (SMALL.as_bytes(), Vec::new(rt.alloc()));
             let mut out = FailingWriter {
                 taken: Vec::new(rt.alloc()),
                 room,
                 recovers,
+                // with room for all, it is the flush that fails
+                stuck: room == whole.len(),
             };
             let status = run(rt.alloc(), words.as_slice(), &mut input, &mut out, &mut err);
             assert_eq!(rt; status, 1, "{room}");
@@ -258,6 +260,7 @@ fn keeps_its_status_where_it_cannot_complain(rt: HostRuntime) -> Result<(), Fail
             taken: Vec::new(rt.alloc()),
             room: 3,
             recovers: false,
+            stuck: true,
         };
         let found = run(rt.alloc(), words.as_slice(), &mut input, &mut out, &mut err);
         assert_eq!(rt; found, status);

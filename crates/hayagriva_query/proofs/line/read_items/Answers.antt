@@ -1,4 +1,4 @@
-use Rattle.std.proofs.Common.{rules, sym, ap, ◌∙◌}
+use Rattle.std.proofs.Common.{sym, ap, ◌∙◌}
 use Rattle.std.specs.Result.{result_ok}
 use Rattle.hayagriva.specs.Tree.{view}
 use Rattle.std.proofs.lemmas.Result.{err_from_is_err_and}

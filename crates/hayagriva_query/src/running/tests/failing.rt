@@ -30,12 +30,13 @@ impl Read for FailingReader<'_> {
     }
 }
 
-/// Takes `room` bytes, and then fails, once or each time.
+/// Takes `room` bytes, and then fails, once or each time. Where `stuck` is set, it can't be flushed.
 #[derive(Drop)]
 pub struct FailingWriter {
     pub taken: Vec<u8>,
     pub room: usize,
     pub recovers: bool,
+    pub stuck: bool,
 }
 
 impl Write for FailingWriter {
@@ -53,6 +54,9 @@ impl Write for FailingWriter {
     }
 
     fn flush(&mut self) -> io::Result<()> {
+        if self.stuck {
+            return Err(io::Error::from(io::ErrorKind::Other));
+        }
         Ok(())
     }
 }

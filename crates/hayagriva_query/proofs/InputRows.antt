@@ -1,0 +1,60 @@
+-- The words of the program's input, at worked rows.
+use Rattle.std.proofs.Common.{◌≡◌, [], ◌∷◌, None, Some, Err, refl}
+use Rattle.std.specs.Prelude.{codes}
+use Rattle.std.specs.Str.Lines.{lines}
+use Rattle.hayagriva.specs.declared.types.EntryType.TheVariants.{Article, Blog, Book, Periodical, Web}
+use Rattle.hayagriva.specs.Tree.{Tree, bare, with_fields, with_parents, with_keyed_serial_number}
+use Rattle.hayagriva_query.specs.declared.fault.LineFault.TheVariants.{Shape, Depth, UnknownType, UnknownField}
+use Rattle.hayagriva_query.specs.Input.{Describes, depth_read, named, rows_read}
+
+abbrev in_english : Tree → Tree
+in_english = with_fields (λ f. record f { language = Some (codes "en") })
+
+abbrev site : Tree
+site = in_english (bare (codes "site") Web)
+
+abbrev journal : Tree
+journal = with_parents (site ∷ []) (bare (codes "journal") Periodical)
+
+abbrev paper : Tree
+paper = with_parents (journal ∷ bare (codes "book") Book ∷ []) (with_keyed_serial_number (codes "doi") (codes "1=a") (bare (codes "paper") Article))
+
+abbrev note : Tree
+note = bare (codes "note") Blog
+
+-- a paper in a journal, which stands in a site, and in a book; and a note
+two_entries : Describes
+    (codes "0\tpaper\tarticle\tdoi=1=a\r\n\n1\tjournal\tPeriodical\n2\tsite\tweb\tlanguage=de\tlanguage=en\n\r\n1\tbook\tbook\n0\tnote\tblog")
+    (paper ∷ note ∷ [])
+two_entries = record { entries = paper ∷ note ∷ []; rows = refl; pushed = refl }
+
+-- the second entry with the key takes the first one's place
+again : Describes (codes "0\ta\tbook\n0\tb\tweb\n0\ta\tblog\n") (bare (codes "a") Blog ∷ bare (codes "b") Web ∷ [])
+again = record { entries = bare (codes "a") Book ∷ bare (codes "b") Web ∷ bare (codes "a") Blog ∷ []; rows = refl; pushed = refl }
+
+no_lines : Describes [] []
+no_lines = record { entries = []; rows = refl; pushed = refl }
+
+-- the first line with a fault decides, and empty lines are counted
+faults :
+    (rows_read 1 0 (lines (codes "0\ta\tbook\n2\tb\tweb\n0\tc")) ≡ Err (2, Depth))
+    × (rows_read 1 0 (lines (codes "\n\r\n1\ta\tbook")) ≡ Err (3, Depth))
+    × (rows_read 1 0 (lines (codes "0\ta\tbook\n0\tb\n")) ≡ Err (2, Shape))
+    × (rows_read 1 0 (lines (codes "0\ta\tBOOK\tx")) ≡ Err (1, UnknownType))
+    × (rows_read 1 0 (lines (codes "0\ta\tbook\t=b\tx")) ≡ Err (1, UnknownField))
+faults = (refl, refl, refl, refl, refl)
+
+depths :
+    (depth_read 500 (codes "500") ≡ Some 500)
+    × (depth_read 501 (codes "501") ≡ None)
+    × (depth_read 3 (codes "4") ≡ None)
+    × (depth_read 3 (codes "003") ≡ Some 3)
+    × (depth_read 3 (codes "0003") ≡ None)
+    × (depth_read 3 [] ≡ None)
+depths = (refl, refl, refl, refl, refl, refl)
+
+names :
+    (named (codes "doi=x=y") ≡ Some (codes "doi", codes "x=y"))
+    × (named (codes "=") ≡ Some ([], []))
+    × (named (codes "doi") ≡ None)
+names = (refl, refl, refl)
