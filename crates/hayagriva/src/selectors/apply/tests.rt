@@ -50,11 +50,12 @@ fn asked(rt: &(impl Abort + AllocGlobal), selector: &Selector, entry: &Entry) ->
     let selected = entry
         .bound_select(rt.alloc(), selector, "a")
         .expect(rt, "memory");
-    match (bound, selected) {
-        (Some(bound), Some(selected)) if holds && bound == selected => string(rt, bound.key()),
-        (None, None) if holds => string(rt, "yes"),
-        (None, None) => string(rt, "no"),
-        _ => string(rt, "unlike"),
+    if bound != selected {
+        return string(rt, "unlike");
+    }
+    match bound {
+        Some(bound) => string(rt, bound.key()),
+        None => string(rt, if holds { "yes" } else { "no" }),
     }
 }
 
