@@ -1,8 +1,7 @@
 -- How far the lines of a text are read.
-use Rattle.std.proofs.Common.{◌⊎◌, inl, inr, ◌≡◌, ◌≢◌, ℕ, ◌+◌, ◌<◌, ◌≤◌, Bool, false, true, cond, List, [], ◌∷◌, ◌++◌, Result, Ok, Err, length, map, drop, get_or, refl, sym, ap, ◌∙◌, append_assoc, append-nil, subst, arith, rules, tests}
-use Rattle.std.specs.Prelude.{IsErrAnd, IsOkAnd, ◌==◌, if◌then◌else◌}
-use Rattle.std.specs.Str.Lines.{lines, lines_of_parts}
-use Rattle.std.specs.List.{onto_first, slice_split}
+use Rattle.std.proofs.Common.{◌⊎◌, inl, inr, ◌≡◌, ◌≢◌, ℕ, ◌+◌, ◌<◌, false, List, [], ◌∷◌, ◌++◌, Result, Ok, Err, length, map, drop, get_or, refl, sym, ap, ◌∙◌, append_assoc, append-nil, subst, arith, rules, tests}
+use Rattle.std.specs.Prelude.{IsErrAnd, IsOkAnd, ◌==◌}
+use Rattle.std.specs.Str.Lines.{lines}
 use Rattle.std.proofs.lemmas.List.{drop_all, drop_more, length-map}
 use Rattle.hayagriva.specs.Tree.{Tree, trees}
 use Rattle.hayagriva_query.specs.declared.fault.Fault.{Fault}
@@ -98,23 +97,6 @@ module _ {X : Type 0} (v : X → Tree) (xs : List X) (all : List (List ℕ)) (co
   Progress-line_fault e (inr h) =
       inr (Progress-fault all count library (map v xs) line so_far within is some (λ f. e ≡ Line f.0 f.1)
       (seen (λ d. IsErrAnd (row_read d (items line)) (λ f. e ≡ Line (count + 1) f)) h))
-
--- there are no more lines than bytes
-pub lines_within : (text : List ℕ) → length (lines text) ≤ length text
-lines_within [] = omega arith
-lines_within (b ∷ bs) = by (b == 10) (slice_split (λ b. b == 10) bs) (lines_within bs)
-  where
-    one : (part : List ℕ) (is_empty : Bool) → length (if is_empty then [] else part ∷ []) ≤ length (b ∷ bs)
-    one part true = omega arith
-    one part false = omega arith
-
-    by : (is_end : Bool) (parts : List (List ℕ)) → length (lines_of_parts parts) ≤ length bs
-        → length (lines_of_parts (cond is_end ([] ∷ parts) (onto_first b parts))) ≤ length (b ∷ bs)
-    by true [] h = omega arith
-    by true (part ∷ parts) h = omega arith
-    by false [] h = omega arith
-    by false (part ∷ []) h = one (b ∷ part) (length (b ∷ part) == 0)
-    by false (part ∷ next ∷ parts) h = omega arith
 
 -- all rows are those of the library, and its chain is put away
 pub Progress-end : (text : List ℕ) (count : ℕ) (library chain last : List Tree) → Progress (lines text) count library chain → length (lines text) ≡ count
