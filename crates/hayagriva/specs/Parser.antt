@@ -1,5 +1,5 @@
 -- What the functions of the parser may answer.
-use Rattle.std.specs.Prelude.{◌≡◌, ℕ, List, [], ◌∷◌, map, IfSome, Result, Ok, Err, Vec, String, string_bytes}
+use Rattle.std.specs.Prelude.{◌≡◌, List, [], ◌∷◌, map, IfSome, Result, Ok, Err, Vec, String, string_bytes}
 use Rattle.std.specs.declared.alloc.Global.{Global}
 use Rattle.hayagriva.specs.declared.selectors.Selector.{Selector}
 use Rattle.hayagriva.specs.declared.selectors.SelectorError.{SelectorError}

@@ -1,5 +1,5 @@
 //! The whole program, but for where its words, its input and its output come from.
-ghost use Rattle.std.specs.Prelude.{◌≡◌, ◌≢◌, ◌↔◌, length, IsErrOf};
+ghost use Rattle.std.specs.Prelude.{◌≡◌, ◌≢◌, ◌≤◌, length, IfErr, IsErrOf};
 ghost use Rattle.hayagriva_query.specs.declared.fault.Fault.TheVariants.{Usage};
 ghost use Rattle.std.specs.Io.KnownBytes.{Keeps};
 
@@ -21,6 +21,7 @@ pub fn run<R: Read, W: Write, E: Write>(
     err: &mut E,
 ) -> u8
     ensures usage { length words.now ≢ 1 → result ≡ 2 }
+    ensures other { length words.now ≡ 1 → result ≤ 1 }
     ensures silent { length words.now ≢ 1 → Keeps (W.contents out.old) (W.contents out.new) }
     ensures unread { length words.now ≢ 1 → Keeps (R.remaining input.old) (R.remaining input.new) }
 {
@@ -42,6 +43,7 @@ fn answer<R: Read, W: Write>(
     out: &mut W,
 ) -> Result<(), Fault>
     ensures usage { length words.now ≢ 1 → IsErrOf result Usage }
+    ensures other { length words.now ≡ 1 → IfErr result (λ e. e ≢ Usage) }
     ensures silent { length words.now ≢ 1 → Keeps (W.contents out.old) (W.contents out.new) }
     ensures unread { length words.now ≢ 1 → Keeps (R.remaining input.old) (R.remaining input.new) }
 {
