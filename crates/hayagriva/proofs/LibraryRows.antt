@@ -1,5 +1,5 @@
 -- The words of a library, at worked rows.
-use Rattle.std.proofs.Common.{◌≡◌, List, [], ◌∷◌, Some, None, refl}
+use Rattle.std.proofs.Common.{◌≡◌, [], ◌∷◌, Some, None, refl}
 use Rattle.std.specs.Prelude.{codes}
 use Rattle.haya_entry.specs.Tree.{Tree, bare}
 use Rattle.haya_entry.specs.declared.types.EntryType.TheVariants.{Blog, Book, Web}
