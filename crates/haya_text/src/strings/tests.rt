@@ -1,3 +1,5 @@
+//! What each call gives back where there is memory. A refused allocation ends a test, and what is owned is let go by
+//! a call: so no test has a path on which it has to drop texts, and its proof stays short.
 ghost use Rattle.std.specs.Prelude.{◌≡◌, option_map, IfOk};
 
 use super::ChunkKind::{Math, Normal, Verbatim};
@@ -7,14 +9,42 @@ use std::alloc::Global;
 use std::fmt;
 use std::fmt::Write;
 use std::process::Abort;
-use std::test::Fail;
 
-fn text_of(alloc: Global, chunks: &[(&str, ChunkKind)]) -> Result<ChunkedString, OutOfMemory> {
-    let mut text = ChunkedString::new(alloc);
+fn string(rt: &(impl Abort + AllocGlobal), text: &str) -> String {
+    String::from_str(rt.alloc(), text).expect(rt, "memory")
+}
+
+fn text_of(rt: &(impl Abort + AllocGlobal), chunks: &[(&str, ChunkKind)]) -> ChunkedString {
+    let mut text = ChunkedString::new(rt.alloc());
     for (value, kind) in chunks {
-        text.push_chunk(StringChunk::new(String::from_str(alloc, *value)?, *kind))?;
+        let chunk = StringChunk::new(string(rt, *value), *kind);
+        text.push_chunk(chunk).expect(rt, "memory");
     }
-    Ok(text)
+    text
+}
+
+// Whether the text has these chunks and no others.
+fn has(
+    rt: &(impl Abort + AllocGlobal),
+    text: &ChunkedString,
+    chunks: &[(&str, ChunkKind)],
+) -> bool {
+    let wanted = text_of(rt, chunks);
+    let same = *text == wanted;
+    drop(wanted);
+    same
+}
+
+fn is_serialized(rt: &(impl Abort + AllocGlobal), text: &ChunkedString, wanted: &str) -> bool {
+    text.to_serialized(rt.alloc()).expect(rt, "memory").as_str() == wanted
+}
+
+// Whether it is shown so.
+fn is_shown<D: fmt::Display>(rt: &(impl Abort + AllocGlobal), value: &D, wanted: &str) -> bool {
+    format!(in rt.alloc(); "{value}")
+        .expect(rt, "memory")
+        .as_str()
+        == wanted
 }
 
 // A text, the chunks that it reads as, and what these are serialized as.
@@ -52,18 +82,17 @@ const READ: [Row<'static>; 8] = [
 ];
 
 #[test]
-fn texts_are_read(rt: HostRuntime) -> Result<(), Fail> {
-    let alloc = rt.alloc();
+fn texts_are_read(rt: HostRuntime) {
     for (text, chunks, serialized) in READ {
-        let read = ChunkedString::from_str(alloc, text)?;
-        assert_eq!(rt; read, text_of(alloc, chunks)?, "{text}");
-        assert_eq!(rt; read.to_serialized(alloc)?.as_str(), serialized, "{text}");
+        let read = ChunkedString::from_str(rt.alloc(), text).expect(&rt, "a text");
+        assert!(rt; has(&rt, &read, chunks), "{text}");
+        assert!(rt; is_serialized(&rt, &read, serialized), "{text}");
+        drop(read);
     }
-    Ok(())
 }
 
 #[test]
-fn a_closing_brace_is_refused(rt: HostRuntime) -> Result<(), Fail> {
+fn a_closing_brace_is_refused(rt: HostRuntime) {
     let refused = ChunkedString::from_str(rt.alloc(), "a}b");
     let Err(ChunkedReadError::Parse(brace)) = refused else {
         panic!(rt; "a closing brace is read")
@@ -71,43 +100,36 @@ fn a_closing_brace_is_refused(rt: HostRuntime) -> Result<(), Fail> {
     assert_eq!(rt; brace.position(), 1);
     assert!(rt; !ChunkedReadError::Parse(brace).is_out_of_memory());
     assert!(rt; ChunkedReadError::OutOfMemory.is_out_of_memory());
-    Ok(())
 }
 
 #[test]
-fn chunks_are_pushed(rt: HostRuntime) -> Result<(), Fail> {
-    let alloc = rt.alloc();
-    let mut text = ChunkedString::new(alloc);
-    text.push_char('a', Normal)?;
-    text.push_str("b", Normal)?;
-    text.push_chunk(StringChunk::normal(String::from_str(alloc, "c")?))?;
-    assert_eq!(rt; text, text_of(alloc, &[("ab", Normal), ("c", Normal)])?);
-    assert_eq!(rt; (text.len(), text.is_empty()), (3, false));
-    Ok(())
-}
-
-#[test]
-fn an_empty_chunk_is_pushed(rt: HostRuntime) -> Result<(), Fail> {
-    let alloc = rt.alloc();
-    let mut text = ChunkedString::new(alloc);
-    text.push_str("", Verbatim)?;
-    assert_eq!(rt; text, text_of(alloc, &[("", Verbatim)])?);
+fn chunks_are_pushed(rt: HostRuntime) {
+    let mut text = ChunkedString::new(rt.alloc());
+    text.push_str("", Verbatim).expect(&rt, "memory");
     assert!(rt; text.is_empty());
-    assert_eq!(rt; text.to_serialized(alloc)?.as_str(), "{}");
-    Ok(())
+    assert!(rt; is_serialized(&rt, &text, "{}"));
+    text.push_char('a', Normal).expect(&rt, "memory");
+    text.push_str("b", Normal).expect(&rt, "memory");
+    let chunk = StringChunk::normal(string(&rt, "c"));
+    text.push_chunk(chunk).expect(&rt, "memory");
+    assert!(rt; has(&rt, &text, &[("", Verbatim), ("ab", Normal), ("c", Normal)]));
+    assert_eq!(rt; (text.len(), text.is_empty()), (3, false));
+    drop(text);
 }
 
 #[test]
-fn a_text_is_extended(rt: HostRuntime) -> Result<(), Fail> {
-    let alloc = rt.alloc();
-    let mut text = text_of(alloc, &[("c", Normal)])?;
-    text.extend(text_of(alloc, &[("é", Normal), ("x", Math)])?)?;
-    text.write_str("d")?;
-    text.write_str("e")?;
+fn a_text_is_extended(rt: HostRuntime) {
+    let mut text = text_of(&rt, &[("c", Normal)]);
+    let more = text_of(&rt, &[("é", Normal), ("x", Math)]);
+    text.extend(more).expect(&rt, "memory");
+    text.write_str("d").expect(&rt, "memory");
+    text.write_str("e").expect(&rt, "memory");
     let all = [("c", Normal), ("é", Normal), ("x", Math), ("de", Normal)];
-    assert_eq!(rt; text, text_of(alloc, &all)?);
-    assert_eq!(rt; text.try_clone(alloc)?, text);
-    Ok(())
+    assert!(rt; has(&rt, &text, &all));
+    let copy = text.try_clone(rt.alloc()).expect(&rt, "memory");
+    assert!(rt; has(&rt, &copy, &all));
+    drop(copy);
+    drop(text);
 }
 
 // Chunks, what they are serialized as, what they are shown as, and what `to_str` answers.
@@ -131,36 +153,49 @@ const SHOWN: [Shown<'static>; 5] = [
     ),
 ];
 
-#[test]
-fn texts_are_shown(rt: HostRuntime) -> Result<(), Fail> {
-    let alloc = rt.alloc();
-    for (chunks, serialized, shown, alone) in SHOWN {
-        let text = text_of(alloc, chunks)?;
-        let mut out = String::new(alloc);
-        text.fmt_serialized(&mut out)?;
-        assert_eq!(rt; out.as_str(), serialized);
-        assert_eq!(rt; format!(in alloc; "{text}")?.as_str(), shown);
-        assert_eq!(rt; text.to_str(alloc)?.as_str(), alone);
-    }
-    Ok(())
+// Whether the text is serialized, shown, and shown alone so.
+fn is_written(
+    rt: &(impl Abort + AllocGlobal),
+    text: &ChunkedString,
+    serialized: &str,
+    alone: &str,
+) -> bool {
+    let mut out = String::new(rt.alloc());
+    text.fmt_serialized(&mut out).expect(rt, "memory");
+    let found = text.to_str(rt.alloc()).expect(rt, "memory");
+    let same = out.as_str() == serialized && found.as_str() == alone;
+    drop(found);
+    drop(out);
+    same
 }
 
 #[test]
-fn one_chunk(rt: HostRuntime) -> Result<(), Fail> {
-    let alloc = rt.alloc();
-    let mut chunk = StringChunk::verbatim(String::from_str(alloc, "a")?);
-    chunk.write_str("{")?;
+fn texts_are_shown(rt: HostRuntime) {
+    for (chunks, serialized, shown, alone) in SHOWN {
+        let text = text_of(&rt, chunks);
+        assert!(rt; is_written(&rt, &text, serialized, alone), "{serialized}");
+        assert!(rt; is_shown(&rt, &text, shown), "{serialized}");
+        drop(text);
+    }
+}
+
+#[test]
+fn one_chunk(rt: HostRuntime) {
+    let mut chunk = StringChunk::verbatim(string(&rt, "a"));
+    chunk.write_str("{").expect(&rt, "memory");
     assert_eq!(rt;
         (chunk.as_str(), chunk.len(), chunk.is_empty()),
         ("a{", 2, false)
     );
-    assert_eq!(rt; format!(in alloc; "{chunk}")?.as_str(), "a{");
-    assert_eq!(rt; chunk.try_clone(alloc)?, chunk);
+    assert!(rt; is_shown(&rt, &chunk, "a{"));
+    let copy = chunk.try_clone(rt.alloc()).expect(&rt, "memory");
+    assert_eq!(rt; (copy.as_str(), copy.kind), ("a{", Verbatim));
+    drop(copy);
+    drop(chunk);
     assert_eq!(rt;
         (ChunkKind::default(), FoldableKind::default()),
         (Normal, FoldableKind::Normal)
     );
-    Ok(())
 }
 
 // A writer that takes so many texts and no more, and counts those that it is handed.
@@ -182,8 +217,8 @@ impl fmt::Write for Short {
 }
 
 #[test]
-fn a_writers_fault_ends_the_call(rt: HostRuntime) -> Result<(), Fail> {
-    let text = text_of(rt.alloc(), &[("a", Normal), ("b{", Verbatim), ("x", Math)])?;
+fn a_writers_fault_ends_the_call(rt: HostRuntime) {
+    let text = text_of(&rt, &[("a", Normal), ("b{", Verbatim), ("x", Math)]);
     for room in 0..5 {
         let mut out = Short { room, handed: 0 };
         assert!(rt; text.fmt_serialized(&mut out).is_err());
@@ -191,53 +226,56 @@ fn a_writers_fault_ends_the_call(rt: HostRuntime) -> Result<(), Fail> {
         let mut out = Short { room, handed: 0 };
         assert_eq!(rt; write!(out, "{text}").is_err(), room < 5);
     }
-    Ok(())
+    drop(text);
 }
 
 #[test]
-fn texts_without_math(rt: HostRuntime) -> Result<(), Fail> {
-    let alloc = rt.alloc();
+fn math_is_not_folded(rt: HostRuntime) {
+    let chunks = [("a", Normal), ("x", Math)];
     let Err(FoldError::Math(back)) = FoldableChunkedString::try_from_chunked(
-        alloc,
-        text_of(alloc, &[("a", Normal), ("x", Math)])?,
+        rt.alloc(),
+        text_of(&rt, &chunks),
     ) else {
         panic!(rt; "math is folded")
     };
-    assert_eq!(rt; back, text_of(alloc, &[("a", Normal), ("x", Math)])?);
-    let text = text_of(alloc, &[("a", Normal), ("", Verbatim)])?;
-    let Ok(folded) = FoldableChunkedString::try_from_chunked(alloc, text) else {
-        panic!(rt; "text without math is not folded")
+    assert!(rt; has(&rt, &back, &chunks));
+    drop(back);
+    let Err(math) = FoldableStringChunk::try_from(StringChunk::math(string(&rt, "x"))) else {
+        panic!(rt; "a chunk of math is folded")
     };
-    assert_eq!(rt; folded.0.len(), 2);
-    assert_eq!(rt;
-        (folded.0[1].value.as_str(), folded.0[1].kind),
-        ("", FoldableKind::Verbatim)
-    );
-    assert_eq!(rt; folded.try_clone(alloc)?, folded);
-    assert_eq!(rt; folded.0[0].try_clone(alloc)?, folded.0[0]);
-    let Ok(unfolded) = ChunkedString::from_foldable(alloc, folded) else {
-        panic!(rt; "folded text is not taken back")
-    };
-    assert_eq!(rt; unfolded, text_of(alloc, &[("a", Normal), ("", Verbatim)])?);
-    assert_eq!(rt; FoldableChunkedString::new(alloc).0.len(), 0);
-    Ok(())
+    assert_eq!(rt; (math.as_str(), math.kind), ("x", Math));
+    drop(math);
 }
 
 #[test]
-fn chunks_of_math_are_not_folded(rt: HostRuntime) -> Result<(), Fail> {
-    let alloc = rt.alloc();
-    let math = StringChunk::math(String::from_str(alloc, "x")?);
-    let Err(math) = FoldableStringChunk::try_from(math) else {
-        panic!(rt; "a chunk of math is folded")
-    };
-    assert_eq!(rt; math, StringChunk::math(String::from_str(alloc, "x")?));
+fn texts_without_math_are_folded(rt: HostRuntime) {
+    let chunks = [("a", Normal), ("", Verbatim)];
+    let folded = FoldableChunkedString::try_from_chunked(rt.alloc(), text_of(&rt, &chunks)).expect(
+        &rt,
+        "a text without math",
+    );
+    let copy = folded.try_clone(rt.alloc()).expect(&rt, "memory");
+    assert!(rt; copy == folded);
+    assert_eq!(rt; copy.0.len(), 2);
+    assert_eq!(rt;
+        (copy.0[1].value.as_str(), copy.0[1].kind),
+        ("", FoldableKind::Verbatim)
+    );
+    drop(copy);
+    let unfolded = ChunkedString::from_foldable(rt.alloc(), folded).expect(&rt, "memory");
+    assert!(rt; has(&rt, &unfolded, &chunks));
+    drop(unfolded);
+    assert_eq!(rt; FoldableChunkedString::new(rt.alloc()).0.len(), 0);
+}
+
+#[test]
+fn kinds_are_folded(rt: HostRuntime) {
     assert_eq!(rt; FoldableKind::try_from(Math), Err(()));
     assert_eq!(rt;
         FoldableKind::try_from(Verbatim),
         Ok(FoldableKind::Verbatim)
     );
     assert_eq!(rt; ChunkKind::from(FoldableKind::Verbatim), Verbatim);
-    Ok(())
 }
 
 // A text as its short form is shown.
@@ -250,59 +288,60 @@ impl fmt::Display for ShortForm<'_> {
     }
 }
 
-#[test]
-fn unread_forms(rt: HostRuntime) -> Result<(), Fail> {
-    let alloc = rt.alloc();
-    let unread = FormatString::with_value(alloc, String::from_str(alloc, "a{b}")?)?;
-    assert_eq!(rt; unread.value, text_of(alloc, &[("a{b}", Normal)])?);
-    assert_eq!(rt; unread.value.to_serialized(alloc)?.as_str(), "a\\{b\\}");
-    assert_eq!(rt;
-        unread,
-        FormatString::from_string(alloc, String::from_str(alloc, "a{b}")?)?
-    );
-    assert_eq!(rt; *unread.select(LongShortForm::Short), unread.value);
-    assert_eq!(rt;
-        unread.value,
-        ChunkedString::from_string(alloc, String::from_str(alloc, "a{b}")?)?
-    );
-    assert_eq!(rt; FormatString::new(alloc).value, ChunkedString::new(alloc));
-    Ok(())
-}
-
-fn assert_forms(
-    rt: &impl Abort,
-    alloc: Global,
+// Whether the text has these forms, as they are shown.
+fn has_forms(
+    rt: &(impl Abort + AllocGlobal),
     text: &FormatString,
     long: &str,
     short: &str,
-) -> Result<(), Fail> {
-    assert_eq!(rt; format!(in alloc; "{text}")?.as_str(), long);
-    assert_eq!(rt; format!(in alloc; "{}", ShortForm(text))?.as_str(), short);
-    Ok(())
+) -> bool {
+    is_shown(rt, text, long) && is_shown(rt, &ShortForm(text), short)
 }
 
 #[test]
-fn short_forms(rt: HostRuntime) -> Result<(), Fail> {
-    let alloc = rt.alloc();
-    let both = FormatString::with_short(
-        alloc,
-        String::from_str(alloc, "Long")?,
-        String::from_str(alloc, "S")?,
-    )?;
-    assert_eq!(rt;
-        *both.select(LongShortForm::Short),
-        text_of(alloc, &[("S", Normal)])?
+fn unread_forms(rt: HostRuntime) {
+    let chunks = [("a{b}", Normal)];
+    let made = FormatString::with_value(rt.alloc(), string(&rt, "a{b}")).expect(&rt, "memory");
+    assert!(rt; has(&rt, &made.value, &chunks));
+    assert!(rt; has(&rt, made.select(LongShortForm::Short), &chunks));
+    assert!(rt; is_serialized(&rt, &made.value, "a\\{b\\}"));
+    let same = FormatString::from_string(rt.alloc(), string(&rt, "a{b}")).expect(&rt, "memory");
+    assert!(rt; same == made);
+    drop(same);
+    drop(made);
+    let value = ChunkedString::from_string(rt.alloc(), string(&rt, "a{b}")).expect(&rt, "memory");
+    assert!(rt; has(&rt, &value, &chunks));
+    drop(value);
+    assert!(rt; FormatString::new(rt.alloc()).value.is_empty());
+}
+
+#[test]
+fn short_forms(rt: HostRuntime) {
+    let both = FormatString::with_short(rt.alloc(), string(&rt, "Long"), string(&rt, "S")).expect(
+        &rt, "memory",
     );
-    assert_forms(&rt, alloc, &both, "Long", "S")?;
-    assert_eq!(rt; both.try_clone(alloc)?, both);
-    let read = FormatString::from_str(alloc, "$x$")?;
-    assert_forms(&rt, alloc, &read, "$x$", "$x$")?;
-    let chunk = StringChunk::math(String::from_str(alloc, "x")?);
-    assert_eq!(rt; read, FormatString::from_chunk(alloc, chunk)?);
-    let chunk = StringChunk::math(String::from_str(alloc, "x")?);
-    assert_eq!(rt; read.value, ChunkedString::from_chunk(alloc, chunk)?);
-    assert!(rt; FormatString::from_str(alloc, "}").is_err());
-    Ok(())
+    assert!(rt; has(&rt, both.select(LongShortForm::Short), &[("S", Normal)]));
+    assert!(rt; has_forms(&rt, &both, "Long", "S"));
+    let copy = both.try_clone(rt.alloc()).expect(&rt, "memory");
+    assert!(rt; copy == both);
+    drop(copy);
+    drop(both);
+}
+
+#[test]
+fn forms_of_math(rt: HostRuntime) {
+    let read = FormatString::from_str(rt.alloc(), "$x$").expect(&rt, "a text");
+    assert!(rt; has_forms(&rt, &read, "$x$", "$x$"));
+    let chunk = StringChunk::math(string(&rt, "x"));
+    let made = FormatString::from_chunk(rt.alloc(), chunk).expect(&rt, "memory");
+    assert!(rt; read == made);
+    drop(made);
+    let chunk = StringChunk::math(string(&rt, "x"));
+    let value = ChunkedString::from_chunk(rt.alloc(), chunk).expect(&rt, "memory");
+    assert!(rt; read.value == value);
+    drop(value);
+    drop(read);
+    assert!(rt; FormatString::from_str(rt.alloc(), "}").is_err());
 }
 
 fn read_if_any<T: ReadText>(alloc: Global, text: &str) -> Result<Option<T>, OutOfMemory>
@@ -316,11 +355,11 @@ fn read_if_any<T: ReadText>(alloc: Global, text: &str) -> Result<Option<T>, OutO
 }
 
 #[test]
-fn reads_through_the_trait(rt: HostRuntime) -> Result<(), Fail> {
-    let alloc = rt.alloc();
-    let read: Option<ChunkedString> = read_if_any(alloc, "{a}")?;
-    assert_eq!(rt; read, Some(text_of(alloc, &[("a", Verbatim)])?));
-    let none: Option<FormatString> = read_if_any(alloc, "a}")?;
+fn reads_through_the_trait(rt: HostRuntime) {
+    let read: Option<ChunkedString> = read_if_any(rt.alloc(), "{a}").expect(&rt, "memory");
+    let text = read.expect(&rt, "a text");
+    assert!(rt; has(&rt, &text, &[("a", Verbatim)]));
+    drop(text);
+    let none: Option<FormatString> = read_if_any(rt.alloc(), "a}").expect(&rt, "memory");
     assert!(rt; none.is_none());
-    Ok(())
 }
