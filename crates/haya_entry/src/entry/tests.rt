@@ -7,7 +7,7 @@ use std::collections::BTreeMap;
 use std::process::Abort;
 
 // All names that an entry may have, then texts that are no names.
-const TEXTS: [&str; 27] = [
+const TEXTS: &[&str] = &[
     "title",
     "location",
     "organization",
@@ -41,8 +41,8 @@ const TEXTS: [&str; 27] = [
 fn names_had(entry: &Entry, alloc: Global) -> Result<String, OutOfMemory> {
     let mut names = String::new(alloc);
     for text in TEXTS {
-        if entry.has(text) {
-            names.push_str(text)?;
+        if entry.has(*text) {
+            names.push_str(*text)?;
             names.push(' ')?;
         }
     }

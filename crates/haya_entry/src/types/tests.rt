@@ -12,42 +12,44 @@ fn is_read(rt: &(impl Abort + AllocGlobal), name: &str, entry_type: EntryType) -
     as_written && in_lower && !in_upper
 }
 
-#[test]
-fn reads_names_as_written_and_in_lower_case(rt: HostRuntime) {
-    assert!(rt; is_read(&rt, "Article", EntryType::Article));
-    assert!(rt; is_read(&rt, "Chapter", EntryType::Chapter));
-    assert!(rt; is_read(&rt, "Entry", EntryType::Entry));
-    assert!(rt; is_read(&rt, "Anthos", EntryType::Anthos));
-    assert!(rt; is_read(&rt, "Report", EntryType::Report));
-    assert!(rt; is_read(&rt, "Thesis", EntryType::Thesis));
-    assert!(rt; is_read(&rt, "Web", EntryType::Web));
-    assert!(rt; is_read(&rt, "Scene", EntryType::Scene));
-    assert!(rt; is_read(&rt, "Artwork", EntryType::Artwork));
-    assert!(rt; is_read(&rt, "Patent", EntryType::Patent));
-    assert!(rt; is_read(&rt, "Case", EntryType::Case));
-    assert!(rt; is_read(&rt, "Newspaper", EntryType::Newspaper));
-    assert!(rt; is_read(&rt, "Legislation", EntryType::Legislation));
-    assert!(rt; is_read(&rt, "Manuscript", EntryType::Manuscript));
-    assert!(rt; is_read(&rt, "Post", EntryType::Post));
-}
+const NAMES: &[(&str, EntryType)] = &[
+    ("Article", EntryType::Article),
+    ("Chapter", EntryType::Chapter),
+    ("Entry", EntryType::Entry),
+    ("Anthos", EntryType::Anthos),
+    ("Report", EntryType::Report),
+    ("Thesis", EntryType::Thesis),
+    ("Web", EntryType::Web),
+    ("Scene", EntryType::Scene),
+    ("Artwork", EntryType::Artwork),
+    ("Patent", EntryType::Patent),
+    ("Case", EntryType::Case),
+    ("Newspaper", EntryType::Newspaper),
+    ("Legislation", EntryType::Legislation),
+    ("Manuscript", EntryType::Manuscript),
+    ("Post", EntryType::Post),
+    ("Misc", EntryType::Misc),
+    ("Performance", EntryType::Performance),
+    ("Periodical", EntryType::Periodical),
+    ("Proceedings", EntryType::Proceedings),
+    ("Book", EntryType::Book),
+    ("Blog", EntryType::Blog),
+    ("Reference", EntryType::Reference),
+    ("Conference", EntryType::Conference),
+    ("Anthology", EntryType::Anthology),
+    ("Repository", EntryType::Repository),
+    ("Thread", EntryType::Thread),
+    ("Video", EntryType::Video),
+    ("Audio", EntryType::Audio),
+    ("Exhibition", EntryType::Exhibition),
+    ("Original", EntryType::Original),
+];
 
 #[test]
-fn reads_the_other_names(rt: HostRuntime) {
-    assert!(rt; is_read(&rt, "Misc", EntryType::Misc));
-    assert!(rt; is_read(&rt, "Performance", EntryType::Performance));
-    assert!(rt; is_read(&rt, "Periodical", EntryType::Periodical));
-    assert!(rt; is_read(&rt, "Proceedings", EntryType::Proceedings));
-    assert!(rt; is_read(&rt, "Book", EntryType::Book));
-    assert!(rt; is_read(&rt, "Blog", EntryType::Blog));
-    assert!(rt; is_read(&rt, "Reference", EntryType::Reference));
-    assert!(rt; is_read(&rt, "Conference", EntryType::Conference));
-    assert!(rt; is_read(&rt, "Anthology", EntryType::Anthology));
-    assert!(rt; is_read(&rt, "Repository", EntryType::Repository));
-    assert!(rt; is_read(&rt, "Thread", EntryType::Thread));
-    assert!(rt; is_read(&rt, "Video", EntryType::Video));
-    assert!(rt; is_read(&rt, "Audio", EntryType::Audio));
-    assert!(rt; is_read(&rt, "Exhibition", EntryType::Exhibition));
-    assert!(rt; is_read(&rt, "Original", EntryType::Original));
+fn reads_names_as_written_and_in_lower_case(rt: HostRuntime) {
+    for (name, entry_type) in NAMES {
+        assert!(rt; is_read(&rt, *name, *entry_type), "{name}");
+    }
 }
 
 #[test]

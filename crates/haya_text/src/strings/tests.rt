@@ -48,9 +48,13 @@ fn is_shown<D: fmt::Display>(rt: &(impl Abort + AllocGlobal), value: &D, wanted:
 }
 
 // A text, the chunks that it reads as, and what these are serialized as.
-type Row<'t> = (&'t str, &'t [(&'t str, ChunkKind)], &'t str);
+type Row = (
+    &'static str,
+    &'static [(&'static str, ChunkKind)],
+    &'static str,
+);
 
-const READ: [Row<'static>; 8] = [
+const READ: &[Row] = &[
     (
         "a${b}$c\\",
         &[("a", Normal), ("{b}", Math), ("c\\", Normal)],
@@ -83,7 +87,8 @@ const READ: [Row<'static>; 8] = [
 
 #[test]
 fn texts_are_read(rt: HostRuntime) {
-    for (text, chunks, serialized) in READ {
+    for row in READ {
+        let (text, chunks, serialized) = *row;
         let read = ChunkedString::from_str(rt.alloc(), text).expect(&rt, "a text");
         assert!(rt; has(&rt, &read, chunks), "{text}");
         assert!(rt; is_serialized(&rt, &read, serialized), "{text}");
@@ -133,9 +138,14 @@ fn a_text_is_extended(rt: HostRuntime) {
 }
 
 // Chunks, what they are serialized as, what they are shown as, and what `to_str` answers.
-type Shown<'t> = (&'t [(&'t str, ChunkKind)], &'t str, &'t str, &'t str);
+type Shown = (
+    &'static [(&'static str, ChunkKind)],
+    &'static str,
+    &'static str,
+    &'static str,
+);
 
-const SHOWN: [Shown<'static>; 5] = [
+const SHOWN: &[Shown] = &[
     (&[], "", "", ""),
     (&[("", Verbatim)], "{}", "", ""),
     (&[("x", Math)], "$x$", "$x$", "x"),
@@ -171,7 +181,8 @@ fn is_written(
 
 #[test]
 fn texts_are_shown(rt: HostRuntime) {
-    for (chunks, serialized, shown, alone) in SHOWN {
+    for row in SHOWN {
+        let (chunks, serialized, shown, alone) = *row;
         let text = text_of(&rt, chunks);
         assert!(rt; is_written(&rt, &text, serialized, alone), "{serialized}");
         assert!(rt; is_shown(&rt, &text, shown), "{serialized}");

@@ -41,21 +41,23 @@ fn answer(rt: &(impl Abort + AllocGlobal), library: &Library, text: &str) -> Str
     shown(rt.alloc(), hits.as_slice()).expect(rt, "memory")
 }
 
+// Selectors, and the hits as they are shown.
+const ANSWERS: &[(&str, &str)] = &[
+    ("*[doi] | *[language]", "paper note "),
+    ("article > (j:periodical > w:*[language])", "paper=journal "),
+    ("(article > j:periodical) > w:*[language]", ""),
+    ("j:* > j:*", "paper=journal "),
+    ("* > !blog", "paper note "),
+    ("article & book", ""),
+    ("*[serial]", ""),
+];
+
 #[test]
 fn answers_in_order(rt: HostRuntime) {
     let library = small_library(&rt);
-    let rows = [
-        ("*[doi] | *[language]", "paper note "),
-        ("article > (j:periodical > w:*[language])", "paper=journal "),
-        ("(article > j:periodical) > w:*[language]", ""),
-        ("j:* > j:*", "paper=journal "),
-        ("* > !blog", "paper note "),
-        ("article & book", ""),
-        ("*[serial]", ""),
-    ];
-    for (text, wanted) in rows {
-        let shown = answer(&rt, &library, text);
-        assert_eq!(rt; shown.as_str(), wanted, "{text}");
+    for (text, wanted) in ANSWERS {
+        let shown = answer(&rt, &library, *text);
+        assert_eq!(rt; shown.as_str(), *wanted, "{text}");
     }
     drop(library);
 }

@@ -162,37 +162,36 @@ fn sign_of(c: char) -> Option<Sign>
 #[cfg(test)]
 mod tests {
     use super::Tokens;
-    use std::alloc::Global;
     use std::fmt::Write;
-    use std::test::Fail;
+    use std::process::Abort;
 
-    // The tokens of a text, a blank behind each.
-    fn shown(alloc: Global, text: &str) -> Result<String, Fail> {
-        let mut shown = String::new(alloc);
+    // Whether these are the tokens of the text, a blank behind each.
+    fn is_cut(rt: &(impl Abort + AllocGlobal), text: &str, wanted: &str) -> bool {
+        let mut shown = String::new(rt.alloc());
         let mut tokens = Tokens::new(text);
         for _ in text.chars() {
             if let Some(token) = tokens.next() {
-                write!(shown, "{token:?} ")?;
+                write!(shown, "{token:?} ").expect(rt, "memory");
             }
         }
-        Ok(shown)
+        shown.as_str() == wanted
     }
 
+    const CUTS: &[(&str, &str)] = &[
+        (
+            "g5:(Blog | Misc)",
+            "Word(\"g5\") Sign(Colon) Sign(LeftParen) Word(\"Blog\") Sign(Pipe) Word(\"Misc\") Sign(RightParen) ",
+        ),
+        (
+            "alpha:!* > (a & b)",
+            "Word(\"alpha\") Sign(Colon) Sign(ExclamationMark) Sign(Star) Sign(Chevron) Sign(LeftParen) Word(\"a\") Sign(Ampersand) Word(\"b\") Sign(RightParen) ",
+        ),
+    ];
+
     #[test]
-    fn cuts(rt: HostRuntime) -> Result<(), Fail> {
-        let rows = [
-            (
-                "g5:(Blog | Misc)",
-                "Word(\"g5\") Sign(Colon) Sign(LeftParen) Word(\"Blog\") Sign(Pipe) Word(\"Misc\") Sign(RightParen) ",
-            ),
-            (
-                "alpha:!* > (a & b)",
-                "Word(\"alpha\") Sign(Colon) Sign(ExclamationMark) Sign(Star) Sign(Chevron) Sign(LeftParen) Word(\"a\") Sign(Ampersand) Word(\"b\") Sign(RightParen) ",
-            ),
-        ];
-        for (text, wanted) in rows {
-            assert_eq!(rt; shown(rt.alloc(), text)?.as_str(), wanted);
+    fn cuts(rt: HostRuntime) {
+        for (text, wanted) in CUTS {
+            assert!(rt; is_cut(&rt, *text, *wanted), "{text}");
         }
-        Ok(())
     }
 }

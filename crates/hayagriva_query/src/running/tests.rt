@@ -68,7 +68,7 @@ fn ends<R: Read>(
     same
 }
 
-const HITS: [Row; 24] = [
+const HITS: &[Row] = &[
     ("article[doi] > periodical", ARTICLES, "dependence\n"),
     (
         "* > (periodical | blog)",
@@ -122,13 +122,14 @@ const HITS: [Row; 24] = [
 
 #[test]
 fn prints_a_line_for_each_hit(rt: HostRuntime) {
-    for (selector, mut input, printed) in HITS {
+    for row in HITS {
+        let (selector, mut input, printed) = *row;
         let wanted = (0, printed, "");
         assert!(rt; ends(&rt, &[selector], &mut input, wanted), "{selector:?}");
     }
 }
 
-const FAULTS: [Row; 35] = [
+const FAULTS: &[Row] = &[
     ("", SMALL, "missing value\n"),
     ("book >", SMALL, "missing value\n"),
     ("book[*]", SMALL, "malformed attribute\n"),
@@ -172,7 +173,8 @@ const FAULTS: [Row; 35] = [
 
 #[test]
 fn prints_nothing_at_a_fault(rt: HostRuntime) {
-    for (selector, mut input, complaint) in FAULTS {
+    for row in FAULTS {
+        let (selector, mut input, complaint) = *row;
         let wanted = (1, "", complaint);
         assert!(rt; ends(&rt, &[selector], &mut input, wanted), "{complaint:?}");
     }

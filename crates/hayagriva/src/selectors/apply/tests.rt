@@ -68,54 +68,56 @@ fn is_answer(rt: &(impl Abort + AllocGlobal), text: &str, entry: &Entry, wanted:
 }
 
 // Each row: a selector, the parents of an article, and the answer.
+const ON_PARENTS: &[(&str, &[Work], &str)] = &[
+    (
+        "* > a:*[language]",
+        &[Work::Blog, Work::WebInEnglish],
+        "web",
+    ),
+    (
+        "* > book[language]",
+        &[Work::Book, Work::BookInEnglish],
+        "no",
+    ),
+    ("* > !blog", &[], "yes"),
+    ("* > !blog", &[Work::WebInEnglish, Work::Blog], "no"),
+    ("a:* > a:*", &[Work::WebInEnglish], "web"),
+    ("a:* > a:*", &[], "no"),
+    ("* > (* & article)", &[Work::Article, Work::Book], "no"),
+    ("* > (article & a:*)", &[Work::Article, Work::Book], "book"),
+    (
+        "article > periodical > web",
+        &[Work::Periodical, Work::WebInEnglish],
+        "yes",
+    ),
+    ("article > (blog | a:web)", &[Work::WebInEnglish], "web"),
+    ("article & article", &[], "no"),
+    ("a:article[language]", &[], "no"),
+    ("a:*", &[Work::Blog], "article"),
+];
+
 #[test]
 fn holds_and_binds_on_parents(rt: HostRuntime) {
-    let rows: [(&str, &[Work], &str); 13] = [
-        (
-            "* > a:*[language]",
-            &[Work::Blog, Work::WebInEnglish],
-            "web",
-        ),
-        (
-            "* > book[language]",
-            &[Work::Book, Work::BookInEnglish],
-            "no",
-        ),
-        ("* > !blog", &[], "yes"),
-        ("* > !blog", &[Work::WebInEnglish, Work::Blog], "no"),
-        ("a:* > a:*", &[Work::WebInEnglish], "web"),
-        ("a:* > a:*", &[], "no"),
-        ("* > (* & article)", &[Work::Article, Work::Book], "no"),
-        ("* > (article & a:*)", &[Work::Article, Work::Book], "book"),
-        (
-            "article > periodical > web",
-            &[Work::Periodical, Work::WebInEnglish],
-            "yes",
-        ),
-        ("article > (blog | a:web)", &[Work::WebInEnglish], "web"),
-        ("article & article", &[], "no"),
-        ("a:article[language]", &[], "no"),
-        ("a:*", &[Work::Blog], "article"),
-    ];
-    for (text, parents, wanted) in rows {
-        let entry = article(&rt, parents);
-        assert!(rt; is_answer(&rt, text, &entry, wanted), "{text}");
+    for (text, parents, wanted) in ON_PARENTS {
+        let entry = article(&rt, *parents);
+        assert!(rt; is_answer(&rt, *text, &entry, *wanted), "{text}");
         drop(entry);
     }
 }
 
 // Each row: a selector, an entry without parents, and the answer.
+const WITHOUT_PARENTS: &[(&str, Work, &str)] = &[
+    ("!book[language]", Work::WebInEnglish, "yes"),
+    ("!book[language]", Work::Article, "no"),
+    ("!book[language]", Work::BookInEnglish, "no"),
+    ("article | blog", Work::WebInEnglish, "no"),
+];
+
 #[test]
 fn holds_without_parents(rt: HostRuntime) {
-    let rows = [
-        ("!book[language]", Work::WebInEnglish, "yes"),
-        ("!book[language]", Work::Article, "no"),
-        ("!book[language]", Work::BookInEnglish, "no"),
-        ("article | blog", Work::WebInEnglish, "no"),
-    ];
-    for (text, work, wanted) in rows {
-        let entry = made(&rt, work);
-        assert!(rt; is_answer(&rt, text, &entry, wanted), "{text}");
+    for (text, work, wanted) in WITHOUT_PARENTS {
+        let entry = made(&rt, *work);
+        assert!(rt; is_answer(&rt, *text, &entry, *wanted), "{text}");
         drop(entry);
     }
 }
