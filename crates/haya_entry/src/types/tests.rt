@@ -59,4 +59,6 @@ fn refuses_all_other_texts(rt: HostRuntime) {
     ] {
         assert!(rt; EntryType::from_str(text) == Err(UnknownType), "{text}");
     }
+    let shown = format!(in rt.alloc(); "{UnknownType}").expect(&rt, "memory");
+    assert_eq!(rt; shown.as_str(), "unknown type");
 }
