@@ -1,6 +1,8 @@
 //! Prints hits, a line each.
-ghost use Rattle.std.specs.Prelude.{◌≡◌, ◌⊎◌, IfErr, IsOkUnless};
+ghost use Rattle.std.specs.Prelude.{◌≡◌, ◌⊎◌, IfOk, IfErr, IsOkUnless, List, ℕ, OnOk, string_bytes};
+ghost use Rattle.std.specs.Io.KnownBytes.{Appends};
 ghost use Rattle.hayagriva_query.specs.declared.fault.Fault.TheVariants.{CannotWrite, OutOfMemory};
+ghost use Rattle.hayagriva_query.specs.Output.{AreLinesOf, IsLineOf};
 
 use crate::fault::Fault;
 use hayagriva::Hit;
@@ -9,6 +11,7 @@ use std::io::Write;
 
 /// Prints each hit's line. A line is handed on whole, so that nothing of a later one stands before it.
 pub fn print_hits<W: Write>(alloc: Global, hits: &[Hit], out: &mut W) -> Result<(), Fault>
+    ensures printed { OnOk result ((printed : List ℕ) × AreLinesOf hits.now printed × Appends (W.contents out.old) (W.contents out.new) printed) }
     ensures fault { IfErr result (λ e. (e ≡ CannotWrite) ⊎ (e ≡ OutOfMemory)) }
 {
     for hit in hits {
@@ -25,6 +28,7 @@ pub fn print_hits<W: Write>(alloc: Global, hits: &[Hit], out: &mut W) -> Result<
 
 // The entry's key, then a tab and `name=key` for each binding, in byte order of the names, and a line feed.
 fn line_of(alloc: Global, hit: &Hit) -> Result<String, Fault>
+    ensures line { IfOk result (λ line. IsLineOf hit.now (string_bytes line)) }
     ensures fault { IsOkUnless result OutOfMemory }
 {
     let mut line = String::from_str(alloc, hit.entry.key())?;
