@@ -1,7 +1,8 @@
 //! The whole program, but for where its words, its input and its output come from.
-ghost use Rattle.std.specs.Prelude.{◌≡◌, ◌≢◌, ◌≤◌, length, IfErr, IsErrOf};
+ghost use Rattle.std.specs.Prelude.{◌≡◌, ◌≢◌, ◌≤◌, length, slice_get, string_bytes, IfErr, IfSome, IsErrOf, OnOk};
 ghost use Rattle.hayagriva_query.specs.declared.fault.Fault.TheVariants.{Usage};
 ghost use Rattle.std.specs.Io.KnownBytes.{Keeps};
+ghost use Rattle.hayagriva_query.specs.Output.{Answers};
 
 use crate::fault::Fault;
 use crate::library_text::read_library;
@@ -20,6 +21,8 @@ pub fn run<R: Read, W: Write, E: Write>(
     out: &mut W,
     err: &mut E,
 ) -> u8
+    ensures answer { result ≡ 0 → IfSome (slice_get words.now 0) (λ word.
+        Answers (string_bytes word) (R.remaining input.old) (R.remaining input.new) (W.contents out.old) (W.contents out.new)) }
     ensures usage { length words.now ≢ 1 → result ≡ 2 }
     ensures other { length words.now ≡ 1 → result ≤ 1 }
     ensures silent { length words.now ≢ 1 → Keeps (W.contents out.old) (W.contents out.new) }
@@ -42,6 +45,8 @@ fn answer<R: Read, W: Write>(
     input: &mut R,
     out: &mut W,
 ) -> Result<(), Fault>
+    ensures answer { OnOk result (IfSome (slice_get words.now 0) (λ word.
+        Answers (string_bytes word) (R.remaining input.old) (R.remaining input.new) (W.contents out.old) (W.contents out.new))) }
     ensures usage { length words.now ≢ 1 → IsErrOf result Usage }
     ensures other { length words.now ≡ 1 → IfErr result (λ e. e ≢ Usage) }
     ensures silent { length words.now ≢ 1 → Keeps (W.contents out.old) (W.contents out.new) }
