@@ -1,27 +1,12 @@
 use super::*;
 use std::process::Abort;
 
-// Whether it is shown so.
-fn is_shown(
-    rt: &(impl Abort + AllocGlobal),
-    read: &Result<Selector, SelectorError>,
-    wanted: &str,
-) -> bool {
-    let shown = format!(in rt.alloc(); "{read:?}").expect(rt, "memory");
-    shown.as_str() == wanted
-}
-
-// Whether the text reads so, and what is read has an equal copy.
+// Whether the text reads so.
 fn reads(rt: &(impl Abort + AllocGlobal), text: &str, wanted: &str) -> bool {
     let read = Selector::parse(rt.alloc(), text);
-    let copy = match &read {
-        Ok(selector) => Ok(selector.try_clone(rt.alloc()).expect(rt, "memory")),
-        Err(fault) => Err(fault.try_clone(rt.alloc()).expect(rt, "memory")),
-    };
-    let same = is_shown(rt, &read, wanted) && is_shown(rt, &copy, wanted);
-    drop(copy);
+    let shown = format!(in rt.alloc(); "{read:?}").expect(rt, "memory");
     drop(read);
-    same
+    shown.as_str() == wanted
 }
 
 // A text, and what it reads as.
