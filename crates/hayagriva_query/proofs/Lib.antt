@@ -6,3 +6,4 @@ mod Progress
 mod InputRows
 mod Views
 mod Lines
+mod OutputRows

@@ -1,0 +1,19 @@
+-- The line of a hit, at a worked row.
+use Rattle.std.proofs.Common.{◌≡◌, ◌∷◌, [], List, ℕ, refl}
+use Rattle.std.specs.Prelude.{codes}
+use Rattle.std.specs.List.Sorted.{IsStrictlySortedBy}
+use Rattle.std.specs.Map.{lookup}
+use Rattle.std.specs.Str.{bytes_eq}
+use Rattle.hayagriva_query.specs.Output.{IsLine}
+
+abbrev names : List (List ℕ × List ℕ)
+names = (codes "W", codes "site") ∷ (codes "a", codes "journal") ∷ []
+
+-- two names, of which the one in upper case is the lesser
+two_names : IsLine (codes "paper") (λ name. lookup (bytes_eq name) names) (codes "paper\tW=site\ta=journal\n")
+unfolding IsStrictlySortedBy
+two_names = record { names = names; all = λ _. refl; order = ((refl, tt), (tt, tt)); text = refl }
+
+no_names : IsLine (codes "") (λ name. lookup (bytes_eq name) []) (codes "\n")
+unfolding IsStrictlySortedBy
+no_names = record { names = []; all = λ _. refl; order = tt; text = refl }
