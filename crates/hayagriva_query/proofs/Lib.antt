@@ -5,3 +5,4 @@ mod Chains
 mod Progress
 mod InputRows
 mod Views
+mod Names

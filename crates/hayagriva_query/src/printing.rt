@@ -7,6 +7,7 @@ ghost use Rattle.hayagriva_query.specs.Output.{AreLinesOf, IsLineOf};
 use crate::fault::Fault;
 use hayagriva::Hit;
 use std::alloc::Global;
+use std::collections::BTreeMap;
 use std::io::Write;
 
 /// Prints each hit's line. A line is handed on whole, so that nothing of a later one stands before it.
@@ -32,8 +33,7 @@ fn line_of(alloc: Global, hit: &Hit) -> Result<String, Fault>
     ensures fault { IsOkUnless result OutOfMemory }
 {
     let mut line = String::from_str(alloc, hit.entry.key())?;
-    let mut bindings = hit.bindings.iter().collect::<Vec<_>>(alloc)?;
-    bindings.sort_unstable_by(|a, b| a.0.cmp(b.0));
+    let bindings = hit.bindings.iter().collect::<BTreeMap<_, _>>(alloc)?;
     for (name, bound) in bindings {
         line.push('\t')?;
         line.push_str(name.as_str())?;
