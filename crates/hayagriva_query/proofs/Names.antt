@@ -75,7 +75,7 @@ module _ {K : Type 0} (text : K → List ℕ) where
     finds : (name : List ℕ) (es : List (K × X)) → (lookup (at name) es ≡ None) ⊎ ((k : K) × (name ≡ text k))
     finds name [] = inl refl
     finds name (e ∷ es) = elim (cases_Bool (at name e.0)) [
-      inl y ↦ inr (e.0, (bytes_eq-Decides name (text e.0)).0 y)
+      | inl y ↦ inr (e.0, (bytes_eq-Decides name (text e.0)).0 y)
       | inr n ↦ elim (finds name es) [ inl h ↦ inl (lookup_tail (at name) e es n ∙ h) | inr k ↦ inr k ]
     ]
 

@@ -17,8 +17,8 @@ returns-clause-line c =
     let ys = c.in_ok-bindings.bindings.entries in
     let ran = c.in_ok-bindings.ensures.ran in
     let end =
-        iter_end (λ x. x) ys c.loop-name.yielded c.into_iter-name-iterator.result c.loop-name.name-iterator c.next.new.self c.next.result c.into_iter-name-iterator.ensures.into_iter_gives.0
-        c.loop-name.yielded_by c.in-None.is c.next.ensures.steps in
+    iter_end (λ x. x) ys c.loop-name.yielded c.into_iter-name-iterator.result c.loop-name.name-iterator c.next.new.self c.next.result c.into_iter-name-iterator.ensures.into_iter_gives.0
+    c.loop-name.yielded_by c.in-None.is c.next.ensures.steps in
     let whole : c.loop-name.yielded ≡ ys = sym (map-id c.loop-name.yielded) ∙ end.0 in
     let key = key_of (view c.args.hit.now.entry.now) in
     record {
