@@ -6,4 +6,5 @@ mod Progress
 mod InputRows
 mod Views
 mod Lines
+mod Names
 mod OutputRows

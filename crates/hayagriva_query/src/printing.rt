@@ -7,6 +7,7 @@ ghost use Rattle.hayagriva_query.specs.Output.{AreLinesOf, IsLineOf};
 use crate::fault::Fault;
 use hayagriva::Hit;
 use std::alloc::Global;
+use std::collections::BTreeMap;
 use std::io::Write;
 
 /// Prints each hit's line. A line is handed on whole, so that nothing of a later one stands before it.
@@ -31,7 +32,14 @@ fn line_of(alloc: Global, hit: &Hit) -> Result<String, Fault>
     ensures line { IfOk result (λ line. IsLineOf hit.now (string_bytes line)) }
     ensures fault { IsOkUnless result OutOfMemory }
 {
-    let _ = hit;
-    let _ = alloc;
-    Err(Fault::OutOfMemory)
+    let mut line = String::from_str(alloc, hit.entry.key())?;
+    let bindings = hit.bindings.iter().collect::<BTreeMap<_, _>>(alloc)?;
+    for (name, bound) in bindings {
+        line.push('\t')?;
+        line.push_str(name.as_str())?;
+        line.push('=')?;
+        line.push_str(bound.key())?;
+    }
+    line.push('\n')?;
+    Ok(line)
 }
