@@ -1,5 +1,5 @@
 -- The line of a hit, at a worked row.
-use Rattle.std.proofs.Common.{◌≡◌, ◌∷◌, [], List, ℕ, refl}
+use Rattle.std.proofs.Common.{◌∷◌, [], List, ℕ, refl}
 use Rattle.std.specs.Prelude.{codes}
 use Rattle.std.specs.List.Sorted.{IsStrictlySortedBy}
 use Rattle.std.specs.Map.{lookup}

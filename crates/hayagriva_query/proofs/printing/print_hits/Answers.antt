@@ -1,4 +1,4 @@
-use Rattle.std.proofs.Common.{◌≡◌, get_or, List, ℕ, ap, sym, ◌∙◌, arith, rules, take, ◌++◌, ◌∷◌, []}
+use Rattle.std.proofs.Common.{◌≡◌, get_or, ap, sym, ◌∙◌, rules, take, ◌++◌, ◌∷◌, []}
 use Rattle.std.proofs.KnownBytes.{Appends-trans}
 use Rattle.std.proofs.lemmas.List.{take_more}
 use Rattle.std.specs.Io.KnownBytes.{Appends}

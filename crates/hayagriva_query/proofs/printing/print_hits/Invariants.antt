@@ -1,4 +1,4 @@
-use Rattle.std.proofs.Common.{◌≡◌, List, ℕ, take}
+use Rattle.std.proofs.Common.{List, ℕ, take}
 use Rattle.std.specs.Io.KnownBytes.{Appends}
 use Rattle.hayagriva_query.specs.Output.{AreLinesOf}
 use Rattle.hayagriva_query.proofs.printing.print_hits.Given as goal

@@ -10,15 +10,15 @@ returns-clause-answer g c =
     let text : c.in-Ok.text.now ≡ c.in_ok-bytes.bytes.items = search rules in
     let hits = c.in_ok-hits.ensures.answer in
     on_ok_weaker c.print_hits.result (λ p.
-      rw one (record {
-        text = c.in_ok-bytes.bytes.items;
-        library = c.in_ok-library.library;
-        selector = hits.0;
-        printed = p.0;
-        read = c.in_ok-bytes.ensures.bytes;
-        ends = c.in_ok-bytes.ensures.end;
-        describes = rw text at c.in_ok-library.ensures.ok;
-        reads = rw c.as_str.ensures.value at hits.1;
-        shows = lines_at hits.0 c.in_ok-library.library c.in_ok-hits.hits.items p.0 hits.2 (rw c.as_slice-2.ensures.value at p.1);
-        prints = p.2;
-      })) c.print_hits.ensures.printed
+    rw one (record {
+      text = c.in_ok-bytes.bytes.items;
+      library = c.in_ok-library.library;
+      selector = hits.0;
+      printed = p.0;
+      read = c.in_ok-bytes.ensures.bytes;
+      ends = c.in_ok-bytes.ensures.end;
+      describes = rw text at c.in_ok-library.ensures.ok;
+      reads = rw c.as_str.ensures.value at hits.1;
+      shows = lines_at hits.0 c.in_ok-library.library c.in_ok-hits.hits.items p.0 hits.2 (rw c.as_slice-2.ensures.value at p.1);
+      prints = p.2;
+    })) c.print_hits.ensures.printed
