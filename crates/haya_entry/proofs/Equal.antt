@@ -1,5 +1,5 @@
 -- The derived `==` tells whether two entries have the same view.
-use Rattle.std.proofs.Common.{◌≡◌, ℕ, suc, zero, ◌+◌, ◌≤◌, Bool, ◌&&◌, List, [], ◌∷◌, refl, ap, map, Option, arith}
+use Rattle.std.proofs.Common.{◌≡◌, ℕ, suc, zero, ◌+◌, ◌≤◌, Bool, ◌&&◌, List, [], ◌∷◌, refl, ap, map, Option, Vec, Global, arith}
 use Rattle.std.specs.Option.{option_eq}
 use Rattle.std.specs.String.{string_eq}
 use lib.Pointwise.{pointwise}
@@ -11,16 +11,41 @@ use Rattle.haya_entry.specs.contracts.types.EntryType as entry_type
 use Rattle.haya_entry.specs.contracts.entry.EntryPartialEq.TheImpl as entry
 use Rattle.haya_entry.specs.contracts.entry.EntryPartialEq.TheImpl.Laws as entry_laws
 use Rattle.haya_entry.specs.contracts.types.SerialNumberPartialEq.TheImpl as serial
+use Rattle.haya_numbers.specs.Numeric.{NumericView}
+use Rattle.haya_numbers.specs.contracts.numeric.NumericPartialEq.TheImpl as numeric
+use Rattle.haya_numbers.proofs.Equal.{numeric-tells}
+use Rattle.haya_people.specs.Person.{PersonView}
+use Rattle.haya_people.specs.Roles.{RolesView}
+use Rattle.haya_people.specs.declared.person.Person.{Person}
+use Rattle.haya_people.specs.declared.role.PersonsWithRoles.{PersonsWithRoles}
+use Rattle.haya_people.specs.contracts.person.PersonPartialEq.TheImpl as person
+use Rattle.haya_people.specs.contracts.role.PersonsWithRolesPartialEq.TheImpl as roles
+use Rattle.haya_people.proofs.Equal.{persons-tell}
+use Rattle.haya_people.proofs.RoleEqual.{persons_with_roles-tell}
+use Rattle.haya_time.specs.DateEquality.{dates-tell, option-same}
+use Rattle.haya_time.specs.declared.date.Date.{Date}
+use Rattle.haya_time.specs.contracts.date.DatePartialEq.TheImpl as date
 use Rattle.haya_text.specs.Texts.{TextView}
 use Rattle.haya_text.specs.contracts.strings.format.FormatStringPartialEq.TheImpl as text
 use Rattle.haya_entry.specs.SerialNumber.{Serials, serial_entry, serial_view}
-use Rattle.haya_entry.specs.Tree.{Tree, Trees, node, trees, listed, fields_of, view, size, sizes}
-use Rattle.haya_entry.proofs.Trees.{listed-trees, view_is}
+use Rattle.haya_entry.specs.Tree.{Tree, Trees, node, trees, tree_list, fields_of, view, size, sizes}
+use Rattle.haya_entry.proofs.Trees.{tree_list-trees, view_is}
 use Rattle.haya_text.proofs.Tells.{Same, Tells, Same-both, Same-along, and-both, both-and, lists-tell, options-tell, strings-tell}
 use Rattle.haya_text.proofs.Equal.{texts-tell}
 
 pub serials-tell : Tells serial.ghosts.eq serial_view
 serials-tell a b = lists-tell _ serial_entry (λ p q. Same-both _ _ _ _ _ _ (strings-tell p.0 q.0) (strings-tell p.1 q.1)) a.0.entries b.0.entries
+
+-- `==` of vectors, item by item
+vectors-tell : {X V Z : Type 0} (E : X → X → Bool) (v : X → V) → Tells E v
+    → Tells {X = Vec X Z} (λ a b. pointwise E a.items b.items) (λ a. map v a.items)
+vectors-tell E v t a b = lists-tell E v t a.items b.items
+
+abbrev persons_eq : Vec Person Global → Vec Person Global → Bool
+persons_eq a b = pointwise person.ghosts.eq a.items b.items
+
+abbrev roles_eq : Vec PersonsWithRoles Global → Vec PersonsWithRoles Global → Bool
+roles_eq a b = pointwise roles.ghosts.eq a.items b.items
 
 -- one level of `==`
 abbrev level_eq : Entry-F Entry → Entry-F Entry → Bool
@@ -37,8 +62,14 @@ level_eq a b =
     && (option_eq text.ghosts.eq a.note b.note
     && (option_eq text.ghosts.eq a.abstract_ b.abstract_
     && (option_eq text.ghosts.eq a.genre b.genre
+    && (option_eq persons_eq a.authors b.authors
+    && (option_eq persons_eq a.editors b.editors
+    && (option_eq roles_eq a.affiliated b.affiliated
+    && (option_eq date.ghosts.eq a.date b.date
+    && (option_eq numeric.ghosts.eq a.volume_total b.volume_total
+    && (option_eq numeric.ghosts.eq a.page_total b.page_total
     && (option_eq string_eq a.language b.language
-    && option_eq serial.ghosts.eq a.serial_number b.serial_number))))))))))))
+    && option_eq serial.ghosts.eq a.serial_number b.serial_number))))))))))))))))))
 
 one_level : (a b : Entry) → entry.ghosts.eq a b ≡ level_eq (out-Entry a) (out-Entry b)
 one_level a b = entry_laws.is a b
@@ -47,10 +78,11 @@ one_level a b = entry_laws.is a b
 abbrev Parts : Type 0
 Parts = List ℕ × (EntryType × (Trees
     × (Option TextView × (Option TextView × (Option TextView × (Option TextView × (Option TextView × (Option TextView × (Option TextView × (Option TextView × (Option TextView
-    × (Option (List ℕ) × Option Serials))))))))))))
+    × (Option (List PersonView) × (Option (List PersonView) × (Option (List RolesView) × (Option Date × (Option NumericView × (Option NumericView
+    × (Option (List ℕ) × Option Serials))))))))))))))))))
 
 abbrev whole : Parts → Tree
-whole (key, (kind, (ps, (title, (location, (organization, (archive, (archive_location, (call_number, (note, (abstract_, (genre, (language, serial_number))))))))))))) = node (record {
+whole (key, (kind, (ps, (title, (location, (organization, (archive, (archive_location, (call_number, (note, (abstract_, (genre, (authors, (editors, (affiliated, (date, (volume_total, (page_total, (language, serial_number))))))))))))))))))) = node (record {
   key = key;
   entry_type = kind;
   title = title;
@@ -62,12 +94,18 @@ whole (key, (kind, (ps, (title, (location, (organization, (archive, (archive_loc
   note = note;
   abstract_ = abstract_;
   genre = genre;
+  authors = authors;
+  editors = editors;
+  affiliated = affiliated;
+  date = date;
+  volume_total = volume_total;
+  page_total = page_total;
   language = language;
   serial_number = serial_number;
 }) ps
 
 abbrev parts : Tree → Parts
-parts (node f ps) = (f.key, (f.entry_type, (ps, (f.title, (f.location, (f.organization, (f.archive, (f.archive_location, (f.call_number, (f.note, (f.abstract_, (f.genre, (f.language, f.serial_number)))))))))))))
+parts (node f ps) = (f.key, (f.entry_type, (ps, (f.title, (f.location, (f.organization, (f.archive, (f.archive_location, (f.call_number, (f.note, (f.abstract_, (f.genre, (f.authors, (f.editors, (f.affiliated, (f.date, (f.volume_total, (f.page_total, (f.language, f.serial_number)))))))))))))))))))
 
 level_view : Entry-F Entry → Tree
 level_view e = node (fields_of e) (trees (map view e.parents.items))
@@ -80,7 +118,7 @@ levels-tell a b h =
     Same-along _ whole parts _ _ refl refl
     (Same-both _ _ _ _ _ _ (strings-tell a.key b.key)
     (Same-both _ _ _ _ _ _ (same_true entry_type.the_type tt a.entry_type b.entry_type, true_same entry_type.the_type a.entry_type b.entry_type)
-    (Same-both _ _ _ _ _ _ (Same-along _ trees listed _ _ (listed-trees _) (listed-trees _) h)
+    (Same-both _ _ _ _ _ _ (Same-along _ trees tree_list _ _ (tree_list-trees _) (tree_list-trees _) h)
     (Same-both _ _ _ _ _ _ (options-tell _ _ texts-tell a.title b.title)
     (Same-both _ _ _ _ _ _ (options-tell _ _ texts-tell a.location b.location)
     (Same-both _ _ _ _ _ _ (options-tell _ _ texts-tell a.organization b.organization)
@@ -90,8 +128,14 @@ levels-tell a b h =
     (Same-both _ _ _ _ _ _ (options-tell _ _ texts-tell a.note b.note)
     (Same-both _ _ _ _ _ _ (options-tell _ _ texts-tell a.abstract_ b.abstract_)
     (Same-both _ _ _ _ _ _ (options-tell _ _ texts-tell a.genre b.genre)
+    (Same-both _ _ _ _ _ _ (options-tell _ _ (vectors-tell _ _ persons-tell) a.authors b.authors)
+    (Same-both _ _ _ _ _ _ (options-tell _ _ (vectors-tell _ _ persons-tell) a.editors b.editors)
+    (Same-both _ _ _ _ _ _ (options-tell _ _ (vectors-tell _ _ persons_with_roles-tell) a.affiliated b.affiliated)
+    (Same-both _ _ _ _ _ _ (option-same _ dates-tell a.date b.date)
+    (Same-both _ _ _ _ _ _ (options-tell _ _ numeric-tells a.volume_total b.volume_total)
+    (Same-both _ _ _ _ _ _ (options-tell _ _ numeric-tells a.page_total b.page_total)
     (Same-both _ _ _ _ _ _ (options-tell _ _ strings-tell a.language b.language)
-    (options-tell _ _ serials-tell a.serial_number b.serial_number))))))))))))))
+    (options-tell _ _ serials-tell a.serial_number b.serial_number))))))))))))))))))))
 
 -- the same for lists of trees of at most n entries
 lists-tell-below : (n : ℕ) → ((x y : Entry) → size (view x) ≤ n → Same (entry.ghosts.eq x y) (view x) (view y))

@@ -1,4 +1,6 @@
 pub mod Trees
 pub mod Equal
 mod SerialLemmas
+pub mod LevelLemmas
+mod LevelsApart
 mod Rows

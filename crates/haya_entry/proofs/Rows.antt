@@ -3,20 +3,21 @@ use Rattle.std.proofs.Common.{◌≡◌, true, false, [], ◌∷◌, None, Some,
 use Rattle.std.specs.Prelude.{codes}
 use Rattle.haya_entry.specs.declared.types.EntryType.TheVariants.{Article, Book, Periodical, Web}
 use Rattle.haya_entry.specs.EntryType.{type_read}
+use Rattle.haya_entry.specs.Levels.{ancestors, height}
 use Rattle.haya_entry.specs.Names.{has_name, has_all}
-use Rattle.haya_entry.specs.Tree.{Tree, size, at, at_list, bare, parents, with_parents, keyed_serial_number, with_keyed_serial_number}
+use Rattle.haya_entry.specs.Tree.{Tree, size, at, at_list, new_entry, parents, with_parents, keyed_serial_number, with_keyed_serial_number}
 
 abbrev site : Tree
-site = bare (codes "site") Web
+site = new_entry (codes "site") Web
 
 abbrev journal : Tree
-journal = with_parents (site ∷ []) (bare (codes "journal") Periodical)
+journal = with_parents (site ∷ []) (new_entry (codes "journal") Periodical)
 
 abbrev book : Tree
-book = bare (codes "book") Book
+book = new_entry (codes "book") Book
 
 abbrev article : Tree
-article = with_parents (journal ∷ book ∷ []) (bare (codes "article") Article)
+article = with_parents (journal ∷ book ∷ []) (new_entry (codes "article") Article)
 
 size_row : size article ≡ 4
 size_row = refl
@@ -67,3 +68,10 @@ type_rows :
     × (type_read (codes "bOOK") ≡ None)
     × (type_read [] ≡ None)
 type_rows = (refl, refl, refl, refl, refl)
+
+-- the ancestors of the article: the journal and the book, then the site
+level_rows :
+    (ancestors article ≡ (0 ∷ []) ∷ (1 ∷ []) ∷ (0 ∷ 0 ∷ []) ∷ [])
+    × (height article ≡ 2)
+    × (ancestors site ≡ [])
+level_rows = (refl, refl, refl)

@@ -4,18 +4,18 @@ use Rattle.haya_entry.specs.declared.entry.Entry.{Entry, out-Entry}
 use Rattle.haya_entry.specs.declared.entry.Entry.TheFolds.{fold_out-Entry, fold-roll-Entry}
 use Rattle.haya_entry.specs.declared.entry.Entry.TheOpen.{Entry-F}
 use Rattle.haya_entry.specs.declared.entry.Entry.TheViews.{roll-Entry}
-use Rattle.haya_entry.specs.Tree.{Tree, node, trees, listed, view, view_step, fields_of, parents}
+use Rattle.haya_entry.specs.Tree.{Tree, node, trees, tree_list, view, view_step, fields_of, parents}
 
-pub listed-trees : (ts : List Tree) → listed (trees ts) ≡ ts
-listed-trees [] = refl
-listed-trees (t ∷ ts) = ap (λ l. t ∷ l) (listed-trees ts)
+pub tree_list-trees : (ts : List Tree) → tree_list (trees ts) ≡ ts
+tree_list-trees [] = refl
+tree_list-trees (t ∷ ts) = ap (λ l. t ∷ l) (tree_list-trees ts)
 
 -- one level of the view
 pub view_is : (e : Entry) → view e ≡ node (fields_of (out-Entry e)) (trees (map view (out-Entry e).parents.items))
 view_is e = fold_out-Entry Tree view_step e
 
 pub parents_is : (e : Entry) → parents (view e) ≡ map view (out-Entry e).parents.items
-parents_is e = ap parents (view_is e) ∙ listed-trees (map view (out-Entry e).parents.items)
+parents_is e = ap parents (view_is e) ∙ tree_list-trees (map view (out-Entry e).parents.items)
 
 -- the view of an entry that is made of its parts
 pub view_rolled : (x : Entry-F Entry) → view (roll-Entry x) ≡ node (fields_of x) (trees (map view x.parents.items))

@@ -1,6 +1,10 @@
 -- An entry by value: a tree of plain data.
-use Rattle.std.specs.Prelude.{ℕ, ◌+◌, List, [], ◌∷◌, Option, None, Some, option_and_then, option_map, slice_get, string_bytes}
+use Rattle.std.specs.Prelude.{◌≡◌, ℕ, ◌+◌, List, [], ◌∷◌, map, Option, None, Some, option_and_then, option_map, slice_get, string_bytes}
+use Rattle.haya_numbers.specs.Numeric.{NumericView, numeric_view}
+use Rattle.haya_people.specs.Person.{PersonView, person_view}
+use Rattle.haya_people.specs.Roles.{RolesView, roles_view}
 use Rattle.haya_text.specs.Texts.{TextView, text_view}
+use Rattle.haya_time.specs.declared.date.Date.{Date}
 use Rattle.haya_entry.specs.declared.entry.Entry.{Entry}
 use Rattle.haya_entry.specs.declared.entry.Entry.TheOpen.{Entry-F}
 use Rattle.haya_entry.specs.declared.entry.Entry.TheFolds.{fold-Entry}
@@ -20,6 +24,12 @@ pub record Fields : Type 0 where
   pub note : Option TextView
   pub abstract_ : Option TextView
   pub genre : Option TextView
+  pub authors : Option (List PersonView)
+  pub editors : Option (List PersonView)
+  pub affiliated : Option (List RolesView)
+  pub date : Option Date
+  pub volume_total : Option NumericView
+  pub page_total : Option NumericView
   pub language : Option (List ℕ)
   pub serial_number : Option Serials
 
@@ -37,16 +47,16 @@ abbrev pub trees : List Tree → Trees
 trees [] = no_trees
 trees (t ∷ ts) = one_more t (trees ts)
 
-abbrev pub listed : Trees → List Tree
-listed no_trees = []
-listed (one_more t ts) = t ∷ listed ts
+abbrev pub tree_list : Trees → List Tree
+tree_list no_trees = []
+tree_list (one_more t ts) = t ∷ tree_list ts
 
 -- all of an entry but its parents, and its parents in order
 abbrev pub fields : Tree → Fields
 fields (node f ps) = f
 
 abbrev pub parents : Tree → List Tree
-parents (node f ps) = listed ps
+parents (node f ps) = tree_list ps
 
 -- how many entries the tree has
 abbrev mutual
@@ -81,6 +91,12 @@ fields_of e = record {
   note = option_map text_view e.note;
   abstract_ = option_map text_view e.abstract_;
   genre = option_map text_view e.genre;
+  authors = option_map (λ v. map person_view v.items) e.authors;
+  editors = option_map (λ v. map person_view v.items) e.editors;
+  affiliated = option_map (λ v. map roles_view v.items) e.affiliated;
+  date = e.date;
+  volume_total = option_map numeric_view e.volume_total;
+  page_total = option_map numeric_view e.page_total;
   language = option_map string_bytes e.language;
   serial_number = option_map serial_view e.serial_number;
 }
@@ -97,6 +113,10 @@ view = fold-Entry Tree view_step
 abbrev pub with_fields : (Fields → Fields) → Tree → Tree
 with_fields change (node f ps) = node (change f) ps
 
+-- the entry has changed in these fields alone
+abbrev pub Sets : Entry → Entry → (Fields → Fields) → Type 0
+Sets old new change = view new ≡ with_fields change (view old)
+
 -- the same fields over other parents
 abbrev pub with_parents : List Tree → Tree → Tree
 with_parents ts (node f ps) = node f (trees ts)
@@ -108,6 +128,14 @@ keyed_serial_number key t = serial_text key (fields t).serial_number
 -- the entry with this serial number under the key, in the place of the one that was there
 abbrev pub with_keyed_serial_number : List ℕ → List ℕ → Tree → Tree
 with_keyed_serial_number key text = with_fields (λ f. record f { serial_number = Some (with_serial key text f.serial_number) })
+
+-- the same of an entry that isn't a tree yet
+abbrev pub serial_of : List ℕ → Entry → Option (List ℕ)
+serial_of key entry = keyed_serial_number key (view entry)
+
+-- the entry has changed in this serial number alone
+abbrev pub SetsSerial : Entry → Entry → List ℕ → List ℕ → Type 0
+SetsSerial old new key text = view new ≡ with_keyed_serial_number key text (view old)
 
 -- the fields of an entry with a key and a type alone
 abbrev pub no_fields : List ℕ → EntryType → Fields
@@ -123,13 +151,19 @@ no_fields key kind = record {
   note = None;
   abstract_ = None;
   genre = None;
+  authors = None;
+  editors = None;
+  affiliated = None;
+  date = None;
+  volume_total = None;
+  page_total = None;
   language = None;
   serial_number = None;
 }
 
 -- an entry with a key and a type alone
-abbrev pub bare : List ℕ → EntryType → Tree
-bare key kind = node (no_fields key kind) no_trees
+abbrev pub new_entry : List ℕ → EntryType → Tree
+new_entry key kind = node (no_fields key kind) no_trees
 
 -- these fields with the texts of others
 abbrev pub with_texts_of : Fields → Fields → Fields
@@ -148,6 +182,12 @@ with_texts_of from f = record f {
 -- these fields with the others of another entry
 abbrev pub with_rest_of : Fields → Fields → Fields
 with_rest_of from f = record f {
+  authors = from.authors;
+  editors = from.editors;
+  affiliated = from.affiliated;
+  date = from.date;
+  volume_total = from.volume_total;
+  page_total = from.page_total;
   language = from.language;
   serial_number = from.serial_number;
 }

@@ -1,13 +1,18 @@
+//! Entries: works with their fields and parents.
 ghost use Rattle.std.specs.Prelude.{◌≡◌, IfOk, map};
 ghost use Rattle.haya_entry.specs.Names.{has_name};
-ghost use Rattle.haya_entry.specs.Tree.{view, fields, parents, with_parents, bare};
+ghost use Rattle.haya_entry.specs.Tree.{view, fields, parents, with_parents, new_entry};
 
+mod ancestors;
 mod copies;
 mod fields;
 mod serials;
 
 use crate::{EntryType, SerialNumber};
+use haya_numbers::Numeric;
+use haya_people::{Person, PersonsWithRoles};
 use haya_text::{FormatString, OutOfMemory};
+use haya_time::Date;
 use std::alloc::Global;
 
 /// A work of the literature: its key, its type, its fields, and the works that it stands in, its parents.
@@ -37,6 +42,18 @@ pub struct Entry {
     pub abstract_: Option<FormatString>,
     /// The kind of work within its type, as `Doctoral dissertation`.
     pub genre: Option<FormatString>,
+    /// The people who made the work, in order.
+    pub authors: Option<Vec<Person>>,
+    /// The people who chose and prepared what it has, in order.
+    pub editors: Option<Vec<Person>>,
+    /// People with another part in the work, each list with its role.
+    pub affiliated: Option<Vec<PersonsWithRoles>>,
+    /// When the work came out, or was made.
+    pub date: Option<Date>,
+    /// Of how many volumes the work is.
+    pub volume_total: Option<Numeric>,
+    /// How many pages the work has.
+    pub page_total: Option<Numeric>,
     /// The language of the work.
     pub language: Option<String>,
     /// The numbers that catalogues know the work by.
@@ -46,7 +63,7 @@ pub struct Entry {
 impl Entry {
     /// An entry with a key and a type, no fields and no parents.
     pub fn new(alloc: Global, key: &str, entry_type: EntryType) -> Result<Entry, OutOfMemory>
-        ensures { IfOk result (λ entry. view entry ≡ bare key.now entry_type) }
+        ensures { IfOk result (λ entry. view entry ≡ new_entry key.now entry_type) }
     {
         Ok(Entry {
             key: String::from_str(alloc, key)?,
@@ -61,6 +78,12 @@ impl Entry {
             note: None,
             abstract_: None,
             genre: None,
+            authors: None,
+            editors: None,
+            affiliated: None,
+            date: None,
+            volume_total: None,
+            page_total: None,
             language: None,
             serial_number: None,
         })
@@ -95,9 +118,10 @@ impl Entry {
     }
 
     /// Whether the entry has a name. It has the name of each field that is set: `title`, `location`,
-    /// `organization`, `archive`, `archive-location`, `call-number`, `note`, `abstract`, `genre`, `language`,
-    /// `serial-number`; and, of `doi`, `isbn`, `issn`, `pmid`, `pmcid` and `arxiv`, those under which a serial
-    /// number is kept. It has no other name.
+    /// `organization`, `archive`, `archive-location`, `call-number`, `note`, `abstract`, `genre`, `author`,
+    /// `editor`, `affiliated`, `date`, `volume-total`, `page-total`, `language`, `serial-number`; and, of
+    /// `doi`, `isbn`, `issn`, `pmid`, `pmcid` and `arxiv`, those under which a serial number is kept. It has
+    /// no other name.
     pub fn has(&self, name: &str) -> bool
         ensures { result ≡ has_name (view self.now) name.now }
     {
@@ -111,6 +135,12 @@ impl Entry {
             "note" => self.note.is_some(),
             "abstract" => self.abstract_.is_some(),
             "genre" => self.genre.is_some(),
+            "author" => self.authors.is_some(),
+            "editor" => self.editors.is_some(),
+            "affiliated" => self.affiliated.is_some(),
+            "date" => self.date.is_some(),
+            "volume-total" => self.volume_total.is_some(),
+            "page-total" => self.page_total.is_some(),
             "language" => self.language.is_some(),
             "serial-number" => self.serial_number.is_some(),
             "doi" => self.doi().is_some(),

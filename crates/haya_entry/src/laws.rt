@@ -2,16 +2,23 @@
 ghost use Rattle.std.specs.Prelude.{◌≡◌, ◌↔◌, ℕ, List, true, Some, if◌then◌else◌};
 ghost use Rattle.std.specs.Str.{bytes_eq};
 ghost use Rattle.haya_entry.specs.declared.entry.Entry.{Entry as EntryData};
+ghost use Rattle.haya_entry.specs.declared.types.EntryType.{EntryType as EntryTypeData};
 ghost use Rattle.haya_entry.specs.declared.types.SerialNumber.{SerialNumber as SerialNumberData};
+ghost use Rattle.haya_entry.specs.Levels.{AncestorsOnce};
 ghost use Rattle.haya_entry.specs.Names.{has_name};
 ghost use Rattle.haya_entry.specs.SerialNumber.{serial_view};
 ghost use Rattle.haya_entry.specs.Tree.{Tree, view, keyed_serial_number, with_keyed_serial_number};
 
-use crate::{Entry, SerialNumber};
+use crate::{Entry, EntryType, SerialNumber};
 
 /// `==` of two entries holds exactly where their values are equal, parents and all that is above them included.
 pub fn entries_equal_by_value()
     ensures { (a b : EntryData) → (⟦<Entry as PartialEq>⟧.eq a b ≡ true) ↔ (view a ≡ view b) }
+{}
+
+/// `==` of two types holds exactly where they are the same type.
+pub fn types_equal_by_value()
+    ensures { (a b : EntryTypeData) → (⟦<EntryType as PartialEq>⟧.eq a b ≡ true) ↔ (a ≡ b) }
 {}
 
 /// `==` of two serial numbers holds exactly where their values are equal.
@@ -31,4 +38,9 @@ pub fn set_serial_number_is_found()
     ensures { (key text other : List ℕ) (entry : Tree) →
         keyed_serial_number other (with_keyed_serial_number key text entry)
         ≡ (if bytes_eq other key then Some text else keyed_serial_number other entry) }
+{}
+
+/// The ancestors of an entry are all entries above it, each path once.
+pub fn ancestors_once()
+    ensures { AncestorsOnce }
 {}

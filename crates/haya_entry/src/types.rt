@@ -1,5 +1,7 @@
+//! The types of entries, and the numbers that catalogues know works by.
 ghost use Rattle.std.specs.Prelude.{◌≡◌, IfOk, find};
 ghost use Rattle.std.specs.Result.{result_ok};
+ghost use Rattle.haya_entry.specs.SerialNumber.{Serials, serial_view};
 ghost use Rattle.haya_entry.specs.EntryType.{type_name, in_lower_case, is_named, type_read};
 
 use haya_text::{OutOfMemory, TryClone};
@@ -151,6 +153,7 @@ impl EntryType {
         }
     }
 
+    // Whether the text is the name, as it is written here or in lower case.
     fn is_named(self, text: &str) -> bool
         ensures { result ≡ is_named text.now self }
     {
@@ -185,8 +188,6 @@ fn first_named(types: &[EntryType], name: &str) -> Option<EntryType>
 pub struct SerialNumber(pub BTreeMap<String, String>);
 
 impl SerialNumber {
-    ghost use Rattle.haya_entry.specs.SerialNumber.{serial_view};
-
     /// A copy, equal to these serial numbers.
     pub fn try_clone(&self, _alloc: Global) -> Result<SerialNumber, OutOfMemory>
         ensures { IfOk result (λ copy. serial_view copy ≡ serial_view self.now) }
@@ -196,8 +197,6 @@ impl SerialNumber {
 }
 
 impl TryClone for SerialNumber {
-    ghost use Rattle.haya_entry.specs.SerialNumber.{Serials, serial_view};
-
     ghost View = { Serials };
 
     ghost view = { serial_view };

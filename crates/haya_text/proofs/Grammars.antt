@@ -9,15 +9,15 @@ use Rattle.haya_text.specs.declared.strings.kind.ChunkKind.{ChunkKind}
 use Rattle.haya_text.specs.declared.strings.kind.ChunkKind.TheVariants.{Normal, Verbatim, Math}
 use Rattle.std.specs.Prelude.{Some, None, option_map}
 use Rattle.std.specs.Result.{result_ok}
-use Rattle.haya_text.specs.Chunks.{Chunk, Marked}
+use Rattle.haya_text.specs.Chunks.{Chunk, Character}
 use Rattle.haya_text.specs.Normal.{runs}
-use Rattle.haya_text.specs.Grammar.{Extent, closed, at_end, Alone, Body, no_body, body_plain, body_backslash, body_escape, Items, no_items, plain, backslash, escape, group, math, open_group, open_math, ReadsAs, IsRefusedAt}
-use Rattle.haya_text.specs.Printed.{is_control}
-use Rattle.haya_text.specs.Marks.{told}
-use Rattle.haya_text.specs.Reading.{after_these, kind_in, scan, chunks_read}
+use Rattle.haya_text.specs.Grammar.{Extent, closed, at_end, Alone, Body, no_body, body_plain, body_backslash, body_escape, Items, no_items, plain, lone_backslash, escape, group, math, open_group, open_math, ReadsAs, IsRefusedAt}
+use Rattle.haya_text.specs.Printing.{is_control}
+use Rattle.haya_text.specs.Marks.{scan_of_mark}
+use Rattle.haya_text.specs.Reading.{result_after, kind_in, scan, chunks_read}
 use Rattle.haya_text.specs.declared.strings.reading.Mark.{Mark}
 use Rattle.haya_text.specs.declared.strings.reading.Mark.TheVariants.{Close}
-use Rattle.haya_text.proofs.Scans.{after_these-append, after_these-nil, or-false, apart, scan-nil, scan-plain, scan-backslash, scan-escape, scan-alone, scan-dollar, scan-open}
+use Rattle.haya_text.proofs.Scans.{result_after-append, result_after-nil, or-false, apart, scan-nil, scan-plain, scan-backslash, scan-escape, scan-alone, scan-dollar, scan-open}
 
 -- what may follow
 abbrev Follows : Extent → List ℕ → Type 0
@@ -25,39 +25,39 @@ Follows at_end after = after ≡ []
 Follows closed after = Unit {0}
 
 -- one more in front
-more : (x : Marked) (xs : List Marked) (r s : Result (List Marked) (List ℕ)) → s ≡ after_these xs r → after_these (x ∷ []) s ≡ after_these (x ∷ xs) r
-more x xs r s e = ap (after_these (x ∷ [])) e ∙ sym (after_these-append (x ∷ []) xs r)
+more : (x : Character) (xs : List Character) (r s : Result (List Character) (List ℕ)) → s ≡ result_after xs r → result_after (x ∷ []) s ≡ result_after (x ∷ xs) r
+more x xs r s e = ap (result_after (x ∷ [])) e ∙ sym (result_after-append (x ∷ []) xs r)
 
 -- two parts
-two : (xs ys zs : List Marked) (r s : Result (List Marked) (List ℕ)) → zs ≡ xs ++ ys → s ≡ after_these ys r → after_these xs s ≡ after_these zs r
-two xs ys zs r s e f = ap (after_these xs) f ∙ sym (after_these-append xs ys r) ∙ ap (λ l. after_these l r) (sym e)
+two : (xs ys zs : List Character) (r s : Result (List Character) (List ℕ)) → zs ≡ xs ++ ys → s ≡ result_after ys r → result_after xs s ≡ result_after zs r
+two xs ys zs r s e f = ap (result_after xs) f ∙ sym (result_after-append xs ys r) ∙ ap (λ l. result_after l r) (sym e)
 
 -- a backslash, and the control character behind it
-escaped : (d : ℕ) (m : Bool) (c : ℕ) (cs : List ℕ) → is_control c ≡ true → scan d m false (92 ∷ c ∷ cs) ≡ after_these ((c, kind_in d m) ∷ []) (scan d m false cs)
+escaped : (d : ℕ) (m : Bool) (c : ℕ) (cs : List ℕ) → is_control c ≡ true → scan d m false (92 ∷ c ∷ cs) ≡ result_after ((c, kind_in d m) ∷ []) (scan d m false cs)
 escaped d m c cs h = scan-backslash d m (c ∷ cs) ∙ scan-escape d m c cs h
 
 -- a backslash that stands for itself
-alone : (d : ℕ) (m : Bool) (e : Extent) (cs after : List ℕ) → Alone e cs → Follows e after → scan d m false (92 ∷ (cs ++ after)) ≡ after_these ((92, kind_in d m) ∷ []) (scan d m false (cs ++ after))
+alone : (d : ℕ) (m : Bool) (e : Extent) (cs after : List ℕ) → Alone e cs → Follows e after → scan d m false (92 ∷ (cs ++ after)) ≡ result_after ((92, kind_in d m) ∷ []) (scan d m false (cs ++ after))
 alone d m closed [] after a f = absurd a
-alone d m at_end [] after a f = rw f (scan-backslash d m [] ∙ ap (after_these ((92, kind_in d m) ∷ [])) (sym (scan-nil d m)))
+alone d m at_end [] after a f = rw f (scan-backslash d m [] ∙ ap (result_after ((92, kind_in d m) ∷ [])) (sym (scan-nil d m)))
 alone d m closed (c ∷ cs) after a f = scan-backslash d m (c ∷ (cs ++ after)) ∙ scan-alone d m c (cs ++ after) a
 alone d m at_end (c ∷ cs) after a f = scan-backslash d m (c ∷ (cs ++ after)) ∙ scan-alone d m c (cs ++ after) a
 
 -- what stands for itself in math
-scan-body : (d c : ℕ) (cs : List ℕ) → (eqb c 92 || eqb c 36) ≡ false → scan d true false (c ∷ cs) ≡ after_these ((c, Math) ∷ []) (scan d true false cs)
+scan-body : (d c : ℕ) (cs : List ℕ) → (eqb c 92 || eqb c 36) ≡ false → scan d true false (c ∷ cs) ≡ result_after ((c, Math) ∷ []) (scan d true false cs)
 scan-body d c cs h = let t = or-false (eqb c 92) (eqb c 36) h in rw (t.0, t.1) refl
 
-pub body-scan : {e : Extent} {text : List ℕ} {xs : List Marked} → Body e text xs → (d : ℕ) (after : List ℕ) → Follows e after → scan d true false (text ++ after) ≡ after_these xs (scan d true false after)
-body-scan no_body d after f = sym (after_these-nil _)
+pub body-scan : {e : Extent} {text : List ℕ} {xs : List Character} → Body e text xs → (d : ℕ) (after : List ℕ) → Follows e after → scan d true false (text ++ after) ≡ result_after xs (scan d true false after)
+body-scan no_body d after f = sym (result_after-nil _)
 body-scan (body_plain {c = c} {cs = cs} h r) d after f = scan-body d c (cs ++ after) h ∙ more _ _ _ _ (body-scan r d after f)
 body-scan (body_backslash {e = e} {cs = cs} a r) d after f = alone d true e cs after a f ∙ more _ _ _ _ (body-scan r d after f)
 body-scan (body_escape {c = c} {cs = cs} h r) d after f = escaped d true c (cs ++ after) h ∙ more _ _ _ _ (body-scan r d after f)
 
 -- what the grammar reads is what is scanned
-pub items-scan : {e : Extent} {k : ChunkKind} {text : List ℕ} {xs : List Marked} → Items e k text xs → (d : ℕ) (after : List ℕ) → kind_in d false ≡ k → Follows e after → scan d false false (text ++ after) ≡ after_these xs (scan d false false after)
-items-scan no_items d after k f = sym (after_these-nil _)
+pub items-scan : {e : Extent} {k : ChunkKind} {text : List ℕ} {xs : List Character} → Items e k text xs → (d : ℕ) (after : List ℕ) → kind_in d false ≡ k → Follows e after → scan d false false (text ++ after) ≡ result_after xs (scan d false false after)
+items-scan no_items d after k f = sym (result_after-nil _)
 items-scan (plain {c = c} {cs = cs} h r) d after k f = rw (← k) (scan-plain d false c (cs ++ after) h ∙ more _ _ _ _ (items-scan r d after k f))
-items-scan (backslash {e = e} {cs = cs} a r) d after k f = rw (← k) (alone d false e cs after a f ∙ more _ _ _ _ (items-scan r d after k f))
+items-scan (lone_backslash {e = e} {cs = cs} a r) d after k f = rw (← k) (alone d false e cs after a f ∙ more _ _ _ _ (items-scan r d after k f))
 items-scan (escape {c = c} {cs = cs} h r) d after k f = rw (← k) (escaped d false c (cs ++ after) h ∙ more _ _ _ _ (items-scan r d after k f))
 items-scan (group {text = text} inner cs ys xs e z body r) d after k f =
     scan-open d (text ++ after) ∙ ap (λ t. scan (suc d) false false (t ++ after)) e ∙ ap (scan (suc d) false false) (append_assoc inner (125 ∷ cs) after)
@@ -67,18 +67,18 @@ items-scan (math {text = text} inner cs ys xs e z body r) d after k f =
     scan-dollar d (text ++ after) ∙ ap (λ t. scan d true false (t ++ after)) e ∙ ap (scan d true false) (append_assoc inner (36 ∷ cs) after)
     ∙ body-scan body d (36 ∷ (cs ++ after)) tt
     ∙ two ys xs _ (scan d false false after) _ z (items-scan r d after k f)
-items-scan (open_group {inner = inner} body) d after k f = scan-open d (inner ++ after) ∙ items-scan body (suc d) after refl f ∙ ap (after_these _) (rw (f, scan-nil) refl)
-items-scan (open_math {inner = inner} body) d after k f = scan-dollar d (inner ++ after) ∙ body-scan body d after f ∙ ap (after_these _) (rw (f, scan-nil) refl)
+items-scan (open_group {inner = inner} body) d after k f = scan-open d (inner ++ after) ∙ items-scan body (suc d) after refl f ∙ ap (result_after _) (rw (f, scan-nil) refl)
+items-scan (open_math {inner = inner} body) d after k f = scan-dollar d (inner ++ after) ∙ body-scan body d after f ∙ ap (result_after _) (rw (f, scan-nil) refl)
 
 -- a text in math is all open, or closed by its first dollar
 data MathSplit : List ℕ → Type 0 where
-  math_open : {text : List ℕ} (ys : List Marked) → Body at_end text ys → MathSplit text
-  math_closed : {text : List ℕ} (body rest : List ℕ) (ys : List Marked) → text ≡ body ++ 36 ∷ rest → Body closed body ys → length rest + 1 ≤ length text → MathSplit text
+  math_open : {text : List ℕ} (ys : List Character) → Body at_end text ys → MathSplit text
+  math_closed : {text : List ℕ} (body rest : List ℕ) (ys : List Character) → text ≡ body ++ 36 ∷ rest → Body closed body ys → length rest + 1 ≤ length text → MathSplit text
 
 -- a text is all items, or closed items and then a closing brace
 data Split : ChunkKind → List ℕ → Type 0 where
-  all_open : {k : ChunkKind} {text : List ℕ} (ys : List Marked) → Items at_end k text ys → Split k text
-  cut : {k : ChunkKind} {text : List ℕ} (body rest : List ℕ) (ys : List Marked) → text ≡ body ++ 125 ∷ rest → Items closed k body ys → length rest + 1 ≤ length text → Split k text
+  all_open : {k : ChunkKind} {text : List ℕ} (ys : List Character) → Items at_end k text ys → Split k text
+  cut : {k : ChunkKind} {text : List ℕ} (body rest : List ℕ) (ys : List Character) → text ≡ body ++ 125 ∷ rest → Items closed k body ys → length rest + 1 ≤ length text → Split k text
 
 -- what is no control character stands for itself in math
 body_character : (c : ℕ) → is_control c ≡ false → (eqb c 92 || eqb c 36) ≡ false
@@ -132,22 +132,22 @@ one_escape k c cs h (all_open ys r) = all_open ((c, k) ∷ ys) (escape h r)
 one_escape k c cs h (cut body rest ys e r l) = cut (92 ∷ c ∷ body) rest ((c, k) ∷ ys) (ap (λ t. 92 ∷ c ∷ t) e) (escape h r) (omega arith)
 
 one_alone : (k : ChunkKind) (c : ℕ) (cs : List ℕ) → is_control c ≡ false → Split k cs → Split k (92 ∷ c ∷ cs)
-one_alone k c cs h (all_open ys r) = all_open ((92, k) ∷ (c, k) ∷ ys) (backslash h (plain h r))
-one_alone k c cs h (cut body rest ys e r l) = cut (92 ∷ c ∷ body) rest ((92, k) ∷ (c, k) ∷ ys) (ap (λ t. 92 ∷ c ∷ t) e) (backslash h (plain h r)) (omega arith)
+one_alone k c cs h (all_open ys r) = all_open ((92, k) ∷ (c, k) ∷ ys) (lone_backslash h (plain h r))
+one_alone k c cs h (cut body rest ys e r l) = cut (92 ∷ c ∷ body) rest ((92, k) ∷ (c, k) ∷ ys) (ap (λ t. 92 ∷ c ∷ t) e) (lone_backslash h (plain h r)) (omega arith)
 
 behind : (k : ChunkKind) (cs : List ℕ) → Smaller cs → Split k (92 ∷ cs)
-behind k [] ih = all_open ((92, k) ∷ []) (backslash tt no_items)
+behind k [] ih = all_open ((92, k) ∷ []) (lone_backslash tt no_items)
 behind k (c ∷ cs) ih = by_control (is_control c) refl
   where
     by_control : (b : Bool) → is_control c ≡ b → Split k (92 ∷ c ∷ cs)
     by_control true h = one_escape k c cs h (ih k cs (omega arith))
     by_control false h = one_alone k c cs h (ih k cs (omega arith))
 
-one_group : (k : ChunkKind) (text body cs : List ℕ) (ys : List Marked) → text ≡ body ++ 125 ∷ cs → Items closed Verbatim body ys → length cs + 1 ≤ length text → Split k cs → Split k (123 ∷ text)
+one_group : (k : ChunkKind) (text body cs : List ℕ) (ys : List Character) → text ≡ body ++ 125 ∷ cs → Items closed Verbatim body ys → length cs + 1 ≤ length text → Split k cs → Split k (123 ∷ text)
 one_group k text body cs ys e r l (all_open xs s) = all_open (ys ++ xs) (group body cs ys xs e refl r s)
 one_group k text body cs ys e r l (cut inner rest xs f s m) = cut (123 ∷ (body ++ 125 ∷ inner)) rest (ys ++ xs) (ap (λ t. 123 ∷ t) (e ∙ ap (λ t. body ++ 125 ∷ t) f ∙ sym (append_assoc body (125 ∷ inner) (125 ∷ rest)))) (group body inner ys xs refl refl r s) (omega arith)
 
-one_math : (k : ChunkKind) (text body cs : List ℕ) (ys : List Marked) → text ≡ body ++ 36 ∷ cs → Body closed body ys → length cs + 1 ≤ length text → Split k cs → Split k (36 ∷ text)
+one_math : (k : ChunkKind) (text body cs : List ℕ) (ys : List Character) → text ≡ body ++ 36 ∷ cs → Body closed body ys → length cs + 1 ≤ length text → Split k cs → Split k (36 ∷ text)
 one_math k text body cs ys e r l (all_open xs s) = all_open (ys ++ xs) (math body cs ys xs e refl r s)
 one_math k text body cs ys e r l (cut inner rest xs f s m) = cut (36 ∷ (body ++ 36 ∷ inner)) rest (ys ++ xs) (ap (λ t. 36 ∷ t) (e ∙ ap (λ t. body ++ 36 ∷ t) f ∙ sym (append_assoc body (36 ∷ inner) (125 ∷ rest)))) (math body inner ys xs refl refl r s) (omega arith)
 
@@ -175,15 +175,15 @@ split_by zero k (c ∷ cs) l = absurd (omega arith)
 split_by (suc n) k (c ∷ cs) l = step k c cs (λ j ds m. split_by n j ds (omega arith))
 
 -- a text of items is scanned to its end
-pub grammar-scan : (text : List ℕ) (xs : List Marked) → Items at_end Normal text xs → scan 0 false false text ≡ Ok xs
+pub grammar-scan : (text : List ℕ) (xs : List Character) → Items at_end Normal text xs → scan 0 false false text ≡ Ok xs
 grammar-scan text xs r = ap (scan 0 false false) (sym (append-nil text)) ∙ items-scan r 0 [] refl refl ∙ ap Ok (append-nil xs)
 
 -- closed items before a closing brace are scanned up to it
-pub refusal-scan : (before after : List ℕ) (xs : List Marked) → Items closed Normal before xs → scan 0 false false (before ++ 125 ∷ after) ≡ Err (125 ∷ after)
+pub refusal-scan : (before after : List ℕ) (xs : List Character) → Items closed Normal before xs → scan 0 false false (before ++ 125 ∷ after) ≡ Err (125 ∷ after)
 refusal-scan before after xs r = items-scan r 0 (125 ∷ after) refl tt
 
 -- what is scanned is items with these characters
-pub scan-grammar : (text : List ℕ) (xs : List Marked) → scan 0 false false text ≡ Ok xs → Items at_end Normal text xs
+pub scan-grammar : (text : List ℕ) (xs : List Character) → scan 0 false false text ≡ Ok xs → Items at_end Normal text xs
 scan-grammar text xs h = by_split (split_by (length text) Normal text (omega arith))
   where
     by_split : Split Normal text → Items at_end Normal text xs
@@ -199,7 +199,7 @@ scan-grammar text xs h = by_split (split_by (length text) Normal text (omega ari
 pub record Refusal (text rest : List ℕ) : Type 0 where
   pub before : List ℕ
   pub after : List ℕ
-  pub xs : List Marked
+  pub xs : List Character
   pub items : Items closed Normal before xs
   pub brace : rest ≡ 125 ∷ after
   pub cut : text ≡ before ++ 125 ∷ after
@@ -230,7 +230,7 @@ refused_at text rest place u h n =
 pub reads-as : (text : List ℕ) (cs : List Chunk) → chunks_read text ≡ Some cs → ReadsAs text cs
 reads-as text cs h = by_scan (scan 0 false false (chars text)) refl h
   where
-    by_scan : (r : Result (List Marked) (List ℕ)) → scan 0 false false (chars text) ≡ r → option_map runs (result_ok r) ≡ Some cs → ReadsAs text cs
+    by_scan : (r : Result (List Character) (List ℕ)) → scan 0 false false (chars text) ≡ r → option_map runs (result_ok r) ≡ Some cs → ReadsAs text cs
     by_scan (Ok xs) e f = record { xs = xs; items = scan-grammar (chars text) xs e; runs = cc }
     by_scan (Err rest) e f = absurd cc
 
@@ -240,14 +240,14 @@ as-reads text cs r = ap (λ x. option_map runs (result_ok x)) (grammar-scan (cha
 pub refused-reads : (text : List ℕ) (place : ℕ) → IsRefusedAt place text → chunks_read text ≡ None
 refused-reads text place r = ap (λ x. option_map runs (result_ok x)) (ap (scan 0 false false) r.cut ∙ refusal-scan r.before r.after r.xs r.items)
 
-pub told-refused : (d : ℕ) (m : Bool) (mark : Mark) (rest : List ℕ) → mark ≡ Close → d ≡ 0 → m ≡ false → told d m mark rest ≡ Err (125 ∷ rest)
-told-refused d m mark rest e f g = rw (e, f, g) refl
+pub scan_of_mark-refused : (d : ℕ) (m : Bool) (mark : Mark) (rest : List ℕ) → mark ≡ Close → d ≡ 0 → m ≡ false → scan_of_mark d m mark rest ≡ Err (125 ∷ rest)
+scan_of_mark-refused d m mark rest e f g = rw (e, f, g) refl
 
 -- what is not read is refused at a place
 pub none-refused : (text : List ℕ) → chunks_read text ≡ None → (place : ℕ) × IsRefusedAt place text
 none-refused text h = by_scan (scan 0 false false (chars text)) refl h
   where
-    by_scan : (r : Result (List Marked) (List ℕ)) → scan 0 false false (chars text) ≡ r → option_map runs (result_ok r) ≡ None → (place : ℕ) × IsRefusedAt place text
+    by_scan : (r : Result (List Character) (List ℕ)) → scan 0 false false (chars text) ≡ r → option_map runs (result_ok r) ≡ None → (place : ℕ) × IsRefusedAt place text
     by_scan (Ok xs) e f = absurd cc
     by_scan (Err rest) e f =
         let r = scan-refusal (chars text) rest e in

@@ -1,20 +1,20 @@
 -- What `scan` reads, mark by mark.
 use Rattle.std.proofs.Common.{◌≡◌, ◌≢◌, ℕ, zero, suc, Bool, true, false, ◌||◌, eqb, List, [], ◌∷◌, ◌++◌, refl, ap, sym, ◌∙◌, append_assoc, arith, Result, Ok, Err}
 use Rattle.std.proofs.lemmas.Bool.Decides.{nat_tests}
-use Rattle.haya_text.specs.Chunks.{Marked}
-use Rattle.haya_text.specs.Printed.{is_control}
-use Rattle.haya_text.specs.Marks.{told}
-use Rattle.haya_text.specs.Reading.{after_these, kind_in, scan}
+use Rattle.haya_text.specs.Chunks.{Character}
+use Rattle.haya_text.specs.Printing.{is_control}
+use Rattle.haya_text.specs.Marks.{scan_of_mark}
+use Rattle.haya_text.specs.Reading.{result_after, kind_in, scan}
 use Rattle.haya_text.specs.declared.strings.reading.Mark.TheVariants.{Open}
 use Rattle.std.specs.Prelude.{slice_get, Some}
 
-pub after_these-append : (xs ys : List Marked) (r : Result (List Marked) (List ℕ)) → after_these (xs ++ ys) r ≡ after_these xs (after_these ys r)
-after_these-append xs ys (Ok zs) = ap Ok (append_assoc xs ys zs)
-after_these-append xs ys (Err rest) = refl
+pub result_after-append : (xs ys : List Character) (r : Result (List Character) (List ℕ)) → result_after (xs ++ ys) r ≡ result_after xs (result_after ys r)
+result_after-append xs ys (Ok zs) = ap Ok (append_assoc xs ys zs)
+result_after-append xs ys (Err rest) = refl
 
-pub after_these-nil : (r : Result (List Marked) (List ℕ)) → after_these [] r ≡ r
-after_these-nil (Ok xs) = refl
-after_these-nil (Err rest) = refl
+pub result_after-nil : (r : Result (List Character) (List ℕ)) → result_after [] r ≡ r
+result_after-nil (Ok xs) = refl
+result_after-nil (Err rest) = refl
 
 pub or-false : (a b : Bool) → (a || b) ≡ false → (a ≡ false) × (b ≡ false)
 or-false true b h = cc
@@ -35,7 +35,7 @@ scan-nil zero false = refl
 scan-nil (suc d) false = refl
 
 -- a plain character
-pub scan-plain : (d : ℕ) (m : Bool) (c : ℕ) (cs : List ℕ) → is_control c ≡ false → scan d m false (c ∷ cs) ≡ after_these ((c, kind_in d m) ∷ []) (scan d m false cs)
+pub scan-plain : (d : ℕ) (m : Bool) (c : ℕ) (cs : List ℕ) → is_control c ≡ false → scan d m false (c ∷ cs) ≡ result_after ((c, kind_in d m) ∷ []) (scan d m false cs)
 scan-plain d true c cs h = let t = apart c h in rw (t.0, t.3) refl
 scan-plain zero false c cs h = let t = apart c h in rw (t.0, t.1, t.2, t.3) refl
 scan-plain (suc d) false c cs h = let t = apart c h in rw (t.0, t.1, t.2, t.3) refl
@@ -47,14 +47,14 @@ scan-backslash zero false cs = refl
 scan-backslash (suc d) false cs = refl
 
 -- behind a backslash a control character
-pub scan-escape : (d : ℕ) (m : Bool) (c : ℕ) (cs : List ℕ) → is_control c ≡ true → scan d m true (c ∷ cs) ≡ after_these ((c, kind_in d m) ∷ []) (scan d m false cs)
+pub scan-escape : (d : ℕ) (m : Bool) (c : ℕ) (cs : List ℕ) → is_control c ≡ true → scan d m true (c ∷ cs) ≡ result_after ((c, kind_in d m) ∷ []) (scan d m false cs)
 scan-escape d m c cs h = rw h refl
 
 -- behind a backslash anything else
-pub scan-alone : (d : ℕ) (m : Bool) (c : ℕ) (cs : List ℕ) → is_control c ≡ false → scan d m true (c ∷ cs) ≡ after_these ((92, kind_in d m) ∷ []) (scan d m false (c ∷ cs))
+pub scan-alone : (d : ℕ) (m : Bool) (c : ℕ) (cs : List ℕ) → is_control c ≡ false → scan d m true (c ∷ cs) ≡ result_after ((92, kind_in d m) ∷ []) (scan d m false (c ∷ cs))
 scan-alone d m c cs h =
-    (let e : scan d m true (c ∷ cs) ≡ after_these ((92, kind_in d m) ∷ (c, kind_in d m) ∷ []) (scan d m false cs) = rw h refl in e)
-    ∙ after_these-append ((92, kind_in d m) ∷ []) ((c, kind_in d m) ∷ []) (scan d m false cs) ∙ ap (after_these ((92, kind_in d m) ∷ [])) (sym (scan-plain d m c cs h))
+    (let e : scan d m true (c ∷ cs) ≡ result_after ((92, kind_in d m) ∷ (c, kind_in d m) ∷ []) (scan d m false cs) = rw h refl in e)
+    ∙ result_after-append ((92, kind_in d m) ∷ []) ((c, kind_in d m) ∷ []) (scan d m false cs) ∙ ap (result_after ((92, kind_in d m) ∷ [])) (sym (scan-plain d m c cs h))
 
 -- the signs
 pub scan-dollar : (d : ℕ) (cs : List ℕ) → scan d false false (36 ∷ cs) ≡ scan d true false cs
@@ -66,17 +66,17 @@ scan-open zero cs = refl
 scan-open (suc d) cs = refl
 
 -- what the reader's steps need of them
-pub scan-eaten : (d : ℕ) (m : Bool) (text cs : List ℕ) (c : ℕ) → text ≡ c ∷ cs → c ≢ 92 → c ≢ 123 → c ≢ 125 → c ≢ 36 → scan d m false text ≡ after_these ((c, kind_in d m) ∷ []) (scan d m false cs)
+pub scan-eaten : (d : ℕ) (m : Bool) (text cs : List ℕ) (c : ℕ) → text ≡ c ∷ cs → c ≢ 92 → c ≢ 123 → c ≢ 125 → c ≢ 36 → scan d m false text ≡ result_after ((c, kind_in d m) ∷ []) (scan d m false cs)
 scan-eaten d m text cs c e h i j k =
     let t : is_control c ≡ false = grind (arith, nat_tests) in
     rw e (scan-plain d m c cs t)
 
-pub scan-left_alone : (d : ℕ) (m : Bool) (c : ℕ) (text : List ℕ) → slice_get text 0 ≡ Some c → is_control c ≡ false → scan d m true text ≡ after_these ((92, kind_in d m) ∷ []) (scan d m false text)
+pub scan-left_alone : (d : ℕ) (m : Bool) (c : ℕ) (text : List ℕ) → slice_get text 0 ≡ Some c → is_control c ≡ false → scan d m true text ≡ result_after ((92, kind_in d m) ∷ []) (scan d m false text)
 scan-left_alone d m c [] e h = cc
 scan-left_alone d m c (x ∷ cs) e h = let same : x ≡ c = cc in scan-alone d m x cs (rw same h)
 
-pub told-opened : (d : ℕ) (m : Bool) (text cs : List ℕ) (c : ℕ) → text ≡ c ∷ cs → c ≡ 123 → scan d m false text ≡ told d m Open cs
-told-opened zero true text cs c e h = rw (e, h) refl
-told-opened zero false text cs c e h = rw (e, h) refl
-told-opened (suc d) true text cs c e h = rw (e, h) refl
-told-opened (suc d) false text cs c e h = rw (e, h) refl
+pub scan_of_mark-opened : (d : ℕ) (m : Bool) (text cs : List ℕ) (c : ℕ) → text ≡ c ∷ cs → c ≡ 123 → scan d m false text ≡ scan_of_mark d m Open cs
+scan_of_mark-opened zero true text cs c e h = rw (e, h) refl
+scan_of_mark-opened zero false text cs c e h = rw (e, h) refl
+scan_of_mark-opened (suc d) true text cs c e h = rw (e, h) refl
+scan_of_mark-opened (suc d) false text cs c e h = rw (e, h) refl

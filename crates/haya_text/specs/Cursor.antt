@@ -1,5 +1,5 @@
 -- A place in a text, and the characters that follow it.
-use Rattle.std.specs.Prelude.{◌≡◌, ◌≢◌, ℕ, ◌+◌, List, [], ◌∷◌, ◌++◌, length}
+use Rattle.std.specs.Prelude.{◌≡◌, ◌≢◌, ℕ, ◌+◌, Bool, List, [], ◌∷◌, ◌++◌, length, Option, MatchBool, MatchOption}
 use Rattle.std.specs.Char.{encode_utf8, len_utf8}
 use Rattle.std.specs.Str.{chars, encode_utf8_all}
 
@@ -21,6 +21,15 @@ pub record IsPast (c : ℕ) (old new : Left) : Type 0 where
 abbrev pub StartsNotWith : ℕ → List ℕ → Type 0
 StartsNotWith c [] = Unit {0}
 StartsNotWith c (d ∷ ds) = d ≢ c
+
+-- the next character is taken; at the end there is none, and nothing moves
+abbrev pub Eats : Option ℕ → Left → Left → Type 0
+Eats next old new = MatchOption next ((old.rest ≡ []) × (new ≡ old)) (λ c. IsPast c old new)
+
+-- the next character is taken if it is the wanted one; else nothing moves
+abbrev pub EatsIf : ℕ → Bool → Left → Left → Type 0
+EatsIf wanted taken old new =
+    MatchBool taken (IsPast wanted old new) (StartsNotWith wanted old.rest × (new ≡ old))
 
 -- the text is a character that meets P, and then behind
 pub record IsBehind (P : ℕ → Type 0) (text behind : List ℕ) : Type 0 where

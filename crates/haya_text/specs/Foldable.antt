@@ -32,13 +32,21 @@ FoldsKind k result = MatchResult result (λ folded. unfolded_kind folded ≡ k) 
 
 -- the same chunk; one of math alone is handed back
 abbrev pub FoldsChunk : StringChunk → Result FoldableStringChunk StringChunk → Type 0
-FoldsChunk c result = MatchResult result (λ folded. foldable_view folded ≡ chunk_view c) (λ back. (chunk_view back ≡ chunk_view c) × (c.kind ≡ kind.Math))
+FoldsChunk c result =
+    MatchResult result (λ folded. foldable_view folded ≡ chunk_view c)
+    (λ back. (chunk_view back ≡ chunk_view c) × (c.kind ≡ kind.Math))
 
 -- whether a chunk is math
 abbrev pub has_math : List Chunk → Bool
 has_math cs = list_any (λ c. sameb the_type c.1 kind.Math) cs
 
--- the text is handed back: for its math, or else for want of memory
+-- whether a text was refused for its math, and the text that is handed back
+abbrev pub fold_error_view : FoldError → Bool × List Chunk
+fold_error_view (error.Math back) = (true, chunks back)
+fold_error_view (error.OutOfMemory back) = (false, chunks back)
+
+-- the text is handed back: for its math, or else since an allocation failed
 abbrev pub RefusesFold : ChunkedString → FoldError → Type 0
 RefusesFold text (error.Math back) = (chunks back ≡ chunks text) × (has_math (chunks text) ≡ true)
-RefusesFold text (error.OutOfMemory back) = (chunks back ≡ chunks text) × (has_math (chunks text) ≡ false)
+RefusesFold text (error.OutOfMemory back) =
+    (chunks back ≡ chunks text) × (has_math (chunks text) ≡ false)

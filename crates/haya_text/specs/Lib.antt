@@ -1,9 +1,11 @@
 pub mod Chunks
 pub mod Cursor
+pub mod Equality
 pub mod Foldable
 pub mod Grammar
 pub mod Marks
 pub mod Normal
-pub mod Printed
+pub mod Printing
 pub mod Reading
+pub mod Signs
 pub mod Texts

@@ -3,17 +3,19 @@ use Rattle.std.specs.Prelude.{◌≢◌, ◌++◌, List, [], ◌∷◌, if◌the
 use Rattle.std.specs.Char.{encode_utf8}
 use denote.Enum.Bare.{sameb}
 use Rattle.haya_text.specs.contracts.strings.kind.ChunkKind.{the_type}
-use Rattle.haya_text.specs.Chunks.{Chunk, Marked, characters}
+use Rattle.haya_text.specs.Chunks.{Chunk, Character, characters}
 
 -- a character before chunks: in the first where it is of that kind, else as a chunk of its own
-abbrev pub led : Marked → List Chunk → List Chunk
-led x [] = (encode_utf8 x.0, x.1) ∷ []
-led x (c ∷ cs) = if sameb the_type x.1 c.1 then (encode_utf8 x.0 ++ c.0, x.1) ∷ cs else (encode_utf8 x.0, x.1) ∷ c ∷ cs
+abbrev pub with_first : Character → List Chunk → List Chunk
+with_first x [] = (encode_utf8 x.0, x.1) ∷ []
+with_first x (c ∷ cs) =
+    if sameb the_type x.1 c.1 then (encode_utf8 x.0 ++ c.0, x.1) ∷ cs
+    else (encode_utf8 x.0, x.1) ∷ c ∷ cs
 
 -- the longest runs of one kind, each as a chunk
-abbrev pub runs : List Marked → List Chunk
+abbrev pub runs : List Character → List Chunk
 runs [] = []
-runs (x ∷ xs) = led x (runs xs)
+runs (x ∷ xs) = with_first x (runs xs)
 
 -- the same characters with the same kinds, in longest runs
 abbrev pub norm : List Chunk → List Chunk

@@ -1,8 +1,8 @@
 //! A place in a text, from which its reader takes character after character.
-ghost use Rattle.std.specs.Prelude.{◌≡◌, ◌≤◌, ◌++◌, [], ◌∷◌, All, IfNone, IfSome, MatchBool, MatchOption, length, slice_get, false, true};
+ghost use Rattle.std.specs.Prelude.{◌≡◌, ◌≤◌, ◌++◌, [], ◌∷◌, All, IfNone, IfSome, MatchOption, length, slice_get, false, true};
 ghost use Rattle.std.specs.Char.{encode_utf8};
 ghost use Rattle.std.specs.Str.{chars, encode_utf8_all, skip_leading_whitespace};
-ghost use Rattle.haya_text.specs.Cursor.{IsBehind, IsPast, StartsNotWith, text_len};
+ghost use Rattle.haya_text.specs.Cursor.{Eats, EatsIf, IsBehind, text_len};
 
 use std::marker::Model;
 
@@ -69,7 +69,7 @@ impl<'a> Cursor<'a> {
 
     /// Takes the next character. `None` at the end, and then nothing moves.
     pub fn eat(&mut self) -> Option<char>
-        ensures taken { MatchOption result ((self.old.rest ≡ []) × (self.new ≡ self.old)) (λ c. IsPast c self.old self.new) }
+        ensures taken { Eats result self.old self.new }
         ensures same_text { text_len self.new ≡ text_len self.old }
     {
         let (next, behind) = split_char(self.rest)?;
@@ -80,7 +80,7 @@ impl<'a> Cursor<'a> {
 
     /// Takes the next character if it is this one.
     pub fn eat_if(&mut self, wanted: char) -> bool
-        ensures taken { MatchBool result (IsPast wanted self.old self.new) (StartsNotWith wanted self.old.rest × (self.new ≡ self.old)) }
+        ensures taken { EatsIf wanted result self.old self.new }
         ensures same_text { text_len self.new ≡ text_len self.old }
     {
         if self.peek() == Some(wanted) {
@@ -152,7 +152,9 @@ fn split_while<P: Fn(char) -> bool>(text: &str, accepts: P) -> (&str, &str)
 // The text behind its first character, if that is accepted.
 fn behind_accepted<'t, P: Fn(char) -> bool>(text: &'t str, accepts: &P) -> Option<&'t str>
     requires { P.IsAlwaysCallable accepts.now }
-    ensures { MatchOption result (IfSome (slice_get (chars text.now) 0) (λ c. P.post accepts.now c false)) (λ behind. IsBehind (λ c. P.post accepts.now c true) text.now behind.now) }
+    ensures { MatchOption result
+        (IfSome (slice_get (chars text.now) 0) (λ c. P.post accepts.now c false))
+        (λ behind. IsBehind (λ c. P.post accepts.now c true) text.now behind.now) }
 {
     let (next, behind) = split_char(text)?;
     if accepts(next) { Some(behind) } else { None }

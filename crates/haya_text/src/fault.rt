@@ -1,3 +1,4 @@
+//! Why a reader answers no value, and the error of a failed allocation.
 ghost use Rattle.std.specs.Prelude.{◌≡◌, Bool, true};
 
 use std::alloc::{AllocError, AllocFailed};
@@ -5,15 +6,15 @@ use thiserror::Error;
 
 /// Why a reader answers no value.
 pub trait ReadFault: Drop {
-    // Whether the fault is want of memory, and so says nothing of the text.
+    // Whether the fault is out of memory, and so says nothing of the text.
     ghost out_of_memory: { Self → Bool };
 
-    /// Whether memory was refused: then the fault says nothing of the text.
+    /// Whether an allocation failed: then the fault says nothing of the text.
     fn is_out_of_memory(&self) -> bool
         ensures { result ≡ out_of_memory self.now };
 }
 
-/// A growth was refused: there was no memory for it.
+/// An allocation failed: there was no memory for it.
 #[derive(Clone, Copy, Debug, PartialEq, Eq, Error)]
 #[error("out of memory")]
 pub struct OutOfMemory;

@@ -1,4 +1,5 @@
-//! Texts of a literature library: what the readers of values share, and copies that may want memory.
+//! Texts of a literature library: what the readers of values share, and copies that may run out of
+//! memory.
 #![tactic(auto)]
 
 pub mod cursor;

@@ -1,3 +1,4 @@
+//! Values that are read from a text.
 ghost use Rattle.std.specs.Prelude.{◌≡◌, ℕ, List, false, Option, Some, None, IfOk, IfErr};
 
 use crate::ReadFault;
@@ -16,8 +17,10 @@ pub trait ReadText: Sized {
     // What the bytes of a text read as, if they read as a value.
     ghost reads: { List ℕ → Option Value };
 
-    /// The value that the whole text reads as. A fault other than want of memory says that it reads as none.
+    /// The value that the whole text reads as. A fault other than out of memory says that it reads
+    /// as none.
     fn from_str(alloc: Global, text: &str) -> Result<Self, Self::Fault>
         ensures ok { IfOk result (λ v. reads text.now ≡ Some (value v)) }
-        ensures fault { IfErr result (λ e. Self.Fault.out_of_memory e ≡ false → reads text.now ≡ None) };
+        ensures fault { IfErr result
+            (λ e. Self.Fault.out_of_memory e ≡ false → reads text.now ≡ None) };
 }

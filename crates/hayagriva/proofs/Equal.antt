@@ -15,9 +15,9 @@ use Rattle.haya_entry.specs.contracts.entry.EntryPartialEq.TheImpl as entry
 use Rattle.haya_entry.specs.Tree.{Tree, view}
 use Rattle.haya_entry.proofs.Equal.{entries-tell}
 use Rattle.haya_text.proofs.Tells.{options-tell}
-use Rattle.hayagriva.specs.Library.{found, AreEqual}
+use Rattle.hayagriva.specs.Library.{get as library_get, AreEqual}
 use Rattle.hayagriva.specs.Stored.{entries_of, Fits}
-use Rattle.hayagriva.proofs.Maps.{found-lookup}
+use Rattle.hayagriva.proofs.Maps.{get-lookup}
 
 module _ {B : Type 0} where
   -- what a look-up by bytes finds is stored under a text of these bytes
@@ -39,22 +39,22 @@ module _ {S : Type 0} (m n : IndexMap (String Global) Entry S) (fits_m : Fits m.
   other = entries_of n.entries
 
   agrees : index_map_eq string_eq entry.ghosts.eq m n ≡ true → AreEqual one other
-  agrees e key = by (found key one) (found key other) refl refl
+  agrees e key = by (library_get key one) (library_get key other) refl refl
     where
-      at : (k : String Global) → key ≡ string_bytes k → found key one ≡ found key other
+      at : (k : String Global) → key ≡ string_bytes k → library_get key one ≡ library_get key other
       at k same =
-          rw same (sym (found-lookup (string_bytes k) m.entries fits_m)
+          rw same (sym (get-lookup (string_bytes k) m.entries fits_m)
           ∙ (options-tell entry.ghosts.eq view entries-tell (get string_eq m k) (get string_eq n k)).0 (get_from_hash_map_eq string_eq entry.ghosts.eq string_eq_equiv m n e k)
-          ∙ found-lookup (string_bytes k) n.entries fits_n)
+          ∙ get-lookup (string_bytes k) n.entries fits_n)
 
-      by : (o p : Option Tree) → found key one ≡ o → found key other ≡ p → found key one ≡ found key other
-      by (Some s) p f g = let k = stored_text key m.entries s (found-lookup key m.entries fits_m ∙ f) in at k.0 k.1
-      by None (Some t) f g = let k = stored_text key n.entries t (found-lookup key n.entries fits_n ∙ g) in at k.0 k.1
+      by : (o p : Option Tree) → library_get key one ≡ o → library_get key other ≡ p → library_get key one ≡ library_get key other
+      by (Some s) p f g = let k = stored_text key m.entries s (get-lookup key m.entries fits_m ∙ f) in at k.0 k.1
+      by None (Some t) f g = let k = stored_text key n.entries t (get-lookup key n.entries fits_n ∙ g) in at k.0 k.1
       by None None f g = f ∙ sym g
 
   pub maps-Decides : Decides (index_map_eq string_eq entry.ghosts.eq m n) (AreEqual one other)
   maps-Decides = (
     agrees,
     λ h. hash_map_eq_from_get string_eq entry.ghosts.eq m n (λ k. (options-tell entry.ghosts.eq view entries-tell (get string_eq m k) (get string_eq n k)).1
-        (found-lookup (string_bytes k) m.entries fits_m ∙ h (string_bytes k) ∙ sym (found-lookup (string_bytes k) n.entries fits_n))),
+        (get-lookup (string_bytes k) m.entries fits_m ∙ h (string_bytes k) ∙ sym (get-lookup (string_bytes k) n.entries fits_n))),
   )

@@ -12,22 +12,22 @@ use Rattle.haya_entry.specs.declared.entry.Entry.{Entry}
 use Rattle.haya_entry.specs.Tree.{Tree, view}
 use Rattle.hayagriva.specs.Calls.{free_calls}
 use Rattle.hayagriva.specs.Holds.{least_free}
-use Rattle.hayagriva.specs.Places.{places, at_place, up_to}
+use Rattle.hayagriva.specs.Places.{places, at_place, items_up_to}
 
-pub up_to-cons : {X : Type 0} (p : X → Bool) (x : X) (xs : List X) → up_to p (x ∷ xs) ≡ x ∷ cond (p x) [] (up_to p xs)
-up_to-cons p x xs =
+pub items_up_to-cons : {X : Type 0} (p : X → Bool) (x : X) (xs : List X) → items_up_to p (x ∷ xs) ≡ x ∷ cond (p x) [] (items_up_to p xs)
+items_up_to-cons p x xs =
     let next : 1 + position_or_len p xs + 1 ≡ suc (position_or_len p xs + 1) = omega arith in
     elim (p x) as (λ b. take (cond (not b) (1 + position_or_len p xs) 0 + 1) (x ∷ xs) ≡ x ∷ cond b [] (take (position_or_len p xs + 1) xs)) [
       | true ↦ refl
       | false ↦ ap (λ n. take n (x ∷ xs)) next
     ]
 
-pub sum_by-up_to : {X : Type 0} (f : X → ℕ) (p : X → Bool) (x : X) (xs : List X) → sum_by f (up_to p (x ∷ xs)) ≡ f x + cond (p x) 0 (sum_by f (up_to p xs))
-sum_by-up_to f p x xs =
-    ap (sum_by f) (up_to-cons p x xs)
-    ∙ (elim (p x) as (λ b. sum_by f (x ∷ cond b [] (up_to p xs)) ≡ f x + cond b 0 (sum_by f (up_to p xs))) [
+pub sum_by-items_up_to : {X : Type 0} (f : X → ℕ) (p : X → Bool) (x : X) (xs : List X) → sum_by f (items_up_to p (x ∷ xs)) ≡ f x + cond (p x) 0 (sum_by f (items_up_to p xs))
+sum_by-items_up_to f p x xs =
+    ap (sum_by f) (items_up_to-cons p x xs)
+    ∙ (elim (p x) as (λ b. sum_by f (x ∷ cond b [] (items_up_to p xs)) ≡ f x + cond b 0 (sum_by f (items_up_to p xs))) [
       | true ↦ sum_by-cons f x []
-      | false ↦ sum_by-cons f x (up_to p xs)
+      | false ↦ sum_by-cons f x (items_up_to p xs)
     ])
 
 drop-places : {X : Type 0} (xs : List X) (i : ℕ) → i < length xs → drop i (places xs) ≡ i ∷ drop (i + 1) (places xs)
@@ -53,7 +53,7 @@ module _ {X : Type 0} (xs : List X) (taken : List ℕ) (i : ℕ) where
       ap (filter (λ j. not (list_any (λ t. t == j) taken))) (drop_of_length-le (places xs) (omega arith))
 
 -- what stands at a place, and behind it
-at_drop : {X : Type 0} (ys : List X) (k : ℕ) (x : X) (xs : List X) → drop k ys ≡ x ∷ xs → (slice_get ys k ≡ Some x) × (drop (k + 1) ys ≡ xs)
+pub at_drop : {X : Type 0} (ys : List X) (k : ℕ) (x : X) (xs : List X) → drop k ys ≡ x ∷ xs → (slice_get ys k ≡ Some x) × (drop (k + 1) ys ≡ xs)
 at_drop [] zero x xs e = absurd (cc)
 at_drop [] (suc k) x xs e = absurd (cc)
 at_drop (y ∷ ys) zero x xs e = (cc, cc)
@@ -64,7 +64,7 @@ one_later m n =
     let e : nat_lt (1 + m) (suc n) ≡ nat_lt m n = grind (arith, nat_tests) in
     rw e (elim (nat_lt m n) as (λ b. cond b (Some (1 + m)) None ≡ option_map (λ j. 1 + j) (cond b (Some m) None)) [ true ↦ refl | false ↦ refl ])
 
-position-cons : {X : Type 0} (p : X → Bool) (x : X) (xs : List X) → position p (x ∷ xs) ≡ cond (p x) (Some 0) (option_map (λ j. 1 + j) (position p xs))
+pub position-cons : {X : Type 0} (p : X → Bool) (x : X) (xs : List X) → position p (x ∷ xs) ≡ cond (p x) (Some 0) (option_map (λ j. 1 + j) (position p xs))
 position-cons p x xs =
     let at = λ (b : Bool). cond (not b) (1 + position_or_len p xs) 0 in
     elim (p x) as (λ b. cond (nat_lt (at b) (suc (length xs))) (Some (at b)) None ≡ cond b (Some 0) (option_map (λ j. 1 + j) (position p xs))) [
@@ -90,13 +90,13 @@ module _ {X : Type 0} (test : X → Bool) (f : X → ℕ) (ys : List X) where
       let h = at_drop ys k x xs e in
       rw (sum_by-cons, sum_by-cons, h.0, sum_from (k + 1) xs h.1) refl
 
-  first_sum_from : (k : ℕ) (xs : List X) → drop k ys ≡ xs → sum_by (at_place 0 f ys) (up_to (at_place false test ys) (range_with_len k (length xs))) ≡ sum_by f (up_to test xs)
+  first_sum_from : (k : ℕ) (xs : List X) → drop k ys ≡ xs → sum_by (at_place 0 f ys) (items_up_to (at_place false test ys) (range_with_len k (length xs))) ≡ sum_by f (items_up_to test xs)
   first_sum_from k [] e = refl
   first_sum_from k (x ∷ xs) e =
       let h = at_drop ys k x xs e in
-      rw (sum_by-up_to, sum_by-up_to, h.0, first_sum_from (k + 1) xs h.1) refl
+      rw (sum_by-items_up_to, sum_by-items_up_to, h.0, first_sum_from (k + 1) xs h.1) refl
 
-filter_of_all : (is : List ℕ) → filter (λ i. true) is ≡ is
+pub filter_of_all : (is : List ℕ) → filter (λ i. true) is ≡ is
 filter_of_all [] = refl
 filter_of_all (i ∷ is) = ap (λ js. i ∷ js) (filter_of_all is)
 
@@ -112,8 +112,8 @@ module _ (test : Tree → Bool) (xs : List Tree) where
   pub least_of_all : least_free test xs [] ≡ position test xs
   least_of_all = ap (find (at_place false test xs)) (filter_of_all (places xs)) ∙ found_from test (λ _. 0) xs 0 xs refl ∙ from_zero (position test xs)
 
-  pub calls_of_all : (f : Tree → ℕ) → free_calls test f xs [] ≡ sum_by f (up_to test xs)
-  calls_of_all f = ap (λ is. sum_by (at_place 0 f xs) (up_to (at_place false test xs) is)) (filter_of_all (places xs)) ∙ first_sum_from test f xs 0 xs refl
+  pub calls_of_all : (f : Tree → ℕ) → free_calls test f xs [] ≡ sum_by f (items_up_to test xs)
+  calls_of_all f = ap (λ is. sum_by (at_place 0 f xs) (items_up_to (at_place false test xs) is)) (filter_of_all (places xs)) ∙ first_sum_from test f xs 0 xs refl
 
 -- what a walk over the entries has left to find, and to sum up, from place i on
 module _ (test : Tree → Bool) (f : Tree → ℕ) (ps : List Entry) (taken : List ℕ) where
@@ -121,7 +121,7 @@ module _ (test : Tree → Bool) (f : Tree → ℕ) (ps : List Entry) (taken : Li
   to_find i = find (at_place false test (map view ps)) (left (map view ps) taken i)
 
   abbrev pub to_sum : ℕ → ℕ
-  to_sum i = sum_by (at_place 0 f (map view ps)) (up_to (at_place false test (map view ps)) (left (map view ps) taken i))
+  to_sum i = sum_by (at_place 0 f (map view ps)) (items_up_to (at_place false test (map view ps)) (left (map view ps) taken i))
 
   module _ (i : ℕ) where
     pub walked : length ps ≤ i → (to_find i ≡ None) × (to_sum i ≡ 0)
@@ -139,7 +139,7 @@ module _ (test : Tree → Bool) (f : Tree → ℕ) (ps : List Entry) (taken : Li
         met =
             let xs = map view ps in
             let rest = left xs taken (i + 1) in
-            let g = sum_by-up_to (at_place 0 f xs) (at_place false test xs) i rest in
+            let g = sum_by-items_up_to (at_place 0 f xs) (at_place false test xs) i rest in
             rw (left_free xs taken i (omega (arith, length-map ps view)) e, g, place_is) (refl, refl)
 
         pub met_any : f (view x) ≤ to_sum i

@@ -4,8 +4,8 @@ use Rattle.std.specs.Prelude.{option_and_then, option_map}
 use Rattle.std.specs.Option.{option_map_or}
 use Rattle.std.proofs.lemmas.List.{map-append, length-take, take-append-le}
 use Rattle.haya_entry.specs.Tree.{Tree, at_list}
-use Rattle.hayagriva.specs.Binds.{Pairs, led, binds, each_binds}
-use Rattle.hayagriva.specs.Evaluation.{resolved}
+use Rattle.hayagriva.specs.Binds.{Pairs, pairs_at, binds, each_binds}
+use Rattle.hayagriva.specs.Evaluation.{pair_entries}
 use Rattle.hayagriva.specs.Calls.{calls, free_calls, greedy_calls}
 use Rattle.hayagriva.specs.Holds.{holds, greedy, least_free}
 use Rattle.hayagriva.specs.Syntax.{Syntax, Syntaxes, none, more}
@@ -13,21 +13,21 @@ use Rattle.hayagriva.specs.Syntax.{Syntax, Syntaxes, none, more}
 -- the pairs of the members that find a place, up to the first that finds none
 abbrev pub greedy_binds : Syntaxes → List Tree → List ℕ → Pairs
 greedy_binds none xs taken = []
-greedy_binds (more s ss) xs taken = option_map_or (λ i. led (binds s) xs i ++ greedy_binds ss xs (taken ++ i ∷ [])) (least_free (holds s) xs taken) []
+greedy_binds (more s ss) xs taken = option_map_or (λ i. pairs_at (binds s) xs i ++ greedy_binds ss xs (taken ++ i ∷ [])) (least_free (holds s) xs taken) []
 
 -- where each finds one, they are the pairs of each member at its place
 pub each-greedy : (ss : Syntaxes) (xs : List Tree) (taken : List ℕ) (is : List ℕ) → greedy ss xs taken ≡ Some is → each_binds ss xs is ≡ greedy_binds ss xs taken
 each-greedy none xs taken is e = refl
 each-greedy (more s ss) xs taken is e =
     (elim (least_free (holds s) xs taken) as (λ o. option_and_then (λ i. option_map (λ is. i ∷ is) (greedy ss xs (taken ++ i ∷ []))) o ≡ Some is
-    → each_binds (more s ss) xs is ≡ option_map_or (λ i. led (binds s) xs i ++ greedy_binds ss xs (taken ++ i ∷ [])) o []) [
+    → each_binds (more s ss) xs is ≡ option_map_or (λ i. pairs_at (binds s) xs i ++ greedy_binds ss xs (taken ++ i ∷ [])) o []) [
       | None ↦ λ h. absurd (cc)
       | Some i ↦ (elim (greedy ss xs (taken ++ i ∷ [])) as (λ o. greedy ss xs (taken ++ i ∷ []) ≡ o → option_map (λ is. i ∷ is) o ≡ Some is
-          → each_binds (more s ss) xs is ≡ led (binds s) xs i ++ greedy_binds ss xs (taken ++ i ∷ [])) [
+          → each_binds (more s ss) xs is ≡ pairs_at (binds s) xs i ++ greedy_binds ss xs (taken ++ i ∷ [])) [
             | None ↦ λ g h. absurd (cc)
             | Some js ↦ λ g h.
                 let e : i ∷ js ≡ is = cc in
-                rw (← e) (ap (λ pairs. led (binds s) xs i ++ pairs) (each-greedy ss xs (taken ++ i ∷ []) js g))
+                rw (← e) (ap (λ pairs. pairs_at (binds s) xs i ++ pairs) (each-greedy ss xs (taken ++ i ∷ []) js g))
           ]) refl
     ]) e
 
@@ -47,13 +47,13 @@ module _ (s : Syntax) (ss : Syntaxes) (xs : List Tree) (taken : List ℕ) where
     pub calls_some : greedy_calls (more s ss) xs taken ≡ free_calls (holds s) (calls s) xs taken + greedy_calls ss xs (taken ++ i ∷ [])
     calls_some = rw e refl
 
-    pub binds_some : greedy_binds (more s ss) xs taken ≡ led (binds s) xs i ++ greedy_binds ss xs (taken ++ i ∷ [])
+    pub binds_some : greedy_binds (more s ss) xs taken ≡ pairs_at (binds s) xs i ++ greedy_binds ss xs (taken ++ i ∷ [])
     binds_some = rw e refl
 
-    pub bound_next : (mids news whole : List (List ℕ × Option Tree)) → mids ++ resolved (at_list xs) (greedy_binds (more s ss) xs taken) ≡ whole
-        → news ≡ mids ++ resolved (at_list xs) (led (binds s) xs i) → news ++ resolved (at_list xs) (greedy_binds ss xs (taken ++ i ∷ [])) ≡ whole
+    pub bound_next : (mids news whole : List (List ℕ × Option Tree)) → mids ++ pair_entries (at_list xs) (greedy_binds (more s ss) xs taken) ≡ whole
+        → news ≡ mids ++ pair_entries (at_list xs) (pairs_at (binds s) xs i) → news ++ pair_entries (at_list xs) (greedy_binds ss xs (taken ++ i ∷ [])) ≡ whole
     bound_next mids news whole h k =
-        let both = ap (resolved (at_list xs)) binds_some ∙ map-append _ (led (binds s) xs i) (greedy_binds ss xs (taken ++ i ∷ [])) in
+        let both = ap (pair_entries (at_list xs)) binds_some ∙ map-append _ (pairs_at (binds s) xs i) (greedy_binds ss xs (taken ++ i ∷ [])) in
         rw (k, append_assoc, ← both) h
 
   -- one that finds none

@@ -3,23 +3,16 @@ use Rattle.std.proofs.Common.{Bor, ◌≡◌, ℕ, Bool, true, false, cond, List
 use Rattle.std.specs.Prelude.{find, is_some, option_and_then, option_map, reverse}
 use Rattle.std.specs.Str.{bytes_eq}
 use Rattle.std.proofs.lemmas.List.{reverse-append}
-use mathlib.Core.List.{reverse_aux}
+use Rattle.indexmap.proofs.ReorderLemmas.{map-reverse}
 use Rattle.haya_entry.specs.declared.entry.Entry.{Entry}
 use Rattle.haya_entry.specs.Tree.{Tree, view, at}
 use Rattle.hayagriva.specs.Binds.{binds, bound_to, is_bound, last_of}
-use Rattle.hayagriva.specs.Evaluation.{Found, resolved, shown}
+use Rattle.hayagriva.specs.Evaluation.{EntryPairs, pair_entries, pairs_view}
 use Rattle.hayagriva.specs.Syntax.{Syntax}
-
-reverse_aux-map : {X Y : Type 0} (h : X → Y) (xs ys : List X) → reverse_aux (map h xs) (map h ys) ≡ map h (reverse_aux xs ys)
-reverse_aux-map h [] ys = refl
-reverse_aux-map h (x ∷ xs) ys = reverse_aux-map h xs (x ∷ ys)
-
-reverse-map : {X Y : Type 0} (h : X → Y) (xs : List X) → reverse (map h xs) ≡ map h (reverse xs)
-reverse-map h xs = reverse_aux-map h xs []
+use Rattle.hayagriva.proofs.Maps.{ap-cond}
 
 pub option_map-cond : {X Y : Type 0} (h : X → Y) (b : Bool) (x : X) (o : Option X) → option_map h (cond b (Some x) o) ≡ cond b (Some (h x)) (option_map h o)
-option_map-cond h true x o = refl
-option_map-cond h false x o = refl
+option_map-cond h b x o = ap-cond (option_map h) b (Some x) o
 
 pub option_map-map : {X Y Z : Type 0} (g : Y → Z) (h : X → Y) (o : Option X) → option_map g (option_map h o) ≡ option_map (λ x. g (h x)) o
 option_map-map g h None = refl
@@ -32,7 +25,7 @@ find-map p h (x ∷ xs) = rw (find-map p h xs, option_map-cond) refl
 -- of pairs that are made of the items of a list
 pub last_of-map : {X A : Type 0} (q : List ℕ) (name : X → List ℕ) (value : X → A) (xs : List X)
     → last_of q (map (λ x. (name x, value x)) xs) ≡ option_map value (find (λ x. bytes_eq (name x) q) (reverse xs))
-last_of-map {X} {A} q name value xs = rw (reverse-map, find-map, option_map-map) refl
+last_of-map {X} {A} q name value xs = rw (← map-reverse, find-map, option_map-map) refl
 
 -- of pairs whose second parts are changed
 pub last_of-second : {A B : Type 0} (q : List ℕ) (f : A → B) (pairs : List (List ℕ × A))
@@ -43,7 +36,7 @@ pub last_of-push : {A : Type 0} (q : List ℕ) (pairs : List (List ℕ × A)) (n
     → last_of q (pairs ++ (n, v) ∷ []) ≡ cond (bytes_eq n q) (Some v) (last_of q pairs)
 last_of-push q pairs n v = rw (reverse-append, option_map-cond) refl
 
-is_some-map : {X Y : Type 0} (h : X → Y) (o : Option X) → is_some (option_map h o) ≡ is_some o
+pub is_some-map : {X Y : Type 0} (h : X → Y) (o : Option X) → is_some (option_map h o) ≡ is_some o
 is_some-map h None = refl
 is_some-map h (Some x) = refl
 
@@ -55,7 +48,7 @@ joined-map : {X Y : Type 0} (h : X → Option Y) (o : Option X) → option_and_t
 joined-map h None = refl
 joined-map h (Some x) = refl
 
-module _ (s : Syntax) (x : Tree) (found : Found) (q : List ℕ) (o : Option (Bor Entry)) (h : shown found ≡ resolved (at x) (binds s x))
+module _ (s : Syntax) (x : Tree) (found : EntryPairs) (q : List ℕ) (o : Option (Bor Entry)) (h : pairs_view found ≡ pair_entries (at x) (binds s x))
     (e : option_map (λ e. e.now) o ≡ last_of q found) where
   both : option_map (λ e. Some (view e)) (last_of q found) ≡ option_map (at x) (last_of q (binds s x))
   both = sym (last_of-second q (λ e. Some (view e)) found) ∙ ap (last_of q) h ∙ last_of-second q (at x) (binds s x)

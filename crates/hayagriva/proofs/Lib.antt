@@ -7,7 +7,12 @@ pub mod OneCut
 pub mod Parsing
 mod Bounds
 mod FreePlaces
+pub mod InWords
+pub mod Literals
 mod Greedy
+mod ParentSides
+mod Assignments
+mod LawRows
 mod Lasts
 mod Paths
 mod Rows
@@ -19,3 +24,4 @@ pub mod Again
 mod SelectorsEqual
 mod ReadingRows
 mod LibraryRows
+pub use Rattle.haya_entry.proofs.Trees

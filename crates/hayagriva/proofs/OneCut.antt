@@ -6,7 +6,7 @@ use Rattle.std.proofs.lemmas.Bool.Decides.{nat_tests}
 use Rattle.haya_text.proofs.Tells.{and-both, both-and}
 use Rattle.hayagriva.specs.declared.selectors.token.Sign.{Sign}
 use Rattle.hayagriva.specs.declared.selectors.token.Sign.TheVariants.{LeftBracket}
-use Rattle.hayagriva.specs.Token.{Token, Mark, Word, Invalid, starts_word, in_word, is_word, sign_char, spelling, IsToken, EndsBefore, AreTokens, no_token, next_token}
+use Rattle.hayagriva.specs.Token.{Token, SignToken, Word, Invalid, starts_word, in_word, is_word, sign_char, spelling, IsToken, EndsBefore, AreTokens, no_token, next_token}
 use Rattle.hayagriva.specs.Cut.{cut, all_signs, sign_of, sign_or_invalid}
 use Rattle.hayagriva.specs.ReadingLaws.{OneCut}
 use Rattle.hayagriva.proofs.Cuts.{at_true, at_false, tested, cut_nothing, cut_space, cut_start, cut_sign, cut_on, cut_end, cut_word, StopsWord, in_word-no_start}
@@ -78,7 +78,7 @@ stops w [] k = tt
 stops w (d ∷ rest) k = k
 
 first_cut : (t : Token) (rest : List ℕ) → IsToken t → EndsBefore t rest → cut None (spelling t ++ rest) ≡ t ∷ cut None rest
-first_cut (Mark s) rest h k = cut_sign (sign_char s) rest (sign-no_space s) (sign-no_word s) ∙ ap (λ o. sign_or_invalid (sign_char s) o ∷ cut None rest) (sign_of-sign_char s)
+first_cut (SignToken s) rest h k = cut_sign (sign_char s) rest (sign-no_space s) (sign-no_word s) ∙ ap (λ o. sign_or_invalid (sign_char s) o ∷ cut None rest) (sign_of-sign_char s)
 first_cut (Word []) rest h k = cc
 first_cut (Word (c ∷ v)) rest h k =
     let both = and-both (starts_word c) (list_all in_word v) h in cut_start c (v ++ rest) both.0 ∙ cut_word (c ∷ []) v rest both.1 (stops (c ∷ v) rest k)

@@ -1,30 +1,48 @@
 -- What there is one of: outcomes of a form, and of a text.
-use Rattle.std.proofs.Common.{◌≡◌, List, ℕ, refl, ap, ◌∙◌}
-use Rattle.hayagriva.specs.Grammar.{Expr}
-use Rattle.hayagriva.specs.ReadingLaws.{Outcome, Read, Failed, Has, OneOutcome, TextOutcome, Selects, Refuses, TextHas, OneReading}
+use Rattle.std.proofs.Common.{◌≡◌, List, ℕ, refl, sym, ap, subst, ◌∙◌}
+use Rattle.std.specs.Prelude.{None, Result, Ok, Err}
+use Rattle.hayagriva.specs.Cut.{cut}
+use Rattle.hayagriva.specs.Descent.{Outcome, Read, Failed, read, read_names, enough, selector_or_fault, selector_read}
+use Rattle.hayagriva.specs.Fault.{Fault}
+use Rattle.hayagriva.specs.Grammar.{ExprForm}
+use Rattle.hayagriva.specs.ReadingLaws.{Has, HasNames, OneListOutcome, OneOutcome, TextHas, OneReading, IsComputed}
+use Rattle.hayagriva.specs.Syntax.{Syntax}
 use Rattle.hayagriva.specs.Token.{Token, AreTokens}
-use Rattle.hayagriva.proofs.OneCut.{one_cut}
-use Rattle.hayagriva.proofs.Runs.{same_outcome}
-use Rattle.hayagriva.proofs.Totals.{some_outcome}
+use Rattle.hayagriva.proofs.OneCut.{cut_is, only_cut}
+use Rattle.hayagriva.proofs.Runs.{names_fail, names_run, same_outcome}
+use Rattle.hayagriva.proofs.Totals.{has_names_read, has_read}
 
 pub one_outcome : OneOutcome
-one_outcome form ts = let o = some_outcome form ts in (o.0, o.1, λ b h. same_outcome form ts b o.0 h o.1)
+one_outcome form ts = let o = read (enough form ts) form ts in (o, has_read form ts, λ b h. same_outcome form ts b o h (has_read form ts))
 
-abbrev of_text : Outcome → TextOutcome
-of_text (Read s rest) = Selects s
-of_text (Failed f) = Refuses f
+only_names : (ts : List Token) (o : Outcome (List (List ℕ))) → HasNames ts o → o ≡ read_names ts
+only_names ts (Read names rest) h = sym (names_run h)
+only_names ts (Failed f) h = sym (names_fail h)
 
-text_has : (text : List ℕ) (ts : List Token) → AreTokens ts text → (o : Outcome) → Has Expr ts o → TextHas text (of_text o)
+pub one_list_outcome : OneListOutcome
+one_list_outcome ts = (read_names ts, has_names_read ts, only_names ts)
+
+text_has : (text : List ℕ) (ts : List Token) → AreTokens ts text → (o : Outcome Syntax) → Has ExprForm ts o → TextHas text (selector_or_fault o)
 text_has text ts a (Read s rest) h = record { tokens = ts; rest = rest; cut = a; reads = h }
 text_has text ts a (Failed f) h = record { tokens = ts; cut = a; fails = h }
 
--- what a text has is what the one cut has
-outcome_of : (text : List ℕ) (ts : List Token) → ((us : List Token) → AreTokens us text → us ≡ ts) → (b : TextOutcome) → TextHas text b → (o : Outcome) × Has Expr ts o × (b ≡ of_text o)
-outcome_of text ts only (Selects s) h = (Read s h.rest, rw (only h.tokens h.cut) at h.reads, refl)
-outcome_of text ts only (Refuses f) h = (Failed f, rw (only h.tokens h.cut) at h.fails, refl)
+-- what a text has is what its one cut has
+outcome_of : (text : List ℕ) (b : Result Syntax Fault) → TextHas text b → (o : Outcome Syntax) × Has ExprForm (cut None text) o × (b ≡ selector_or_fault o)
+outcome_of text (Ok s) h = (Read s h.rest, rw (only_cut h.cut) at h.reads, refl)
+outcome_of text (Err f) h = (Failed f, rw (only_cut h.cut) at h.fails, refl)
+
+reading_has : (text : List ℕ) → TextHas text (selector_read text)
+unfolding selector_read
+reading_has text = let ts = cut None text in text_has text ts (cut_is text) (read (enough ExprForm ts) ExprForm ts) (has_read ExprForm ts)
+
+only_reading : (text : List ℕ) (b : Result Syntax Fault) → TextHas text b → b ≡ selector_read text
+unfolding selector_read
+only_reading text b h =
+    let ts = cut None text in
+    let p = outcome_of text b h in p.2 ∙ ap selector_or_fault (same_outcome ExprForm ts p.0 (read (enough ExprForm ts) ExprForm ts) p.1 (has_read ExprForm ts))
 
 pub one_reading : OneReading
-one_reading text =
-    let c = one_cut text in
-    let o = one_outcome Expr c.0 in
-    (of_text o.0, text_has text c.0 c.1 o.0 o.1, λ b h. let p = outcome_of text c.0 c.2 b h in p.2 ∙ ap of_text (o.2 p.0 p.1))
+one_reading text = (selector_read text, reading_has text, only_reading text)
+
+pub is_computed : IsComputed
+is_computed text r = (λ e. subst (TextHas text) e (reading_has text), λ h. sym (only_reading text r h))

@@ -5,7 +5,7 @@ use Rattle.std.specs.Str.{bytes_eq}
 use Rattle.std.specs.Cmp.Lexicographic.{nat_list_eq_equiv}
 use Rattle.std.proofs.lemmas.Map.Keys.{IsDistinct-head, IsDistinct-tail}
 use Rattle.haya_entry.specs.Tree.{Tree}
-use Rattle.hayagriva.specs.Library.{key_of, has_key, pushed, AreDistinct}
+use Rattle.hayagriva.specs.Library.{key_of, has_key, push, AreDistinct}
 use Rattle.hayagriva.proofs.Maps.{distinct_keys}
 
 lacks_there : (k : List ℕ) (ts us : List Tree) (t : Tree) → AllByRecursion (λ y. bytes_eq k y ≡ false) (map key_of (ts ++ t ∷ us)) → bytes_eq k (key_of t) ≡ false
@@ -19,5 +19,5 @@ new_key (x ∷ ts) us t d =
     (new_key ts us t (IsDistinct-tail bytes_eq (key_of x) (map key_of (ts ++ t ∷ us)) d))
 
 -- goes last
-pub pushed-new : (ts us : List Tree) (t : Tree) → AreDistinct (ts ++ t ∷ us) → pushed t ts ++ us ≡ ts ++ t ∷ us
-pushed-new ts us t d = rw (new_key ts us t (distinct_keys (ts ++ t ∷ us) d)) (append_assoc ts (t ∷ []) us)
+pub push-new : (ts us : List Tree) (t : Tree) → AreDistinct (ts ++ t ∷ us) → push t ts ++ us ≡ ts ++ t ∷ us
+push-new ts us t d = rw (new_key ts us t (distinct_keys (ts ++ t ∷ us) d)) (append_assoc ts (t ∷ []) us)

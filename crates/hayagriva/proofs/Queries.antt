@@ -1,16 +1,12 @@
 -- Hits so far, and what the entries that are left add to them.
-use Rattle.std.proofs.Common.{◌≡◌, ◌+◌, ◌*◌, ◌≤◌, List, [], ◌∷◌, ◌++◌, ℕ, true, false, ap, sym, ◌∙◌, arith, append_assoc, append-nil}
+use Rattle.std.proofs.Common.{◌≡◌, ◌+◌, ◌*◌, ◌≤◌, List, [], ◌∷◌, ◌++◌, ℕ, true, false, ap, ◌∙◌, arith, append_assoc, append-nil}
 use Rattle.std.specs.Prelude.{sum_by}
 use Rattle.std.proofs.lemmas.List.Sums.{sum_by-cons}
 use Rattle.haya_entry.specs.Tree.{Tree}
 use Rattle.hayagriva.specs.declared.query.Hit.{Hit}
 use Rattle.hayagriva.specs.Holds.{holds}
-use Rattle.hayagriva.specs.Fault.{Fault}
 use Rattle.hayagriva.specs.Query.{IsHit, AreHits}
-use Rattle.hayagriva.specs.Reading.{TextReads, TextFails}
-use Rattle.hayagriva.specs.ReadingLaws.{Selects, Refuses}
 use Rattle.hayagriva.specs.Syntax.{Syntax}
-use Rattle.hayagriva.proofs.OneOutcome.{one_reading}
 
 -- whatever hits the entries that are left have, they complete these
 pub record HitsSoFar (s : Syntax) (all left : List Tree) (hits : List Hit) : Type 0 where
@@ -40,13 +36,3 @@ module _ {A : Type 0} (f : A → ℕ) (x : A) (left rest : List A) (e : left ≡
 
   pub bounded : (n : ℕ) → mid + n * sum_by f left ≤ total → new ≤ mid + n * f x → new + n * sum_by f rest ≤ total
   bounded n h t = omega (arith, ap (λ m. n * m) (ap (sum_by f) e ∙ sum_by-cons f x rest))
-
--- a text reads as one selector, or has one fault
-module _ (text : List ℕ) where
-  pub same_selector : (s t : Syntax) → TextReads text s → TextReads text t → s ≡ t
-  same_selector s t h k =
-      let same : Selects s ≡ Selects t = (one_reading text).2 (Selects s) h ∙ sym ((one_reading text).2 (Selects t) k) in cc
-
-  pub never_both : (s : Syntax) (f : Fault) → TextReads text s → TextFails text f → ⊥
-  never_both s f h k =
-      let same : Selects s ≡ Refuses f = (one_reading text).2 (Selects s) h ∙ sym ((one_reading text).2 (Refuses f) k) in cc

@@ -4,16 +4,16 @@ use Rattle.haya_entry.specs.declared.types.EntryType.TheVariants.{Book, Blog, We
 use Rattle.hayagriva.specs.declared.selectors.token.Sign.{Sign}
 use Rattle.hayagriva.specs.declared.selectors.token.Sign.TheVariants.{LeftBracket, RightBracket, LeftParen, RightParen, Star, Comma, Chevron, Colon, Pipe}
 use Rattle.hayagriva.specs.Fault.{MissingValue, MalformedAttribute, MissingComma, UnbalancedParens, UnknownEntryType}
-use Rattle.hayagriva.specs.Grammar.{type_of, ReadsNames, closed, next_name, FailsNames, no_name, no_comma, Or, And, in_runs, Value, Binding, Expr, of_type, plain, term, no_pair, Fails, no_value, unknown, unbalanced, in_plain, in_factor, in_named, in_unnamed, in_binding, in_term, in_terms, in_next}
+use Rattle.hayagriva.specs.Grammar.{type_of, ReadsNames, closed, next_name, FailsNames, no_name, no_comma, Or, And, in_runs, ValueForm, BindingForm, ExprForm, of_type, plain, term, no_pair, Fails, no_value, unknown, unbalanced, in_plain, in_factor, in_named, in_unnamed, in_binding, in_term, in_terms, in_next}
 use Rattle.hayagriva.specs.Reading.{TextReads, TextFails}
-use Rattle.hayagriva.specs.Syntax.{OfType, Under, Either, Together, syntaxes}
-use Rattle.hayagriva.specs.Token.{Mark, Word, Invalid, sign_char, AreTokens, no_token, next_token}
+use Rattle.hayagriva.specs.Syntax.{Entry, Ancestrage, Alt, Multi, syntaxes}
+use Rattle.hayagriva.specs.Token.{SignToken, Word, Invalid, sign_char, AreTokens, no_token, next_token}
 use Rattle.hayagriva.specs.Cut.{cut}
 use Rattle.hayagriva.proofs.OneCut.{only_cut}
 use Rattle.hayagriva.proofs.Again.{from_binding, from_factor}
 
 -- `g5:(Blog | Misc)`
-bound_group : AreTokens (Word (codes "g5") ∷ Mark Colon ∷ Mark LeftParen ∷ Word (codes "Blog") ∷ Mark Pipe ∷ Word (codes "Misc") ∷ Mark RightParen ∷ []) (codes "g5:(Blog | Misc)")
+bound_group : AreTokens (Word (codes "g5") ∷ SignToken Colon ∷ SignToken LeftParen ∷ Word (codes "Blog") ∷ SignToken Pipe ∷ Word (codes "Misc") ∷ SignToken RightParen ∷ []) (codes "g5:(Blog | Misc)")
 bound_group =
     next_token [] refl refl refl (next_token [] refl tt tt (next_token [] refl tt tt (next_token [] refl refl refl (next_token (codes " ") refl tt tt
     (next_token (codes " ") refl refl refl (next_token [] refl tt tt (no_token [] refl)))))))
@@ -45,7 +45,7 @@ unfolding type_of
 no_type = refl
 
 -- `book web` is the selector `book`
-book_web : TextReads (codes "book web") (OfType Book)
+book_web : TextReads (codes "book web") (Entry Book)
 book_web = record {
   tokens = Word (codes "book") ∷ Word (codes "web") ∷ [];
   rest = Word (codes "web") ∷ [];
@@ -54,25 +54,25 @@ book_web = record {
 }
 
 -- `book[date,]` and `book[]` have lists of one and no name
-comma_at_end : ReadsNames (Word (codes "date") ∷ Mark Comma ∷ Mark RightBracket ∷ []) (codes "date" ∷ []) []
+comma_at_end : ReadsNames (Word (codes "date") ∷ SignToken Comma ∷ SignToken RightBracket ∷ []) (codes "date" ∷ []) []
 comma_at_end = next_name closed
 
-no_names : ReadsNames (Mark RightBracket ∷ []) [] []
+no_names : ReadsNames (SignToken RightBracket ∷ []) [] []
 no_names = closed
 
 -- `book[*]` and `book[date url]`
-star_in_list : FailsNames (Mark Star ∷ Mark RightBracket ∷ []) MalformedAttribute
+star_in_list : FailsNames (SignToken Star ∷ SignToken RightBracket ∷ []) MalformedAttribute
 star_in_list = no_name (λ e. cc, λ w e. cc)
 
-two_names : FailsNames (Word (codes "date") ∷ Word (codes "url") ∷ Mark RightBracket ∷ []) MissingComma
+two_names : FailsNames (Word (codes "date") ∷ Word (codes "url") ∷ SignToken RightBracket ∷ []) MissingComma
 two_names = no_comma (λ e. cc) (λ e. cc)
 
 -- runs of `|` and `&`
-book_or_web_and_blog : in_runs (OfType Book) ((Or, OfType Web) ∷ (And, OfType Blog) ∷ []) ≡ Together (syntaxes (Either (syntaxes (OfType Book ∷ OfType Web ∷ [])) ∷ OfType Blog ∷ []))
+book_or_web_and_blog : in_runs (Entry Book) ((Or, Entry Web) ∷ (And, Entry Blog) ∷ []) ≡ Multi (syntaxes (Alt (syntaxes (Entry Book ∷ Entry Web ∷ [])) ∷ Entry Blog ∷ []))
 book_or_web_and_blog = refl
 
 -- `>` from the left
-two_chevrons : fold Under (OfType Book) (OfType Web ∷ OfType Blog ∷ []) ≡ Under (Under (OfType Book) (OfType Web)) (OfType Blog)
+two_chevrons : fold Ancestrage (Entry Book) (Entry Web ∷ Entry Blog ∷ []) ≡ Ancestrage (Ancestrage (Entry Book) (Entry Web)) (Entry Blog)
 two_chevrons = refl
 
 no_text : TextFails [] MissingValue
@@ -87,15 +87,15 @@ unknown_type = record {
 }
 
 -- `book:` is no `book` with a rest
-name_alone : Fails Binding (Word (codes "book") ∷ Mark Colon ∷ []) MissingValue
+name_alone : Fails BindingForm (Word (codes "book") ∷ SignToken Colon ∷ []) MissingValue
 name_alone = in_named (in_factor (in_plain tt (no_value (tt, tt, tt))))
 
 -- `(book`
-not_closed : Fails Value (Mark LeftParen ∷ Word (codes "book") ∷ []) UnbalancedParens
+not_closed : Fails ValueForm (SignToken LeftParen ∷ Word (codes "book") ∷ []) UnbalancedParens
 not_closed = unbalanced (from_binding (from_factor (plain (λ e. cc) (of_type book)) (λ w us e. cc) tt) (tt, tt, tt, tt, tt)) tt
 
 -- `book >`
-no_parent : Fails Expr (Word (codes "book") ∷ Mark Chevron ∷ []) MissingValue
+no_parent : Fails ExprForm (Word (codes "book") ∷ SignToken Chevron ∷ []) MissingValue
 no_parent =
     in_terms (term (from_factor (plain (λ e. cc) (of_type book)) (λ w us e. cc) (λ e. cc)) (no_pair (λ e. cc) (λ e. cc)))
     (in_next (in_binding (in_unnamed (λ w us e. cc) (in_factor (in_plain tt (no_value (tt, tt, tt)))))))

@@ -16,7 +16,7 @@ use Rattle.hayagriva.specs.contracts.selectors.SelectorPartialEq.TheImpl as sele
 use Rattle.hayagriva.specs.contracts.selectors.SelectorPartialEq.TheImpl.Laws as laws
 use Rattle.hayagriva.specs.contracts.selectors.SelectorErrorPartialEq.TheImpl as error
 use Rattle.hayagriva.specs.Fault.{fault, UnknownEntryType}
-use Rattle.hayagriva.specs.Syntax.{Syntax, OfType, Not, Named, With, Either, Together, Under, syntax, syntax_step, syntaxes, nodes, nodes_of_all}
+use Rattle.hayagriva.specs.Syntax.{Syntax, Entry, Neg, Binding, Attr, Alt, Multi, Ancestrage, syntax, syntax_step, syntaxes, nodes, nodes_of_all}
 
 -- one level of `==`
 abbrev level_eq : Selector-F Selector → Selector-F Selector → Bool
@@ -70,15 +70,15 @@ module _ (n : ℕ) (told : (a b : Selector) → nodes (syntax a) < n → Same (s
 
   levels-tell : (x y : Selector-F Selector) → nodes (level x) < suc n → Same (level_eq x y) (level x) (level y)
   levels-tell open'.Wildcard open'.Wildcard h = (λ _. refl, λ _. refl)
-  levels-tell (open'.Entry k) (open'.Entry l) h = Same-one OfType (λ _ _ e. cc) _ _ _ (same_true entry_type.the_type tt k l, true_same entry_type.the_type k l)
-  levels-tell (open'.Neg s) (open'.Neg t) h = Same-one Not (λ _ _ e. cc) _ _ _ (told s.value t.value (omega arith))
-  levels-tell (open'.Binding n s) (open'.Binding m t) h = Same-two Named (λ _ _ _ _ e. (cc, cc)) _ _ _ _ _ _ (strings-tell n m) (told s.value t.value (omega arith))
+  levels-tell (open'.Entry k) (open'.Entry l) h = Same-one Entry (λ _ _ e. cc) _ _ _ (same_true entry_type.the_type tt k l, true_same entry_type.the_type k l)
+  levels-tell (open'.Neg s) (open'.Neg t) h = Same-one Neg (λ _ _ e. cc) _ _ _ (told s.value t.value (omega arith))
+  levels-tell (open'.Binding n s) (open'.Binding m t) h = Same-two Binding (λ _ _ _ _ e. (cc, cc)) _ _ _ _ _ _ (strings-tell n m) (told s.value t.value (omega arith))
   levels-tell (open'.Attr s ns) (open'.Attr t ms) h =
-      Same-two With (λ _ _ _ _ e. (cc, cc)) _ _ _ _ _ _ (told s.value t.value (omega arith)) (lists-tell _ _ strings-tell ns.items ms.items)
-  levels-tell (open'.Alt ss) (open'.Alt ts) h = Same-one Either (λ _ _ e. cc) _ _ _ (lists ss.items ts.items (omega arith))
-  levels-tell (open'.Multi ss) (open'.Multi ts) h = Same-one Together (λ _ _ e. cc) _ _ _ (lists ss.items ts.items (omega arith))
+      Same-two Attr (λ _ _ _ _ e. (cc, cc)) _ _ _ _ _ _ (told s.value t.value (omega arith)) (lists-tell _ _ strings-tell ns.items ms.items)
+  levels-tell (open'.Alt ss) (open'.Alt ts) h = Same-one Alt (λ _ _ e. cc) _ _ _ (lists ss.items ts.items (omega arith))
+  levels-tell (open'.Multi ss) (open'.Multi ts) h = Same-one Multi (λ _ _ e. cc) _ _ _ (lists ss.items ts.items (omega arith))
   levels-tell (open'.Ancestrage s t) (open'.Ancestrage u v) h =
-      Same-two Under (λ _ _ _ _ e. (cc, cc)) _ _ _ _ _ _ (told s.value u.value (omega arith)) (told t.value v.value (omega arith))
+      Same-two Ancestrage (λ _ _ _ _ e. (cc, cc)) _ _ _ _ _ _ (told s.value u.value (omega arith)) (told t.value v.value (omega arith))
   levels-tell _ _ h = (λ e. cc, λ e. cc)
 
 syntax_is : (x : Selector-F Selector) → syntax (roll-Selector x) ≡ level x

@@ -7,33 +7,33 @@ use Rattle.hayagriva.specs.declared.selectors.Selector.TheOpen as open'
 use Rattle.hayagriva.specs.declared.selectors.Selector.TheVariants as variant
 use Rattle.hayagriva.specs.declared.selectors.Selector.TheViews.{roll-Selector}
 use Rattle.hayagriva.specs.declared.selectors.Selector.TheFolds.{map-Selector, fold-roll-Selector}
-use Rattle.hayagriva.specs.Syntax.{Syntax, Any, OfType, Not, Named, With, Either, Together, Under, more, syntaxes, syntax, syntax_step}
+use Rattle.hayagriva.specs.Syntax.{Syntax, Wildcard, Entry, Neg, Binding, Attr, Alt, Multi, Ancestrage, more, syntaxes, syntax, syntax_step}
 
 rolled : (x : open'.Selector-F Selector) → syntax (roll-Selector x) ≡ syntax_step (map-Selector Selector Syntax syntax x)
 rolled = fold-roll-Selector Syntax syntax_step
 
-pub syntax-wildcard : syntax variant.Wildcard ≡ Any
+pub syntax-wildcard : syntax variant.Wildcard ≡ Wildcard
 syntax-wildcard = ap syntax (sym variant.rolls-Wildcard) ∙ rolled open'.Wildcard
 
-pub syntax-entry : (t : EntryType) → syntax (variant.Entry t) ≡ OfType t
+pub syntax-entry : (t : EntryType) → syntax (variant.Entry t) ≡ Entry t
 syntax-entry t = ap syntax (sym (variant.rolls-Entry t)) ∙ rolled (open'.Entry t)
 
-pub syntax-neg : (s : Box Selector Global) → syntax (variant.Neg s) ≡ Not (syntax s.value)
+pub syntax-neg : (s : Box Selector Global) → syntax (variant.Neg s) ≡ Neg (syntax s.value)
 syntax-neg s = ap syntax (sym (variant.rolls-Neg s)) ∙ rolled (open'.Neg s)
 
-pub syntax-binding : (n : String Global) (s : Box Selector Global) → syntax (variant.Binding n s) ≡ Named (string_bytes n) (syntax s.value)
+pub syntax-binding : (n : String Global) (s : Box Selector Global) → syntax (variant.Binding n s) ≡ Binding (string_bytes n) (syntax s.value)
 syntax-binding n s = ap syntax (sym (variant.rolls-Binding n s)) ∙ rolled (open'.Binding n s)
 
-pub syntax-attr : (s : Box Selector Global) (names : Vec (String Global) Global) → syntax (variant.Attr s names) ≡ With (syntax s.value) (map string_bytes names.items)
+pub syntax-attr : (s : Box Selector Global) (names : Vec (String Global) Global) → syntax (variant.Attr s names) ≡ Attr (syntax s.value) (map string_bytes names.items)
 syntax-attr s names = ap syntax (sym (variant.rolls-Attr s names)) ∙ rolled (open'.Attr s names)
 
-pub syntax-alt : (ss : Vec Selector Global) → syntax (variant.Alt ss) ≡ Either (syntaxes (map syntax ss.items))
+pub syntax-alt : (ss : Vec Selector Global) → syntax (variant.Alt ss) ≡ Alt (syntaxes (map syntax ss.items))
 syntax-alt ss = ap syntax (sym (variant.rolls-Alt ss)) ∙ rolled (open'.Alt ss)
 
-pub syntax-multi : (ss : Vec Selector Global) → syntax (variant.Multi ss) ≡ Together (syntaxes (map syntax ss.items))
+pub syntax-multi : (ss : Vec Selector Global) → syntax (variant.Multi ss) ≡ Multi (syntaxes (map syntax ss.items))
 syntax-multi ss = ap syntax (sym (variant.rolls-Multi ss)) ∙ rolled (open'.Multi ss)
 
-pub syntax-ancestrage : (l r : Box Selector Global) → syntax (variant.Ancestrage l r) ≡ Under (syntax l.value) (syntax r.value)
+pub syntax-ancestrage : (l r : Box Selector Global) → syntax (variant.Ancestrage l r) ≡ Ancestrage (syntax l.value) (syntax r.value)
 syntax-ancestrage l r = ap syntax (sym (variant.rolls-Ancestrage l r)) ∙ rolled (open'.Ancestrage l r)
 
 -- one member after another

@@ -3,24 +3,24 @@ use Rattle.std.specs.Prelude.{ℕ, ◌+◌, Bool, ◌++◌, if◌then◌else◌,
 use Rattle.std.specs.Option.{option_map_or}
 use Rattle.haya_entry.specs.Tree.{Tree, parents}
 use Rattle.hayagriva.specs.Holds.{is_type, holds, candidates, least_free}
-use Rattle.hayagriva.specs.Places.{free_places, at_place, up_to}
-use Rattle.hayagriva.specs.Syntax.{Syntax, Any, OfType, Not, Named, With, Either, Together, Under, Syntaxes, none, more}
+use Rattle.hayagriva.specs.Places.{free_places, at_place, items_up_to}
+use Rattle.hayagriva.specs.Syntax.{Syntax, Wildcard, Entry, Neg, Binding, Attr, Alt, Multi, Ancestrage, Syntaxes, none, more}
 
 -- the calls at the places that aren't taken, up to the first where the test holds
 abbrev pub free_calls : (Tree → Bool) → (Tree → ℕ) → List Tree → List ℕ → ℕ
-free_calls test calls_at xs taken = sum_by (at_place 0 calls_at xs) (up_to (at_place false test xs) (free_places xs taken))
+free_calls test calls_at xs taken = sum_by (at_place 0 calls_at xs) (items_up_to (at_place false test xs) (free_places xs taken))
 
 abbrev mutual
   -- the calls for a selector at an entry
   pub calls : Syntax → Tree → ℕ
-  calls Any x = 1
-  calls (OfType t) x = 1
-  calls (Not s) x = 1 + calls s x
-  calls (Named n s) x = 1 + calls s x
-  calls (With s names) x = 1 + calls s x
-  calls (Either ss) x = 1 + first_calls ss x
-  calls (Together ss) x = 1
-  calls (Under l r) x = 1 + calls l x + (if holds l x then calls_on r (parents x) else 0)
+  calls Wildcard x = 1
+  calls (Entry t) x = 1
+  calls (Neg s) x = 1 + calls s x
+  calls (Binding n s) x = 1 + calls s x
+  calls (Attr s names) x = 1 + calls s x
+  calls (Alt ss) x = 1 + first_calls ss x
+  calls (Multi ss) x = 1
+  calls (Ancestrage l r) x = 1 + calls l x + (if holds l x then calls_on r (parents x) else 0)
 
   -- those of the members, up to the first that holds
   pub first_calls : Syntaxes → Tree → ℕ
@@ -29,15 +29,15 @@ abbrev mutual
 
   -- the calls for a selector on a list of parents
   pub calls_on : Syntax → List Tree → ℕ
-  calls_on Any xs = 1
-  calls_on (OfType t) xs = 1 + sum_by (λ _. 1) (up_to (is_type t) xs)
-  calls_on (Not s) xs = 1 + calls_on s xs
-  calls_on (Named n s) xs = 1 + calls_on s xs
-  calls_on (With s names) xs = 1 + calls_on s xs
-  calls_on (Either ss) xs = 1 + first_calls_on ss xs
-  calls_on (Together ss) xs = 1 + greedy_calls ss xs []
-  calls_on (Under l r) xs =
-      1 + sum_by (λ x. 1 + calls l x + (if holds l x then calls_on r (parents x) else 0)) (up_to (holds (Under l r)) xs)
+  calls_on Wildcard xs = 1
+  calls_on (Entry t) xs = 1 + sum_by (λ _. 1) (items_up_to (is_type t) xs)
+  calls_on (Neg s) xs = 1 + calls_on s xs
+  calls_on (Binding n s) xs = 1 + calls_on s xs
+  calls_on (Attr s names) xs = 1 + calls_on s xs
+  calls_on (Alt ss) xs = 1 + first_calls_on ss xs
+  calls_on (Multi ss) xs = 1 + greedy_calls ss xs []
+  calls_on (Ancestrage l r) xs =
+      1 + sum_by (λ x. 1 + calls l x + (if holds l x then calls_on r (parents x) else 0)) (items_up_to (holds (Ancestrage l r)) xs)
 
   pub first_calls_on : Syntaxes → List Tree → ℕ
   first_calls_on none xs = 0

@@ -5,7 +5,7 @@ use Rattle.hayagriva.specs.declared.selectors.token.Sign.{Sign}
 use Rattle.hayagriva.specs.declared.selectors.token.Sign.TheVariants.{LeftBracket, RightBracket, LeftParen, RightParen, Star, Comma, Chevron, Colon, Pipe, Ampersand, ExclamationMark}
 use Rattle.hayagriva.specs.declared.selectors.token.Lexeme.{Lexeme}
 use Rattle.hayagriva.specs.declared.selectors.token.Lexeme.TheVariants as lexeme
-use Rattle.hayagriva.specs.Token.{Token, Mark, Word, Invalid, starts_word, in_word, sign_char}
+use Rattle.hayagriva.specs.Token.{Token, SignToken, Word, Invalid, starts_word, in_word, sign_char}
 
 abbrev pub all_signs : List Sign
 all_signs = LeftBracket ∷ RightBracket ∷ LeftParen ∷ RightParen ∷ Star ∷ Comma ∷ Chevron ∷ Colon ∷ Pipe ∷ Ampersand ∷ ExclamationMark ∷ []
@@ -16,7 +16,7 @@ sign_of c = find (λ s. c == sign_char s) all_signs
 
 abbrev pub sign_or_invalid : ℕ → Option Sign → Token
 sign_or_invalid c None = Invalid c
-sign_or_invalid c (Some s) = Mark s
+sign_or_invalid c (Some s) = SignToken s
 
 -- the tokens of the characters, behind the identifier that was begun, if there is one
 unfoldable pub cut : Option (List ℕ) → List ℕ → List Token
@@ -28,6 +28,6 @@ cut (Some w) (c ∷ cs) =
 
 -- a token without where it lies in memory
 abbrev pub token : Lexeme → Token
-token (lexeme.Sign s) = Mark s
+token (lexeme.Sign s) = SignToken s
 token (lexeme.Word w) = Word w.now
 token (lexeme.Invalid c) = Invalid c

@@ -1,5 +1,5 @@
 -- The laws of `==` of two libraries: it says that they are equal, and so it is symmetric and transitive.
-use Rattle.std.specs.Prelude.{◌≡◌, ℕ, Bool, true, false, List, [], ◌∷◌, ◌++◌, Option, None, Some, map}
+use Rattle.std.specs.Prelude.{◌≡◌, ◌&&◌, ℕ, Bool, true, false, List, [], ◌∷◌, ◌++◌, Option, None, Some, map}
 use Rattle.std.specs.Bool.{Decides, one_answer}
 use Rattle.std.specs.Cmp.{IsPartialEquivalence}
 use Rattle.std.specs.List.{list_all}
@@ -11,10 +11,16 @@ use Rattle.std.proofs.lemmas.List.Folds.{list_all-append}
 use Rattle.std.proofs.lemmas.Slice.Eq.{bytes_eq-Decides}
 use base.Stored.{Gv, gnil, gnum, gcons}
 use Rattle.haya_entry.specs.Tree.{Tree}
-use Rattle.haya_text.proofs.Tells.{and-both, both-and}
-use Rattle.hayagriva.specs.Library.{key_of, found, AreEqual}
+use Rattle.hayagriva.specs.Library.{key_of, get, AreEqual}
 use Rattle.hayagriva.specs.Equality.{agree_at, library_eq}
 use Rattle.hayagriva.specs.TreeCode.{same_code, same_tree, tree_code, tree_inj}
+
+and-both : (a b : Bool) → (a && b) ≡ true → (a ≡ true) × (b ≡ true)
+and-both true b h = (refl, h)
+and-both false b h = absurd (cc)
+
+both-and : (a b : Bool) → a ≡ true → b ≡ true → (a && b) ≡ true
+both-and a b h k = rw (h, k) refl
 
 same_code-Decides : (x y : Gv) → Decides (same_code x y) (x ≡ y)
 same_code-Decides gnil gnil = (λ _. refl, λ _. refl)
@@ -40,14 +46,14 @@ passes test [] h = refl
 passes test (k ∷ ks) h = both-and (test k) (list_all test ks) (h k) (passes test ks h)
 
 -- a test that passes at the key of each entry passes at the key of one that is found
-passes_found : (test : List ℕ → Bool) (key : List ℕ) (ts : List Tree) (t : Tree) → list_all test (map key_of ts) ≡ true → found key ts ≡ Some t → test key ≡ true
+passes_found : (test : List ℕ → Bool) (key : List ℕ) (ts : List Tree) (t : Tree) → list_all test (map key_of ts) ≡ true → get key ts ≡ Some t → test key ≡ true
 passes_found test key [] t h f = cc
 passes_found test key (u ∷ us) t h f = by (passes_found test key us t) (bytes_eq key (key_of u)) refl
   where
     passed : (test (key_of u) ≡ true) × (list_all test (map key_of us) ≡ true)
     passed = and-both (test (key_of u)) (list_all test (map key_of us)) h
 
-    by : (list_all test (map key_of us) ≡ true → found key us ≡ Some t → test key ≡ true) → (b : Bool) → bytes_eq key (key_of u) ≡ b → test key ≡ true
+    by : (list_all test (map key_of us) ≡ true → get key us ≡ Some t → test key ≡ true) → (b : Bool) → bytes_eq key (key_of u) ≡ b → test key ≡ true
     by rest true same = subst (λ k. test k ≡ true) (sym ((bytes_eq-Decides key (key_of u)).0 same)) passed.0
     by rest false other = rest passed.1 (rw other at f)
 
@@ -57,18 +63,18 @@ module _ (a b : List Tree) where
       and-both (list_all (agree_at a b) (map key_of a)) (list_all (agree_at a b) (map key_of b)) (sym (list_all-append (agree_at a b) (map key_of a) (map key_of b)) ∙ h)
 
   agrees : library_eq a b ≡ true → AreEqual a b
-  agrees h key = by (found key a) (found key b) refl refl
+  agrees h key = by (get key a) (get key b) refl refl
     where
-      at : agree_at a b key ≡ true → found key a ≡ found key b
-      at = (options-Decides (found key a) (found key b)).0
+      at : agree_at a b key ≡ true → get key a ≡ get key b
+      at = (options-Decides (get key a) (get key b)).0
 
-      by : (o p : Option Tree) → found key a ≡ o → found key b ≡ p → found key a ≡ found key b
+      by : (o p : Option Tree) → get key a ≡ o → get key b ≡ p → get key a ≡ get key b
       by (Some s) p f g = at (passes_found (agree_at a b) key a s (halves h).0 f)
       by None (Some t) f g = at (passes_found (agree_at a b) key b t (halves h).1 g)
       by None None f g = f ∙ sym g
 
   pub library_eq-Decides : Decides (library_eq a b) (AreEqual a b)
-  library_eq-Decides = (agrees, λ h. passes (agree_at a b) (map key_of a ++ map key_of b) (λ key. (options-Decides (found key a) (found key b)).1 (h key)))
+  library_eq-Decides = (agrees, λ h. passes (agree_at a b) (map key_of a ++ map key_of b) (λ key. (options-Decides (get key a) (get key b)).1 (h key)))
 
 pub library_laws : IsPartialEquivalence library_eq
 library_laws = record {

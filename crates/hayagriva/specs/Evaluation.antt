@@ -1,28 +1,37 @@
 -- What the evaluator's own contracts say: what a call has found, and how often it has ticked.
-use Rattle.std.specs.Prelude.{◌≡◌, ◌≤◌, ℕ, ◌+◌, List, ◌++◌, Option, Some, Result, MatchResult, map}
+use Rattle.std.specs.Prelude.{◌≡◌, ◌≤◌, ℕ, ◌+◌, List, ◌++◌, Option, Some, Result, MatchResult, IfOk, Vec, map, option_map}
+use Rattle.std.specs.declared.alloc.Global.{Global}
 use Rattle.haya_entry.specs.declared.entry.Entry.{Entry}
 use Rattle.haya_entry.specs.Tree.{Tree, view, at, at_list}
 use Rattle.hayagriva.specs.Binds.{Pairs}
 
 -- names with the entries that they were bound to, in order
-abbrev pub Found : Type 0
-Found = List (List ℕ × Entry)
+abbrev pub EntryPairs : Type 0
+EntryPairs = List (List ℕ × Entry)
 
 -- the same with entries by value
-abbrev pub shown : Found → List (List ℕ × Option Tree)
-shown found = map (λ p. (p.0, Some (view p.1))) found
+abbrev pub pairs_view : EntryPairs → List (List ℕ × Option Tree)
+pairs_view found = map (λ p. (p.0, Some (view p.1))) found
 
 -- pairs with the entry at each path
-abbrev pub resolved : (List ℕ → Option Tree) → Pairs → List (List ℕ × Option Tree)
-resolved entry_at pairs = map (λ p. (p.0, entry_at p.1)) pairs
+abbrev pub pair_entries : (List ℕ → Option Tree) → Pairs → List (List ℕ × Option Tree)
+pair_entries entry_at pairs = map (λ p. (p.0, entry_at p.1)) pairs
 
 -- the pairs were added to what was found, with paths from an entry, or from a list of parents
-abbrev pub AddsAt : Tree → Found → Found → Pairs → Type 0
-AddsAt x old new pairs = shown new ≡ shown old ++ resolved (at x) pairs
+abbrev pub AddsAt : Tree → EntryPairs → EntryPairs → Pairs → Type 0
+AddsAt x old new pairs = pairs_view new ≡ pairs_view old ++ pair_entries (at x) pairs
 
-abbrev pub AddsOn : List Tree → Found → Found → Pairs → Type 0
-AddsOn xs old new pairs = shown new ≡ shown old ++ resolved (at_list xs) pairs
+abbrev pub AddsOn : List Tree → EntryPairs → EntryPairs → Pairs → Type 0
+AddsOn xs old new pairs = pairs_view new ≡ pairs_view old ++ pair_entries (at_list xs) pairs
 
--- a call that ends well has ticked n times, one that was refused at most n times
+-- a call that ends well has ticked n times, one that is out of memory at most n times
 abbrev pub Ticks : {T E : Type 0} → Result T E → ℕ → ℕ → ℕ → Type 0
 Ticks result old new n = MatchResult result (λ _. new ≡ old + n) (λ _. new ≤ old + n)
+
+-- a call that ends well answers these places, or none
+abbrev pub GivesPlaces : {E : Type 0} → Result (Option (Vec ℕ Global)) E → Option (List ℕ) → Type 0
+GivesPlaces result places = IfOk result (λ o. option_map (λ v. v.items) o ≡ places)
+
+-- entries by value, in order
+abbrev pub views : List Entry → List Tree
+views es = map view es

@@ -10,7 +10,7 @@ pub data Fault : Type 0 where
   UnbalancedParens : Fault
   UnknownEntryType : List ℕ → Fault
 
--- the fault that an error is; want of memory is none
+-- the fault that an error is; out of memory is none
 abbrev pub fault : SelectorError → Option Fault
 fault error.MissingValue = Some MissingValue
 fault error.MalformedAttribute = Some MalformedAttribute

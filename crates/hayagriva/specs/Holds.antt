@@ -7,7 +7,7 @@ use Rattle.haya_entry.specs.declared.types.EntryType.{EntryType}
 use Rattle.haya_entry.specs.Names.{has_all}
 use Rattle.haya_entry.specs.Tree.{Tree, fields, parents}
 use Rattle.hayagriva.specs.Places.{places, free_places, at_place}
-use Rattle.hayagriva.specs.Syntax.{Syntax, Any, OfType, Not, Named, With, Either, Together, Under, Syntaxes, none, more}
+use Rattle.hayagriva.specs.Syntax.{Syntax, Wildcard, Entry, Neg, Binding, Attr, Alt, Multi, Ancestrage, Syntaxes, none, more}
 
 abbrev pub is_type : EntryType → Tree → Bool
 is_type t x = sameb the_type (fields x).entry_type t
@@ -18,13 +18,13 @@ some_places [] = None
 some_places (i ∷ is) = Some (i ∷ is)
 
 -- the first place where the test holds, as a list of one
-abbrev pub first_alone : (Tree → Bool) → List Tree → Option (List ℕ)
-first_alone test xs = option_map (λ i. i ∷ []) (position test xs)
+abbrev pub first_place : (Tree → Bool) → List Tree → Option (List ℕ)
+first_place test xs = option_map (λ i. i ∷ []) (position test xs)
 
 -- the candidates that have every name; where there are none, nothing is tested
-abbrev pub kept : List (List ℕ) → List Tree → List ℕ → Option (List ℕ)
-kept names xs [] = Some []
-kept names xs (i ∷ is) = some_places (filter (at_place false (has_all names) xs) (i ∷ is))
+abbrev pub kept_places : List (List ℕ) → List Tree → List ℕ → Option (List ℕ)
+kept_places names xs [] = Some []
+kept_places names xs (i ∷ is) = some_places (filter (at_place false (has_all names) xs) (i ∷ is))
 
 -- the least place where the test holds among those that aren't taken
 abbrev pub least_free : (Tree → Bool) → List Tree → List ℕ → Option ℕ
@@ -33,14 +33,14 @@ least_free test xs taken = find (at_place false test xs) (free_places xs taken)
 abbrev mutual
   -- whether the selector holds at an entry
   pub holds : Syntax → Tree → Bool
-  holds Any x = true
-  holds (OfType t) x = is_type t x
-  holds (Not s) x = not (holds s x)
-  holds (Named n s) x = holds s x
-  holds (With s names) x = holds s x && has_all names x
-  holds (Either ss) x = some_holds ss x
-  holds (Together ss) x = false
-  holds (Under l r) x = holds l x && is_some (candidates r (parents x))
+  holds Wildcard x = true
+  holds (Entry t) x = is_type t x
+  holds (Neg s) x = not (holds s x)
+  holds (Binding n s) x = holds s x
+  holds (Attr s names) x = holds s x && has_all names x
+  holds (Alt ss) x = some_holds ss x
+  holds (Multi ss) x = false
+  holds (Ancestrage l r) x = holds l x && is_some (candidates r (parents x))
 
   pub some_holds : Syntaxes → Tree → Bool
   some_holds none x = false
@@ -48,14 +48,14 @@ abbrev mutual
 
   -- the places on a list of parents that the selector stands for, or none where it doesn't hold there
   pub candidates : Syntax → List Tree → Option (List ℕ)
-  candidates Any xs = some_places (places xs)
-  candidates (OfType t) xs = first_alone (is_type t) xs
-  candidates (Not s) xs = if is_some (candidates s xs) then None else Some []
-  candidates (Named n s) xs = option_map (λ _. []) (candidates s xs)
-  candidates (With s names) xs = option_and_then (kept names xs) (candidates s xs)
-  candidates (Either ss) xs = first_candidates ss xs
-  candidates (Together ss) xs = greedy ss xs []
-  candidates (Under l r) xs = first_alone (λ x. holds l x && is_some (candidates r (parents x))) xs
+  candidates Wildcard xs = some_places (places xs)
+  candidates (Entry t) xs = first_place (is_type t) xs
+  candidates (Neg s) xs = if is_some (candidates s xs) then None else Some []
+  candidates (Binding n s) xs = option_map (λ _. []) (candidates s xs)
+  candidates (Attr s names) xs = option_and_then (kept_places names xs) (candidates s xs)
+  candidates (Alt ss) xs = first_candidates ss xs
+  candidates (Multi ss) xs = greedy ss xs []
+  candidates (Ancestrage l r) xs = first_place (λ x. holds l x && is_some (candidates r (parents x))) xs
 
   -- those of the first member that holds
   pub first_candidates : Syntaxes → List Tree → Option (List ℕ)

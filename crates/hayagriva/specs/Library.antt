@@ -1,8 +1,14 @@
 -- A library by value: a list of entries, no two of which have the same key.
-use Rattle.std.specs.Prelude.{◌≡◌, ◌≢◌, ℕ, Bool, not, List, [], ◌∷◌, ◌++◌, Option, map, filter, find, fold, if◌then◌else◌}
+use Rattle.std.specs.Prelude.{◌≡◌, ◌≢◌, ℕ, Bool, not, List, [], ◌∷◌, ◌++◌, Option, option_map, map, filter, find, fold, if◌then◌else◌}
+use Rattle.std.specs.Borrow.{Bor}
 use Rattle.std.specs.List.{list_any, AllPairs}
 use Rattle.std.specs.Str.{bytes_eq}
-use Rattle.haya_entry.specs.Tree.{Tree, fields}
+use Rattle.haya_entry.specs.declared.entry.Entry.{Entry}
+use Rattle.haya_entry.specs.Tree.{Tree, fields, view}
+
+-- a borrowed entry by value, if there is one
+abbrev pub entry_value : Option (Bor Entry) → Option Tree
+entry_value o = option_map (λ e. view e.now) o
 
 abbrev pub key_of : Tree → List ℕ
 key_of t = (fields t).key
@@ -14,25 +20,25 @@ abbrev pub AreDistinct : List Tree → Type 0
 AreDistinct ts = AllPairs (λ k l. k ≢ l) (map key_of ts)
 
 -- the entry with the key
-abbrev pub found : List ℕ → List Tree → Option Tree
-found key ts = find (has_key key) ts
+abbrev pub get : List ℕ → List Tree → Option Tree
+get key ts = find (has_key key) ts
 
 -- the list with t in the place of the entry that has its key
-abbrev pub replaced : Tree → List Tree → List Tree
-replaced t ts = map (λ u. if has_key (key_of t) u then t else u) ts
+abbrev pub with_replacement : Tree → List Tree → List Tree
+with_replacement t ts = map (λ u. if has_key (key_of t) u then t else u) ts
 
 -- the list with t in the place of the entry that has its key, or last
-abbrev pub pushed : Tree → List Tree → List Tree
-pushed t ts = if list_any (has_key (key_of t)) ts then replaced t ts else ts ++ t ∷ []
+abbrev pub push : Tree → List Tree → List Tree
+push t ts = if list_any (has_key (key_of t)) ts then with_replacement t ts else ts ++ t ∷ []
 
 -- the list after each of these is pushed in turn to an empty one
-abbrev pub all_pushed : List Tree → List Tree
-all_pushed ts = fold (λ done t. pushed t done) [] ts
+abbrev pub from_entries : List Tree → List Tree
+from_entries ts = fold (λ done t. push t done) [] ts
 
 -- the list without the entry that has the key
-abbrev pub removed : List ℕ → List Tree → List Tree
-removed key ts = filter (λ t. not (has_key key t)) ts
+abbrev pub remove : List ℕ → List Tree → List Tree
+remove key ts = filter (λ t. not (has_key key t)) ts
 
 -- the same keys with the same entries, in whatever order
 abbrev pub AreEqual : List Tree → List Tree → Type 0
-AreEqual a b = (key : List ℕ) → found key a ≡ found key b
+AreEqual a b = (key : List ℕ) → get key a ≡ get key b

@@ -5,9 +5,9 @@ use Rattle.hayagriva.specs.declared.selectors.Selector.{Selector}
 use Rattle.hayagriva.specs.declared.selectors.SelectorError.{SelectorError}
 use Rattle.hayagriva.specs.declared.selectors.token.Sign.{Sign}
 use Rattle.hayagriva.specs.Fault.{Fault, fault}
-use Rattle.hayagriva.specs.Grammar.{Form, Binding, Reads, Fails, ReadsNames, FailsNames}
+use Rattle.hayagriva.specs.Grammar.{Form, BindingForm, Reads, Fails, ReadsNames, FailsNames}
 use Rattle.hayagriva.specs.Syntax.{Syntax, syntax}
-use Rattle.hayagriva.specs.Token.{Token, Mark, BeginsNot}
+use Rattle.hayagriva.specs.Token.{Token, SignToken, BeginsNot}
 
 -- for a form, between two lists of tokens
 abbrev pub Gives : Form → List Token → List Token → Result Selector SelectorError → Type 0
@@ -21,12 +21,12 @@ GivesNames before after (Err e) = IfSome (fault e) (FailsNames before)
 
 -- bindings with one sign between, as many as there are
 pub data ReadsRun (sign : Sign) : List Token → List Syntax → List Token → Type 0 where
-  run_end : {ts rest : List Token} {s : Syntax} → Reads Binding ts s rest → BeginsNot sign rest → ReadsRun sign ts (s ∷ []) rest
-  run_on : {ts mid rest : List Token} {s : Syntax} {members : List Syntax} → Reads Binding ts s (Mark sign ∷ mid) → ReadsRun sign mid members rest → ReadsRun sign ts (s ∷ members) rest
+  run_end : {ts rest : List Token} {s : Syntax} → Reads BindingForm ts s rest → BeginsNot sign rest → ReadsRun sign ts (s ∷ []) rest
+  run_on : {ts mid rest : List Token} {s : Syntax} {members : List Syntax} → Reads BindingForm ts s (SignToken sign ∷ mid) → ReadsRun sign mid members rest → ReadsRun sign ts (s ∷ members) rest
 
 pub data FailsRun (sign : Sign) : List Token → Fault → Type 0 where
-  in_member : {ts : List Token} {f : Fault} → Fails Binding ts f → FailsRun sign ts f
-  past_member : {ts mid : List Token} {s : Syntax} {f : Fault} → Reads Binding ts s (Mark sign ∷ mid) → FailsRun sign mid f → FailsRun sign ts f
+  in_member : {ts : List Token} {f : Fault} → Fails BindingForm ts f → FailsRun sign ts f
+  past_member : {ts mid : List Token} {s : Syntax} {f : Fault} → Reads BindingForm ts s (SignToken sign ∷ mid) → FailsRun sign mid f → FailsRun sign ts f
 
 -- for such a run, with the member before its first sign in front
 abbrev pub GivesRun : Sign → Syntax → List Token → List Token → Result (Vec Selector Global) SelectorError → Type 0

@@ -16,5 +16,5 @@ abbrev pub at_place : {X A : Type 0} → A → (X → A) → List X → ℕ → 
 at_place other f xs i = option_map_or f (slice_get xs i) other
 
 -- the items up to the first that passes, with that one
-abbrev pub up_to : {X : Type 0} → (X → Bool) → List X → List X
-up_to passes xs = take (position_or_len passes xs + 1) xs
+abbrev pub items_up_to : {X : Type 0} → (X → Bool) → List X → List X
+items_up_to passes xs = take (position_or_len passes xs + 1) xs

@@ -5,8 +5,8 @@ use Rattle.haya_entry.specs.Tree.{Tree, view}
 use Rattle.hayagriva.specs.Library.{key_of, AreDistinct}
 
 -- entries beside their keys
-abbrev pub keyed : List Tree → List (List ℕ × Tree)
-keyed ts = map (λ t. (key_of t, t)) ts
+abbrev pub keyed_entries : List Tree → List (List ℕ × Tree)
+keyed_entries ts = map (λ t. (key_of t, t)) ts
 
 module _ {B : Type 0} where
   -- what a map holds, by value
@@ -21,5 +21,5 @@ module _ {B : Type 0} where
 
   -- what is true of the map of a library
   pub record Fits (es : List (String B × Entry)) : Type 0 where
-    pub own_keys : pairs_of es ≡ keyed (entries_of es)
+    pub own_keys : pairs_of es ≡ keyed_entries (entries_of es)
     pub distinct : AreDistinct (entries_of es)

@@ -7,7 +7,7 @@ use Rattle.hayagriva.specs.declared.selectors.token.Sign.TheVariants.{LeftBracke
 
 -- a sign, an identifier, or any other character
 pub data Token : Type 0 where
-  Mark : Sign → Token
+  SignToken : Sign → Token
   Word : List ℕ → Token
   Invalid : ℕ → Token
 
@@ -27,17 +27,21 @@ sign_char ExclamationMark = 33
 
 -- the characters of a token
 abbrev pub spelling : Token → List ℕ
-spelling (Mark s) = sign_char s ∷ []
+spelling (SignToken s) = sign_char s ∷ []
 spelling (Word w) = w
 spelling (Invalid c) = c ∷ []
 
+-- the character `-`
+abbrev pub hyphen : ℕ
+hyphen = 45
+
 -- an ASCII letter or `-`
 abbrev pub starts_word : ℕ → Bool
-starts_word c = is_ascii_alphabetic c || c == 45
+starts_word c = is_ascii_alphabetic c || c == hyphen
 
 -- an ASCII letter, an ASCII digit or `-`
 abbrev pub in_word : ℕ → Bool
-in_word c = is_ascii_alphanumeric c || c == 45
+in_word c = is_ascii_alphanumeric c || c == hyphen
 
 -- whether the characters are an identifier
 abbrev pub is_word : List ℕ → Bool
@@ -46,7 +50,7 @@ is_word (c ∷ cs) = starts_word c && list_all in_word cs
 
 -- an invalid character is no white space and begins no other token
 abbrev pub IsToken : Token → Type 0
-IsToken (Mark s) = Unit {0}
+IsToken (SignToken s) = Unit {0}
 IsToken (Word w) = is_word w ≡ true
 IsToken (Invalid c) = (is_whitespace c ≡ false) × (starts_word c ≡ false) × ((s : Sign) → c ≢ sign_char s)
 
@@ -64,7 +68,7 @@ pub data AreTokens : List Token → List ℕ → Type 0 where
 -- this sign doesn't stand first
 abbrev pub BeginsNot : Sign → List Token → Type 0
 BeginsNot s [] = Unit {0}
-BeginsNot s (t ∷ ts) = t ≢ Mark s
+BeginsNot s (t ∷ ts) = t ≢ SignToken s
 
 -- no identifier stands first
 abbrev pub BeginsNoWord : List Token → Type 0
@@ -73,4 +77,4 @@ BeginsNoWord (t ∷ ts) = (w : List ℕ) → t ≢ Word w
 
 -- no identifier with a `:` behind it stands first
 abbrev pub BeginsNoName : List Token → Type 0
-BeginsNoName ts = (w : List ℕ) (us : List Token) → ts ≢ Word w ∷ Mark Colon ∷ us
+BeginsNoName ts = (w : List ℕ) (us : List Token) → ts ≢ Word w ∷ SignToken Colon ∷ us

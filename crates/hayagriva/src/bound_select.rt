@@ -1,6 +1,8 @@
-ghost use Rattle.std.specs.Prelude.{◌≡◌, IfOk, option_map};
+//! What the names of a selector stand for, asked of an entry.
+ghost use Rattle.std.specs.Prelude.{◌≡◌, IfOk};
 ghost use Rattle.haya_entry.specs.Tree.{Tree, view};
-ghost use Rattle.hayagriva.specs.Binds.{found_bound};
+ghost use Rattle.hayagriva.specs.Binds.{bound_select};
+ghost use Rattle.hayagriva.specs.Library.{entry_value};
 ghost use Rattle.hayagriva.specs.Syntax.{syntax};
 
 use crate::Selector;
@@ -14,14 +16,15 @@ pub trait BoundSelect {
     ghost asked: { Self → Tree };
 
     /// The entry that the selector bound the name to last here. `None` where the selector doesn't
-    /// hold here, or doesn't bind the name. Refused with `OutOfMemory` alone.
+    /// hold here, or doesn't bind the name. The only error is `OutOfMemory`.
     fn bound_select(
         &self,
         alloc: Global,
         selector: &Selector,
         name: &str,
     ) -> Result<Option<&Entry>, OutOfMemory>
-        ensures { IfOk result (λ o. option_map (λ e. view e.now) o ≡ found_bound (syntax selector.now) (asked self.now) name.now) };
+        ensures { IfOk result (λ o.
+            entry_value o ≡ bound_select (syntax selector.now) (asked self.now) name.now) };
 }
 
 impl BoundSelect for Entry {

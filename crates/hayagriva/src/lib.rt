@@ -19,9 +19,16 @@ pub use selectors::{Selector, SelectorError};
 /// The values that entries are made of.
 pub mod types {
     pub use haya_entry::{EntryType, SerialNumber, UnknownType};
+    pub use haya_numbers::{
+        GrammarGender, NumIterator, NumberForm, Numeric, NumericDelimiter, NumericError,
+        NumericValue, Ordinals, PageNumberError, PagePieces, PageRanges, PageRangesPart,
+        PageRangesPartErr, split_pages,
+    };
+    pub use haya_people::{Person, PersonError, PersonRole, PersonsWithRoles, is_sorted_table};
     pub use haya_text::{
         ChunkKind, ChunkedReadError, ChunkedStrParseError, ChunkedString, FoldError,
         FoldableChunkedString, FoldableKind, FoldableStringChunk, FormatString, LongShortForm,
-        StringChunk,
+        StringChunk, TryClone,
     };
+    pub use haya_time::{Date, DateError, Duration, DurationError, DurationRange, Season};
 }

@@ -1,8 +1,9 @@
+//! Libraries: entries in order, each under its key.
 ghost use Rattle.std.specs.Prelude.{◌≡◌, ◌↔◌, [], List, length, map, option_map, slice_get, IsTrue, OnOk, OnErr, IfOk};
 ghost use Rattle.std.specs.Iterator.{Drains, IsFinite};
 ghost use Rattle.haya_entry.specs.declared.entry.Entry.{Entry as EntryData};
 ghost use Rattle.haya_entry.specs.Tree.{view};
-ghost use Rattle.hayagriva.specs.Library.{key_of, found, pushed, all_pushed, removed, AreDistinct};
+ghost use Rattle.hayagriva.specs.Library.{entry_value, key_of, get, push, from_entries, remove, AreDistinct};
 
 mod iter;
 #[cfg(test)]
@@ -16,7 +17,7 @@ use std::alloc::Global;
 use std::marker::Model;
 
 /// Entries in order, no two of which have the same key.
-#[derive(Drop)]
+#[derive(Debug, Drop)]
 pub struct Library {
     stored: IndexMap<String, Entry>,
 }
@@ -48,15 +49,15 @@ impl Library {
     }
 
     /// A library of these entries, pushed in turn: of two with the same key, the later takes the
-    /// place of the earlier. The only error is refused memory.
+    /// place of the earlier. The only error is out of memory.
     pub fn from_entries<I: Iterator<Item = Entry> + Drop>(
         alloc: Global,
         entries: I,
     ) -> Result<Library, OutOfMemory>
         requires can_next { I.can_next entries }
         requires ends { IsFinite (I.remaining entries) }
-        ensures { IfOk result (λ library.
-            (given : List EntryData) × Drains I.next_gives entries given × (library ≡ all_pushed (map view given))) }
+        ensures { IfOk result (λ library. (given : List EntryData) ×
+            Drains I.next_gives entries given × (library ≡ from_entries (map view given))) }
     {
         let mut library = Library::new(alloc);
         for entry in entries {
@@ -81,14 +82,14 @@ impl Library {
 
     /// The entry with the key, if there is one.
     pub fn get(&self, key: &str) -> Option<&Entry>
-        ensures { option_map (λ e. view e.now) result ≡ found key.now self.now }
+        ensures { entry_value result ≡ get key.now self.now }
     {
         self.stored.get(key)
     }
 
     /// The entry at a place, if there is one. The first place is 0.
     pub fn nth(&self, place: usize) -> Option<&Entry>
-        ensures { option_map (λ e. view e.now) result ≡ slice_get self.now place }
+        ensures { entry_value result ≡ slice_get self.now place }
     {
         let (_, entry) = self.stored.get_index(place)?;
         Some(entry)
@@ -110,22 +111,30 @@ impl Library {
     }
 
     /// Puts a copy of the entry in the place of the one with its key, or last if there is none.
-    /// Where memory is refused, the library is unchanged.
+    /// When out of memory, the library is unchanged.
     pub fn push(&mut self, entry: &Entry) -> Result<(), OutOfMemory>
-        ensures ok { OnOk result (self.new ≡ pushed (view entry.now) self.old) }
+        ensures ok { OnOk result (self.new ≡ push (view entry.now) self.old) }
         ensures err { OnErr result (self.new ≡ self.old) }
     {
         let alloc = *self.stored.allocator();
-        let copy = entry.try_clone(alloc)?;
-        let key = String::from_str(alloc, copy.key())?;
-        self.stored.insert(key, copy)?;
+        self.insert(entry.try_clone(alloc)?)
+    }
+
+    /// Puts the entry itself in the place of the one with its key, or last if there is none.
+    pub fn insert(&mut self, entry: Entry) -> Result<(), OutOfMemory>
+        ensures ok { OnOk result (self.new ≡ push (view entry) self.old) }
+        ensures err { OnErr result (self.new ≡ self.old) }
+    {
+        let alloc = *self.stored.allocator();
+        let key = String::from_str(alloc, entry.key())?;
+        self.stored.insert(key, entry)?;
         Ok(())
     }
 
     /// Takes the entry with the key out, if there is one, and closes up the others.
     pub fn remove(&mut self, key: &str) -> Option<Entry>
-        ensures entry { option_map view result ≡ found key.now self.old }
-        ensures rest { self.new ≡ removed key.now self.old }
+        ensures entry { option_map view result ≡ get key.now self.old }
+        ensures rest { self.new ≡ remove key.now self.old }
     {
         self.stored.shift_remove(key)
     }

@@ -1,12 +1,12 @@
 //! The entries that the selector of a text picks from a library.
-ghost use Rattle.std.specs.Prelude.{◌≡◌, ◌+◌, ◌*◌, ◌≤◌, IfOk, OnOk, sum_by};
+ghost use Rattle.std.specs.Prelude.{◌≡◌, ◌+◌, ◌*◌, ◌≤◌, ℕ, List, IfErr, IfOk, OnOk, sum_by};
 ghost use Rattle.std.specs.Str.{chars};
 ghost use Rattle.haya_entry.specs.Tree.{size};
+ghost use Rattle.hayagriva.specs.declared.selectors.SelectorError.TheVariants.{OutOfMemory as OutOfMemoryError};
 ghost use Rattle.hayagriva.specs.Calls.{calls};
-ghost use Rattle.hayagriva.specs.Fault.{Fault};
-ghost use Rattle.hayagriva.specs.Query.{AreHits, QueryGives};
-ghost use Rattle.hayagriva.specs.Reading.{TextReads, TextFails};
-ghost use Rattle.hayagriva.specs.Syntax.{Syntax, syntax, nodes};
+ghost use Rattle.hayagriva.specs.Query.{AreHits, HitsAre, NameIs, QueryGives};
+ghost use Rattle.hayagriva.specs.Reading.{IfFails, IfReads};
+ghost use Rattle.hayagriva.specs.Syntax.{syntax, nodes};
 
 use crate::{Library, Selector, SelectorError};
 use haya_entry::{Entry, Steps};
@@ -26,8 +26,8 @@ pub struct Hit<'s> {
 impl Library {
     /// The entries that the selector of the text picks, in the library's order, each with its bindings.
     ///
-    /// Refuses with the grammar's first fault where the text is no selector, and with `OutOfMemory` where
-    /// memory is refused. `steps` ticks once for each call of the evaluator: at most as often as the selector
+    /// The error is the grammar's first fault where the text is no selector, and `OutOfMemory` else.
+    /// `steps` ticks once for each call of the evaluator: at most as often as the selector
     /// has forms times the library has entries, with all their ancestors.
     pub fn query<'s>(
         &'s self,
@@ -36,9 +36,14 @@ impl Library {
         steps: &mut Steps,
     ) -> Result<Vec<Hit<'s>>, SelectorError>
         ensures answer { QueryGives (chars text.now) self.now result }
-        ensures ticks { (s : Syntax) → TextReads (chars text.now) s → OnOk result (steps.new ≡ steps.old + sum_by (calls s) self.now) }
-        ensures most { (s : Syntax) → TextReads (chars text.now) s → steps.new ≤ steps.old + nodes s * sum_by size self.now }
-        ensures refused { (f : Fault) → TextFails (chars text.now) f → steps.new ≡ steps.old }
+        ensures entries { HitsAre (chars text.now) self.now result }
+        ensures bound { (name : List ℕ) → NameIs (chars text.now) name result }
+        ensures error { IfErr result (λ e. IfReads (chars text.now) (λ _. e ≡ OutOfMemoryError)) }
+        ensures ticks { OnOk result (IfReads (chars text.now)
+            (λ s. steps.new ≡ steps.old + sum_by (calls s) self.now)) }
+        ensures most { IfReads (chars text.now)
+            (λ s. steps.new ≤ steps.old + nodes s * sum_by size self.now) }
+        ensures refused { IfFails (chars text.now) (λ _. steps.new ≡ steps.old) }
     {
         let selector = Selector::parse(alloc, text)?;
         let hits = self.hits(alloc, &selector, steps)?;
@@ -53,7 +58,8 @@ impl Library {
         steps: &mut Steps,
     ) -> Result<Vec<Hit<'s>>, OutOfMemory>
         ensures hits { IfOk result (λ hits. AreHits (syntax selector.now) self.now hits.items) }
-        ensures ticks { OnOk result (steps.new ≡ steps.old + sum_by (calls (syntax selector.now)) self.now) }
+        ensures ticks { OnOk result
+            (steps.new ≡ steps.old + sum_by (calls (syntax selector.now)) self.now) }
         ensures most { steps.new ≤ steps.old + nodes (syntax selector.now) * sum_by size self.now }
     {
         let mut hits = Vec::new(alloc);

@@ -1,3 +1,9 @@
+//! Selectors, and the texts that they are read from.
+ghost use Rattle.std.specs.Prelude.{◌≡◌};
+ghost use Rattle.std.specs.Str.{chars};
+ghost use Rattle.hayagriva.specs.declared.selectors.SelectorError.TheVariants.{OutOfMemory as OutOfMemoryError};
+ghost use Rattle.hayagriva.specs.Reading.{IsRead, TextGives};
+
 mod apply;
 mod bindings;
 mod evaluate;
@@ -35,13 +41,11 @@ pub enum Selector {
 }
 
 impl Selector {
-    ghost use Rattle.std.specs.Str.{chars};
-    ghost use Rattle.hayagriva.specs.Reading.{TextGives};
-
     /// The selector at the front of a text; what follows it is ignored. An error is the first fault from the left, or
-    /// want of memory.
+    /// out of memory.
     pub fn parse(alloc: Global, text: &str) -> Result<Selector, SelectorError>
-        ensures { TextGives (chars text.now) result }
+        ensures grammar { TextGives (chars text.now) result }
+        ensures computed { IsRead (chars text.now) result }
     {
         let mut tokens = Tokens::new(text);
         expr(alloc, &mut tokens)
@@ -66,16 +70,13 @@ pub enum SelectorError {
     /// The name of no type, in lower case.
     #[error("unknown entry type: `{0}`")]
     UnknownEntryType(String),
-    /// Memory was refused, which says nothing of the text.
+    /// Out of memory, which says nothing of the text.
     #[error("out of memory")]
     OutOfMemory,
 }
 
 impl From<OutOfMemory> for SelectorError {
-    ghost use Rattle.std.specs.Prelude.{◌≡◌};
-    ghost use Rattle.hayagriva.specs.declared.selectors.SelectorError.TheVariants.{OutOfMemory};
-
-    ghost from_gives = { λ _ e. e ≡ OutOfMemory };
+    ghost from_gives = { λ _ e. e ≡ OutOfMemoryError };
 
     fn from(_error: OutOfMemory) -> SelectorError {
         SelectorError::OutOfMemory
@@ -83,10 +84,7 @@ impl From<OutOfMemory> for SelectorError {
 }
 
 impl From<AllocError> for SelectorError {
-    ghost use Rattle.std.specs.Prelude.{◌≡◌};
-    ghost use Rattle.hayagriva.specs.declared.selectors.SelectorError.TheVariants.{OutOfMemory};
-
-    ghost from_gives = { λ _ e. e ≡ OutOfMemory };
+    ghost from_gives = { λ _ e. e ≡ OutOfMemoryError };
 
     fn from(_error: AllocError) -> SelectorError {
         SelectorError::OutOfMemory
@@ -94,10 +92,7 @@ impl From<AllocError> for SelectorError {
 }
 
 impl<T: Drop> From<AllocFailed<T>> for SelectorError {
-    ghost use Rattle.std.specs.Prelude.{◌≡◌};
-    ghost use Rattle.hayagriva.specs.declared.selectors.SelectorError.TheVariants.{OutOfMemory};
-
-    ghost from_gives = { λ _ e. e ≡ OutOfMemory };
+    ghost from_gives = { λ _ e. e ≡ OutOfMemoryError };
 
     fn from(_error: AllocFailed<T>) -> SelectorError {
         SelectorError::OutOfMemory

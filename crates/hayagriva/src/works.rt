@@ -1,30 +1,31 @@
-//! Entries and selectors for tests. A refused allocation ends a test, and what is owned is let go by a call: so no test
-//! has a path on which it has to drop entries, and its proof stays short.
+//! Works of literature for tests: short ways to make entries, and selectors to ask of them. An allocation that fails
+//! ends a test, and what a test owns is dropped by a call: so no test has a path on which it has to drop entries,
+//! which is expensive to prove.
 use crate::Selector;
 use haya_entry::{Entry, EntryType};
 use std::process::Abort;
 
-pub fn string(rt: &(impl Abort + AllocGlobal), text: &str) -> String {
+pub(crate) fn string(rt: &(impl Abort + AllocGlobal), text: &str) -> String {
     String::from_str(rt.alloc(), text).expect(rt, "memory")
 }
 
-pub fn selector(rt: &(impl Abort + AllocGlobal), text: &str) -> Selector {
+pub(crate) fn selector(rt: &(impl Abort + AllocGlobal), text: &str) -> Selector {
     Selector::parse(rt.alloc(), text).expect(rt, "a selector")
 }
 
-pub fn entry(rt: &(impl Abort + AllocGlobal), key: &str, kind: EntryType) -> Entry {
+pub(crate) fn entry(rt: &(impl Abort + AllocGlobal), key: &str, kind: EntryType) -> Entry {
     Entry::new(rt.alloc(), key, kind).expect(rt, "memory")
 }
 
-/// The same, in English.
-pub fn english(rt: &(impl Abort + AllocGlobal), key: &str, kind: EntryType) -> Entry {
+// The same, in English.
+pub(crate) fn english(rt: &(impl Abort + AllocGlobal), key: &str, kind: EntryType) -> Entry {
     let mut made = entry(rt, key, kind);
     made.set_language(string(rt, "en"));
     made
 }
 
-/// The entry with one parent more.
-pub fn below(rt: &(impl Abort + AllocGlobal), mut child: Entry, parent: Entry) -> Entry {
+// The entry with one parent more.
+pub(crate) fn below(rt: &(impl Abort + AllocGlobal), mut child: Entry, parent: Entry) -> Entry {
     child.parents.push(parent).expect(rt, "memory");
     child
 }

@@ -1,9 +1,10 @@
--- Entries as rows: what stays when an entry is put behind the parents of another, or in the library.
+-- Entries as rows: what stays when an entry is put behind the parents of another, or in the
+-- library.
 use Rattle.std.proofs.Common.{◌≡◌, ℕ, suc, ◌+◌, List, [], ◌∷◌, ◌++◌, length, map, get_or, set, zero, refl, sym, ap, ◌∙◌, append_assoc, append-nil, arith}
 use Rattle.std.proofs.lemmas.List.{map-append, length-map}
 use Rattle.std.proofs.lemmas.List.Sums.{fold-append}
-use Rattle.hayagriva.specs.Library.{pushed}
-use Rattle.hayagriva.specs.Tree.{Tree, Trees, Fields, node, trees, listed, no_trees, one_more}
+use Rattle.hayagriva.specs.Library.{push}
+use Rattle.hayagriva.specs.Tree.{Tree, Trees, Fields, node, trees, tree_list, no_trees, one_more}
 use Rattle.hayagriva_query.specs.Input.{Row, leaf, rows_of, rows_of_all}
 use Rattle.hayagriva_query.specs.Chain.{HoldsRows, chain_rows, with_parent}
 
@@ -11,14 +12,14 @@ rows_of_all-append : (d : ℕ) (ts us : List Tree) → rows_of_all d (trees (ts 
 rows_of_all-append d [] us = refl
 rows_of_all-append d (t ∷ ts) us = ap (λ l. rows_of d t ++ l) (rows_of_all-append d ts us) ∙ sym (append_assoc (rows_of d t) (rows_of_all d (trees ts)) (rows_of_all d (trees us)))
 
-trees-listed : (ts : Trees) → trees (listed ts) ≡ ts
-trees-listed no_trees = refl
-trees-listed (one_more t ts) = ap (one_more t) (trees-listed ts)
+trees-tree_list : (ts : Trees) → trees (tree_list ts) ≡ ts
+trees-tree_list no_trees = refl
+trees-tree_list (one_more t ts) = ap (one_more t) (trees-tree_list ts)
 
 rows_of-with_parent : (d : ℕ) (parent child : Tree) → rows_of d (with_parent parent child) ≡ rows_of d child ++ rows_of (d + 1) parent
 rows_of-with_parent d parent (node f ps) =
     ap (λ l. record { depth = d; fields = f } ∷ l)
-    (rows_of_all-append (d + 1) (listed ps) (parent ∷ []) ∙ ap (λ l. l ++ rows_of_all (d + 1) (trees (parent ∷ []))) (ap (rows_of_all (d + 1)) (trees-listed ps)) ∙ ap (λ l. rows_of_all (d + 1) ps ++ l) (append-nil (rows_of (d + 1) parent)))
+    (rows_of_all-append (d + 1) (tree_list ps) (parent ∷ []) ∙ ap (λ l. l ++ rows_of_all (d + 1) (trees (parent ∷ []))) (ap (rows_of_all (d + 1)) (trees-tree_list ps)) ∙ ap (λ l. rows_of_all (d + 1) ps ++ l) (append-nil (rows_of (d + 1) parent)))
 
 -- an entry behind the parents of the one before it
 chain_rows-with_parent : (d : ℕ) (front : List Tree) (child parent : Tree) → chain_rows d (front ++ child ∷ parent ∷ []) ≡ chain_rows d (front ++ with_parent parent child ∷ [])
@@ -34,10 +35,10 @@ chain_rows-leaf d (t ∷ ts) f =
     ∙ ap (λ n. (rows_of d t ++ chain_rows (d + 1) ts) ++ record { depth = n; fields = f } ∷ []) deeper
 
 -- the entry of depth 0, once it has all its parents
-pushed-entry : (rows : List Row) (library : List Tree) (t : Tree) → HoldsRows rows library (t ∷ []) → HoldsRows rows (pushed t library) []
-pushed-entry rows library t h = record {
+push-entry : (rows : List Row) (library : List Tree) (t : Tree) → HoldsRows rows library (t ∷ []) → HoldsRows rows (push t library) []
+push-entry rows library t h = record {
   entries = h.entries ++ t ∷ [];
-  pushed = ap (pushed t) h.pushed ∙ sym (fold-append (λ done t. pushed t done) [] h.entries (t ∷ []));
+  of_entries = ap (push t) h.of_entries ∙ sym (fold-append (λ done t. push t done) [] h.entries (t ∷ []));
   same = h.same ∙ sym (rows_of_all-append 0 h.entries (t ∷ [])) ∙ sym (append-nil (rows_of_all 0 (trees (h.entries ++ t ∷ []))));
 }
 
@@ -55,15 +56,15 @@ pub put-parent : {X : Type 0} (v : X → Tree) (items : List X) (n : ℕ) (x nex
     → HoldsRows rows library (map v items ++ parent ∷ []) → HoldsRows rows library (map v (set items n next))
 put-parent v items n x next parent last is rows library h = record {
   entries = h.entries;
-  pushed = h.pushed;
+  of_entries = h.of_entries;
   same = h.same ∙ ap (λ l. rows_of_all 0 (trees h.entries) ++ l) (with_last v 0 items n x next parent last is);
 }
 
 -- and a chain of none is followed by an entry of depth 0
-pub put-pushed : {X : Type 0} (v : X → Tree) (items : List X) (t : Tree) → length items ≡ 0 → (rows : List Row) (library : List Tree)
-    → HoldsRows rows library (map v items ++ t ∷ []) → HoldsRows rows (pushed t library) (map v items)
-put-pushed v [] t none rows library h = pushed-entry rows library t h
-put-pushed v (x ∷ xs) t none rows library h = absurd (omega arith)
+pub put-push : {X : Type 0} (v : X → Tree) (items : List X) (t : Tree) → length items ≡ 0 → (rows : List Row) (library : List Tree)
+    → HoldsRows rows library (map v items ++ t ∷ []) → HoldsRows rows (push t library) (map v items)
+put-push v [] t none rows library h = push-entry rows library t h
+put-push v (x ∷ xs) t none rows library h = absurd (omega arith)
 
 -- and an entry without parents follows, deeper than the others
 pub push-leaf : {X : Type 0} (v : X → Tree) (items : List X) (next : X) (row : Row) → length items ≡ row.depth → v next ≡ leaf row.fields
@@ -72,7 +73,7 @@ push-leaf v items next row deep is rows library h =
     let depth : 0 + length (map v items) ≡ row.depth = omega (arith, length-map items v) in
     record {
       entries = h.entries;
-      pushed = h.pushed;
+      of_entries = h.of_entries;
       same =
           ap (λ l. l ++ row ∷ []) h.same ∙ append_assoc (rows_of_all 0 (trees h.entries)) (chain_rows 0 (map v items)) (row ∷ [])
           ∙ ap (λ n. rows_of_all 0 (trees h.entries) ++ (chain_rows 0 (map v items) ++ record { depth = n; fields = row.fields } ∷ [])) (sym depth)

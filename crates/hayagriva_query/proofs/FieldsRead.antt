@@ -10,7 +10,8 @@ use Rattle.hayagriva_query.specs.Input.{and_then, field_read, fields_read}
 abbrev pub Has : Tree → Fields → Tree → Type 0
 Has old f new = new ≡ with_fields (λ _. f) old
 
--- what all items make of the first entry is what the rest make of the entry so far, and the parents stay
+-- what all items make of the first entry is what the rest make of the entry so far, and the parents
+-- stay
 pub record Left (first : Tree) (all : List (List ℕ)) (now : Tree) (rest : List (List ℕ)) : Type 0 where
   pub read : fields_read (fields first) all ≡ fields_read (fields now) rest
   pub parents : Has first (fields now) now

@@ -3,37 +3,37 @@ use Rattle.std.proofs.Common.{◌≡◌, [], ◌∷◌, None, Some, Err, refl}
 use Rattle.std.specs.Prelude.{codes}
 use Rattle.std.specs.Str.Lines.{lines}
 use Rattle.hayagriva.specs.declared.types.EntryType.TheVariants.{Article, Blog, Book, Periodical, Web}
-use Rattle.hayagriva.specs.Tree.{Tree, bare, with_fields, with_parents, with_keyed_serial_number}
+use Rattle.hayagriva.specs.Tree.{Tree, new_entry, with_fields, with_parents, with_keyed_serial_number}
 use Rattle.hayagriva_query.specs.declared.fault.LineFault.TheVariants.{Shape, Depth, UnknownType, UnknownField}
-use Rattle.hayagriva_query.specs.Input.{Describes, depth_read, named, rows_read}
+use Rattle.hayagriva_query.specs.Input.{Describes, depth_read, name_and_value, rows_read}
 
 abbrev in_english : Tree → Tree
 in_english = with_fields (λ f. record f { language = Some (codes "en") })
 
 abbrev site : Tree
-site = in_english (bare (codes "site") Web)
+site = in_english (new_entry (codes "site") Web)
 
 abbrev journal : Tree
-journal = with_parents (site ∷ []) (bare (codes "journal") Periodical)
+journal = with_parents (site ∷ []) (new_entry (codes "journal") Periodical)
 
 abbrev paper : Tree
-paper = with_parents (journal ∷ bare (codes "book") Book ∷ []) (with_keyed_serial_number (codes "doi") (codes "1=a") (bare (codes "paper") Article))
+paper = with_parents (journal ∷ new_entry (codes "book") Book ∷ []) (with_keyed_serial_number (codes "doi") (codes "1=a") (new_entry (codes "paper") Article))
 
 abbrev note : Tree
-note = bare (codes "note") Blog
+note = new_entry (codes "note") Blog
 
 -- a paper in a journal, which stands in a site, and in a book; and a note
 two_entries : Describes
     (codes "0\tpaper\tarticle\tdoi=1=a\r\n\n1\tjournal\tPeriodical\n2\tsite\tweb\tlanguage=de\tlanguage=en\n\r\n1\tbook\tbook\n0\tnote\tblog")
     (paper ∷ note ∷ [])
-two_entries = record { entries = paper ∷ note ∷ []; rows = refl; pushed = refl }
+two_entries = record { entries = paper ∷ note ∷ []; rows = refl; of_entries = refl }
 
 -- the second entry with the key takes the first one's place
-again : Describes (codes "0\ta\tbook\n0\tb\tweb\n0\ta\tblog\n") (bare (codes "a") Blog ∷ bare (codes "b") Web ∷ [])
-again = record { entries = bare (codes "a") Book ∷ bare (codes "b") Web ∷ bare (codes "a") Blog ∷ []; rows = refl; pushed = refl }
+again : Describes (codes "0\ta\tbook\n0\tb\tweb\n0\ta\tblog\n") (new_entry (codes "a") Blog ∷ new_entry (codes "b") Web ∷ [])
+again = record { entries = new_entry (codes "a") Book ∷ new_entry (codes "b") Web ∷ new_entry (codes "a") Blog ∷ []; rows = refl; of_entries = refl }
 
 no_lines : Describes [] []
-no_lines = record { entries = []; rows = refl; pushed = refl }
+no_lines = record { entries = []; rows = refl; of_entries = refl }
 
 -- the first line with a fault decides, and empty lines are counted
 faults :
@@ -54,7 +54,7 @@ depths :
 depths = (refl, refl, refl, refl, refl, refl)
 
 names :
-    (named (codes "doi=x=y") ≡ Some (codes "doi", codes "x=y"))
-    × (named (codes "=") ≡ Some ([], []))
-    × (named (codes "doi") ≡ None)
+    (name_and_value (codes "doi=x=y") ≡ Some (codes "doi", codes "x=y"))
+    × (name_and_value (codes "=") ≡ Some ([], []))
+    × (name_and_value (codes "doi") ≡ None)
 names = (refl, refl, refl)

@@ -2,9 +2,9 @@ mod Depths
 mod FieldsRead
 mod Rows
 mod Chains
+mod Faults
 mod Progress
 mod InputRows
-mod Views
 mod Lines
 mod Names
 mod OutputRows

@@ -10,7 +10,8 @@ use Rattle.hayagriva_query.specs.declared.fault.LineFault.{LineFault}
 use Rattle.hayagriva_query.specs.Input.{Row, Describes, and_then, items, row_read, rows_read, rows_of_all}
 use Rattle.hayagriva_query.specs.Chain.{HoldsRows, chain_rows}
 
--- after so many lines, what all lines read as is the rows so far, and then what the other lines read as
+-- after so many lines, what all lines read as is the rows so far, and then what the other lines
+-- read as
 pub record Progress (all : List (List ℕ)) (count : ℕ) (library chain : List Tree) : Type 0 where
   pub rows : List Row
   pub holds : HoldsRows rows library chain
@@ -30,7 +31,7 @@ Progress-start all library chain no_library no_chain =
     let none : length chain ≡ 0 = ap length no_chain in
     record {
       rows = [];
-      holds = record { entries = []; pushed = no_library; same = ap (chain_rows 0) (sym no_chain) };
+      holds = record { entries = []; of_entries = no_library; same = ap (chain_rows 0) (sym no_chain) };
       read = rw (none, and_then-Ok) refl;
     }
 
@@ -108,5 +109,5 @@ Progress-end text count library chain last so_far whole put =
     record {
       entries = h.entries;
       rows = read ∙ ap (λ l. Ok l) (append-nil so_far.rows ∙ h.same ∙ append-nil (rows_of_all 0 (trees h.entries)));
-      pushed = h.pushed;
+      of_entries = h.of_entries;
     }

@@ -4,7 +4,7 @@ use Rattle.std.specs.Prelude.{IsOkAnd, IfOk, ok_or}
 use Rattle.std.proofs.lemmas.List.{take_all}
 use Rattle.hayagriva.specs.declared.types.EntryType.{EntryType}
 use Rattle.hayagriva.specs.EntryType.{type_read}
-use Rattle.hayagriva.specs.Tree.{Tree, Fields, fields, with_fields, bare}
+use Rattle.hayagriva.specs.Tree.{Tree, Fields, fields, with_fields, new_entry}
 use Rattle.hayagriva_query.specs.declared.fault.LineFault.{LineFault}
 use Rattle.hayagriva_query.specs.declared.fault.LineFault.TheVariants.{Depth, OutOfMemory, UnknownType}
 use Rattle.hayagriva_query.specs.Input.{Row, and_then, leaf, depth_read, fields_read, row_read}
@@ -19,21 +19,21 @@ joined depth kind read n k P d t h = rw (d, t) (by (read k) h)
     by (Err e) h = absurd h
 
 -- an entry that is made bare, and whose fields are then set
-set_leaf : (key : List ℕ) (k : EntryType) (first last : Tree) (read : Fields → Result Fields LineFault) → first ≡ bare key k
-    → IsOkAnd (read (fields first)) (λ f. last ≡ with_fields (λ _. f) first) → IsOkAnd (read (fields (bare key k))) (λ f. last ≡ leaf f)
-set_leaf key k first last read made set = by (read (fields (bare key k))) (subst (λ t. IsOkAnd (read (fields t)) (λ f. last ≡ with_fields (λ _. f) t)) made set)
+set_leaf : (key : List ℕ) (k : EntryType) (first last : Tree) (read : Fields → Result Fields LineFault) → first ≡ new_entry key k
+    → IsOkAnd (read (fields first)) (λ f. last ≡ with_fields (λ _. f) first) → IsOkAnd (read (fields (new_entry key k))) (λ f. last ≡ leaf f)
+set_leaf key k first last read made set = by (read (fields (new_entry key k))) (subst (λ t. IsOkAnd (read (fields t)) (λ f. last ≡ with_fields (λ _. f) t)) made set)
   where
-    by : (r : Result Fields LineFault) → IsOkAnd r (λ f. last ≡ with_fields (λ _. f) (bare key k)) → IsOkAnd r (λ f. last ≡ leaf f)
+    by : (r : Result Fields LineFault) → IsOkAnd r (λ f. last ≡ with_fields (λ _. f) (new_entry key k)) → IsOkAnd r (λ f. last ≡ leaf f)
     by (Ok f) h = h
     by (Err e) h = absurd h
 
 pub row_read-ok : {X : Type 0} (text : X → List ℕ) (items : List X) (x : X) (deepest n : ℕ) (k : EntryType) (first last : Tree) → 3 ≤ length items
-    → depth_read deepest (text (get_or items 0 x)) ≡ Some n → type_read (text (get_or items 2 x)) ≡ Some k → first ≡ bare (text (get_or items 1 x)) k
+    → depth_read deepest (text (get_or items 0 x)) ≡ Some n → type_read (text (get_or items 2 x)) ≡ Some k → first ≡ new_entry (text (get_or items 1 x)) k
     → IsOkAnd (fields_read (fields first) (map text (take (length items - 3) (drop 3 items)))) (λ f. last ≡ with_fields (λ _. f) first)
     → IsOkAnd (row_read deepest (map text items)) (λ row. (n ≡ row.depth) × (last ≡ leaf row.fields))
 row_read-ok text (a ∷ b ∷ c ∷ more) x deepest n k first last three d t made set =
     let rest : take (length (a ∷ b ∷ c ∷ more) - 3) more ≡ more = take_all _ more (omega arith) in
-    joined (depth_read deepest (text a)) (type_read (text c)) (λ k. fields_read (fields (bare (text b) k)) (map text more)) n k (λ f. last ≡ leaf f) d t
+    joined (depth_read deepest (text a)) (type_read (text c)) (λ k. fields_read (fields (new_entry (text b) k)) (map text more)) n k (λ f. last ≡ leaf f) d t
     (set_leaf (text b) k first last (λ f. fields_read f (map text more)) made
     (subst (λ l. IsOkAnd (fields_read (fields first) (map text l)) (λ f. last ≡ with_fields (λ _. f) first)) rest set))
 row_read-ok text _ x deepest n k first last three d t made set = absurd (omega arith)
@@ -50,10 +50,10 @@ row_within deepest (a ∷ b ∷ c ∷ more) = by (depth_read deepest a) (depth_w
     fields_within d within (Err e) = tt
 
     by : (o : Option ℕ) → ((d : ℕ) → o ≡ Some d → d ≤ deepest) → (t : Option EntryType)
-        → IfOk {T = Row} (and_then (ok_or o Depth) (λ d. and_then (ok_or t UnknownType) (λ k. and_then (fields_read (fields (bare b k)) more) (λ f. Ok (record { depth = d; fields = f }))))) (λ row. row.depth ≤ deepest)
+        → IfOk {T = Row} (and_then (ok_or o Depth) (λ d. and_then (ok_or t UnknownType) (λ k. and_then (fields_read (fields (new_entry b k)) more) (λ f. Ok (record { depth = d; fields = f }))))) (λ row. row.depth ≤ deepest)
     by None within t = tt
     by (Some d) within None = tt
-    by (Some d) within (Some k) = fields_within d (within d refl) (fields_read (fields (bare b k)) more)
+    by (Some d) within (Some k) = fields_within d (within d refl) (fields_read (fields (new_entry b k)) more)
 row_within deepest _ = tt
 
 -- what holds of the row that was read
@@ -77,12 +77,12 @@ row_taken m deepest items n entry Q same = subst (λ d. Read d → All → Taken
 
 -- a fault of the fields is the row's
 pub row_read-err : {X : Type 0} (text : X → List ℕ) (items : List X) (x : X) (deepest n : ℕ) (k : EntryType) (first : Tree) (e : LineFault) → 3 ≤ length items
-    → depth_read deepest (text (get_or items 0 x)) ≡ Some n → type_read (text (get_or items 2 x)) ≡ Some k → first ≡ bare (text (get_or items 1 x)) k
+    → depth_read deepest (text (get_or items 0 x)) ≡ Some n → type_read (text (get_or items 2 x)) ≡ Some k → first ≡ new_entry (text (get_or items 1 x)) k
     → (e ≡ OutOfMemory) ⊎ (fields_read (fields first) (map text (take (length items - 3) (drop 3 items))) ≡ Err e)
     → (e ≡ OutOfMemory) ⊎ (row_read deepest (map text items) ≡ Err e)
 row_read-err text (a ∷ b ∷ c ∷ more) x deepest n k first e three d t made fault =
     let rest : take (length (a ∷ b ∷ c ∷ more) - 3) more ≡ more = take_all _ more (omega arith) in
     ⊎_elim (λ h. inl h)
-    (λ h. let same : fields_read (fields (bare (text b) k)) (map text more) ≡ Err e = rw (made, rest) at h in
+    (λ h. let same : fields_read (fields (new_entry (text b) k)) (map text more) ≡ Err e = rw (made, rest) at h in
     inr (rw (d, t) (ap (λ r. and_then r (λ f. Ok (record { depth = n; fields = f }))) same))) fault
 row_read-err text _ x deepest n k first e three d t made fault = absurd (omega arith)

@@ -1,7 +1,9 @@
 -- Where the reader of a library's text stands between two lines.
-use Rattle.std.specs.Prelude.{◌≡◌, ℕ, ◌+◌, List, [], ◌∷◌, ◌++◌}
-use Rattle.hayagriva.specs.Library.{all_pushed}
-use Rattle.hayagriva.specs.Tree.{Tree, node, trees, listed}
+use Rattle.std.specs.Prelude.{◌≡◌, ℕ, ◌+◌, List, [], ◌∷◌, ◌++◌, Vec, map}
+use Rattle.std.specs.declared.alloc.Global.{Global}
+use Rattle.hayagriva.specs.Library.{from_entries}
+use Rattle.hayagriva.specs.Tree.{Tree, node, trees, tree_list, view}
+use Rattle.hayagriva.specs.declared.Entry.{Entry}
 use Rattle.hayagriva_query.specs.Input.{Row, rows_of, rows_of_all}
 
 -- entries at a depth and below, each the next parent of the one before it, as rows
@@ -11,10 +13,24 @@ chain_rows d (t ∷ ts) = rows_of d t ++ chain_rows (d + 1) ts
 
 -- the entry with one more parent
 abbrev pub with_parent : Tree → Tree → Tree
-with_parent parent (node f ps) = node f (trees (listed ps ++ parent ∷ []))
+with_parent parent (node f ps) = node f (trees (tree_list ps ++ parent ∷ []))
 
 -- the rows are those of the entries that were pushed, and then those of the chain
 pub record HoldsRows (rows : List Row) (library chain : List Tree) : Type 0 where
   pub entries : List Tree
-  pub pushed : library ≡ all_pushed entries
+  pub of_entries : library ≡ from_entries entries
   pub same : rows ≡ rows_of_all 0 (trees entries) ++ chain_rows 0 chain
+
+-- the rows stay, whatever they are
+abbrev pub KeepsRows : List Tree → List Tree → List Tree → List Tree → Type 0
+KeepsRows library chain next_library next_chain = (rows : List Row)
+    → HoldsRows rows library chain → HoldsRows rows next_library next_chain
+
+-- one more row follows them
+abbrev pub AddsRow : Row → List Tree → List Tree → List Tree → List Tree → Type 0
+AddsRow row library chain next_library next_chain = (rows : List Row)
+    → HoldsRows rows library chain → HoldsRows (rows ++ row ∷ []) next_library next_chain
+
+-- the entries of a chain by value
+abbrev pub chain_view : Vec Entry Global → List Tree
+chain_view chain = map view chain.items

@@ -7,8 +7,9 @@ use Rattle.std.specs.Str.Lines.{lines}
 use Rattle.std.specs.Str.Parse.{digits_value}
 use Rattle.hayagriva.specs.EntryType.{type_read}
 use Rattle.hayagriva.specs.SerialNumber.{with_serial}
-use Rattle.hayagriva.specs.Tree.{Tree, Trees, Fields, node, no_trees, one_more, trees, fields, bare}
-use Rattle.hayagriva.specs.Library.{all_pushed}
+use Rattle.hayagriva.specs.Tree.{Tree, Trees, Fields, node, no_trees, one_more, trees, fields, new_entry}
+use Rattle.hayagriva.specs.Library.{from_entries}
+use Rattle.hayagriva_query.specs.Signs.{tab, equals_sign}
 use Rattle.hayagriva_query.specs.declared.fault.LineFault.{LineFault}
 use Rattle.hayagriva_query.specs.declared.fault.LineFault.TheVariants.{Shape, Depth, UnknownType, UnknownField}
 
@@ -21,34 +22,43 @@ and_then (Err e) f = Err e
 
 -- what stands between the tabs
 abbrev pub items : List ℕ → List (List ℕ)
-items line = slice_split (λ b. b == 9) line
+items line = slice_split (λ b. b == tab) line
 
 -- one to three digits, for a depth of at most 500 that is no deeper than this
 abbrev pub is_depth : ℕ → List ℕ → Bool
 is_depth deepest item =
-    list_all is_ascii_digit item && (nat_lt 0 (length item) && (nat_lt (length item) 4 && (nat_le (digits_value 10 item) 500 && nat_le (digits_value 10 item) deepest)))
+    list_all is_ascii_digit item && (nat_lt 0 (length item) && (nat_lt (length item) 4
+    && (nat_le (digits_value 10 item) 500 && nat_le (digits_value 10 item) deepest)))
 
 abbrev pub depth_read : ℕ → List ℕ → Option ℕ
 depth_read deepest item = if is_depth deepest item then Some (digits_value 10 item) else None
 
 -- a name and a value: what stands before the first `=`, and what stands behind it
-abbrev pub named : List ℕ → Option (List ℕ × List ℕ)
-named item = option_map (λ i. (take i item, drop (i + 1) item)) (position (λ b. b == 61) item)
+abbrev pub name_and_value : List ℕ → Option (List ℕ × List ℕ)
+name_and_value item =
+    option_map (λ i. (take i item, drop (i + 1) item)) (position (λ b. b == equals_sign) item)
 
 -- the serial numbers that have a name of their own
 abbrev pub serial_names : List (List ℕ)
-serial_names = codes "doi" ∷ codes "isbn" ∷ codes "issn" ∷ codes "pmid" ∷ codes "pmcid" ∷ codes "arxiv" ∷ []
+serial_names =
+    codes "doi" ∷ codes "isbn" ∷ codes "issn" ∷ codes "pmid" ∷ codes "pmcid" ∷ codes "arxiv" ∷ []
+
+-- the fields with one more serial number, or another in the place of that with its key
+abbrev pub with_number : List ℕ → List ℕ → Fields → Fields
+with_number key value f = record f { serial_number = Some (with_serial key value f.serial_number) }
 
 -- the fields with this value under this name, if it is a name of the input
-abbrev pub field_set : List ℕ → List ℕ → Fields → Option Fields
-field_set name value f =
+abbrev pub with_field : List ℕ → List ℕ → Fields → Option Fields
+with_field name value f =
     if bytes_eq name (codes "language") then Some (record f { language = Some value }) else (
-    if bytes_eq name (codes "serial-number") then Some (record f { serial_number = Some (with_serial (codes "serial") value f.serial_number) }) else (
-    if list_any (bytes_eq name) serial_names then Some (record f { serial_number = Some (with_serial name value f.serial_number) }) else None))
+    if bytes_eq name (codes "serial-number") then Some (with_number (codes "serial") value f) else (
+    if list_any (bytes_eq name) serial_names then Some (with_number name value f) else None))
 
 -- the fields after the item's is set, or its fault
 abbrev pub field_read : Fields → List ℕ → Result Fields LineFault
-field_read f item = and_then (ok_or (named item) Shape) (λ field. ok_or (field_set field.0 field.1 f) UnknownField)
+field_read f item =
+    and_then (ok_or (name_and_value item) Shape)
+    (λ field. ok_or (with_field field.0 field.1 f) UnknownField)
 
 -- the fields after those of all items are set in turn, or the first fault
 abbrev pub fields_read : Fields → List (List ℕ) → Result Fields LineFault
@@ -65,7 +75,8 @@ abbrev pub row_read : ℕ → List (List ℕ) → Result Row LineFault
 row_read deepest (depth ∷ key ∷ kind ∷ more) =
     and_then (ok_or (depth_read deepest depth) Depth) (λ d.
     and_then (ok_or (type_read kind) UnknownType) (λ k.
-    and_then (fields_read (fields (bare key k)) more) (λ f. Ok (record { depth = d; fields = f }))))
+    and_then (fields_read (fields (new_entry key k)) more) (λ f.
+    Ok (record { depth = d; fields = f }))))
 row_read deepest _ = Err Shape
 
 -- an entry with no parents
@@ -79,8 +90,9 @@ abbrev pub in_line : ℕ → Result Row LineFault → Result Row (ℕ × LineFau
 in_line n (Ok row) = Ok row
 in_line n (Err fault) = Err (n, fault)
 
--- the rows of the lines that aren't empty, where the first line has the number n and may be so deep, and each row may be
--- one deeper than the one before it; or the number of the first line with a fault, and its fault
+-- the rows of the lines that aren't empty, where the first line has the number n and may be so
+-- deep, and each row may be one deeper than the one before it; or the number of the first line with
+-- a fault, and its fault
 abbrev pub rows_read : ℕ → ℕ → List (List ℕ) → Result (List Row) (ℕ × LineFault)
 rows_read n deepest [] = Ok []
 rows_read n deepest (line ∷ more) =
@@ -101,4 +113,4 @@ abbrev mutual
 pub record Describes (text : List ℕ) (library : List Tree) : Type 0 where
   pub entries : List Tree
   pub rows : rows_read 1 0 (lines text) ≡ Ok (rows_of_all 0 (trees entries))
-  pub pushed : library ≡ all_pushed entries
+  pub of_entries : library ≡ from_entries entries

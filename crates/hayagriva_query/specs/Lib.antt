@@ -1,3 +1,6 @@
-pub mod Input
 pub mod Chain
+pub mod Input
+pub mod LineReading
 pub mod Output
+pub mod Signs
+pub mod Words

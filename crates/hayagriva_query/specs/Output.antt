@@ -1,55 +1,63 @@
 -- The program's output: a line for each entry that a selector picks.
-use Rattle.std.specs.Prelude.{◌≡◌, ℕ, List, [], ◌∷◌, ◌++◌, Option, option_map, filter}
+use Rattle.std.specs.Prelude.{◌≡◌, ℕ, List, [], ◌∷◌, ◌++◌, Option, Some, Err, option_map, filter}
 use Rattle.std.specs.Cmp.Lexicographic.{slice_cmp}
 use Rattle.std.specs.HashMap.{get_by_text}
-use Rattle.std.specs.Io.KnownBytes.{Appends, Consumes, IsAtEnd}
+use Rattle.std.specs.Io.KnownBytes.{Appends, Consumes, IsAtEnd, Keeps}
 use Rattle.std.specs.List.{AllZip, concat, flat_map}
 use Rattle.std.specs.List.Sorted.{IsStrictlySortedBy}
 use Rattle.std.specs.Map.{keys_of, lookup}
 use Rattle.std.specs.Ordering.{nat_cmp}
-use Rattle.std.specs.Str.{bytes_eq, chars}
+use Rattle.std.specs.Str.{IsUtf8, bytes_eq, chars}
+use Rattle.std.specs.Str.Lines.{lines}
 use Rattle.hayagriva.specs.Binds.{bound_to}
+use Rattle.hayagriva.specs.Fault.{Fault}
 use Rattle.hayagriva.specs.Holds.{holds}
 use Rattle.hayagriva.specs.Library.{key_of}
-use Rattle.hayagriva.specs.Reading.{TextReads}
+use Rattle.hayagriva.specs.Reading.{TextReads, TextFails}
 use Rattle.hayagriva.specs.Syntax.{Syntax}
 use Rattle.hayagriva.specs.Tree.{Tree, view}
 use Rattle.hayagriva.specs.declared.query.Hit.{Hit}
-use Rattle.hayagriva_query.specs.Input.{Describes}
+use Rattle.hayagriva_query.specs.Input.{Describes, rows_read}
+use Rattle.hayagriva_query.specs.Signs.{tab, equals_sign, line_feed}
+use Rattle.hayagriva_query.specs.declared.fault.LineFault.{LineFault}
 
 -- a tab, a name, `=` and a key
-abbrev pub shown_name : List ℕ × List ℕ → List ℕ
-shown_name p = 9 ∷ p.0 ++ 61 ∷ p.1
+abbrev pub binding_text : List ℕ × List ℕ → List ℕ
+binding_text p = tab ∷ p.0 ++ equals_sign ∷ p.1
 
 -- a key, then each name that stands for a key, in byte order, and a line feed
-pub record IsLine (key : List ℕ) (stands_for : List ℕ → Option (List ℕ)) (line : List ℕ) : Type 0 where
+pub record IsLine (key : List ℕ) (stands_for : List ℕ → Option (List ℕ)) (line : List ℕ)
+    : Type 0 where
   pub names : List (List ℕ × List ℕ)
   pub all : (name : List ℕ) → lookup (bytes_eq name) names ≡ stands_for name
   pub order : IsStrictlySortedBy (slice_cmp nat_cmp) (keys_of names)
-  pub text : line ≡ key ++ flat_map shown_name names ++ 10 ∷ []
+  pub text : line ≡ key ++ flat_map binding_text names ++ line_feed ∷ []
 
 -- the line of a hit
 abbrev pub IsLineOf : Hit → List ℕ → Type 0
-IsLineOf hit = IsLine (key_of (view hit.entry.now)) (λ name. option_map (λ e. key_of (view e.now)) (get_by_text hit.bindings name))
+IsLineOf hit =
+    IsLine (key_of (view hit.entry.now))
+    (λ name. option_map (λ e. key_of (view e.now)) (get_by_text hit.bindings name))
 
--- the lines of hits, in order
-pub record AreLinesOf (hits : List Hit) (printed : List ℕ) : Type 0 where
-  pub lines : List (List ℕ)
-  pub each : AllZip IsLineOf hits lines
-  pub text : printed ≡ concat lines
-
--- the line of an entry where a selector holds: its key, and the keys of the entries that its names are bound to
+-- the line of an entry where a selector holds: its key, and the keys of the entries that its names
+-- are bound to
 abbrev pub IsLineAt : Syntax → Tree → List ℕ → Type 0
 IsLineAt s x = IsLine (key_of x) (λ name. option_map key_of (bound_to s x name))
 
--- the lines of the entries of a library where a selector holds, in order
-pub record AreLinesAt (s : Syntax) (library : List Tree) (printed : List ℕ) : Type 0 where
+-- a line for each, in order
+pub record AreLines {A : Type 0} (IsLineFor : A → List ℕ → Type 0) (xs : List A) (printed : List ℕ)
+    : Type 0 where
   pub lines : List (List ℕ)
-  pub each : AllZip (IsLineAt s) (filter (holds s) library) lines
+  pub each : AllZip IsLineFor xs lines
   pub text : printed ≡ concat lines
 
--- a run that ends well with one word: the word reads as a selector, all input that was left describes a library, and what is
--- printed behind what was there are the lines of its entries where the selector holds
+-- the lines of the entries of a library where a selector holds, in order
+abbrev pub AreLinesAt : Syntax → List Tree → List ℕ → Type 0
+AreLinesAt s library = AreLines (IsLineAt s) (filter (holds s) library)
+
+-- a run that ends well with one word: the word reads as a selector, all input that was left is
+-- UTF-8 and describes a library, and what is printed behind what was there are the lines of its
+-- entries where the selector holds
 pub record Answers (word : List ℕ) (unread left before after : Option (List ℕ)) : Type 0 where
   pub text : List ℕ
   pub library : List Tree
@@ -57,7 +65,16 @@ pub record Answers (word : List ℕ) (unread left before after : Option (List �
   pub printed : List ℕ
   pub read : Consumes unread left text
   pub ends : IsAtEnd left
+  pub utf8 : IsUtf8 text
   pub describes : Describes text library
   pub reads : TextReads (chars word) selector
   pub shows : AreLinesAt selector library printed
   pub prints : Appends before after printed
+
+-- nothing is printed where the word is no selector, and where the input that was left isn't UTF-8
+-- or has a faulty line
+pub record KeepsAtFault (word : List ℕ) (unread before after : Option (List ℕ)) : Type 0 where
+  pub no_selector : (fault : Fault) → TextFails (chars word) fault → Keeps before after
+  pub no_text : (text : List ℕ) → unread ≡ Some text → ¬ IsUtf8 text → Keeps before after
+  pub faulty_line : (text : List ℕ) (fault : ℕ × LineFault) → unread ≡ Some text
+      → rows_read 1 0 (lines text) ≡ Err fault → Keeps before after

@@ -24,7 +24,7 @@ pub enum LineFault {
     /// A field's value that its reader refuses. The fields there are take every text.
     #[error("value")]
     RefusedValue,
-    /// Memory was refused, which says nothing of the line.
+    /// An allocation failed, which says nothing of the line.
     #[error("out of memory")]
     OutOfMemory,
 }
@@ -50,7 +50,7 @@ pub enum Fault {
     /// A line can't be printed.
     #[error("cannot write")]
     CannotWrite,
-    /// Memory was refused.
+    /// An allocation failed.
     #[error("out of memory")]
     OutOfMemory,
 }
@@ -67,7 +67,7 @@ impl Fault {
         }
     }
 
-    /// The fault of the line with this number. Want of memory is none of the line's.
+    /// The fault of the line with this number. Out of memory is none of the line's.
     pub fn of_line(number: usize, fault: LineFault) -> Fault
         ensures memory { fault ≡ LineFault.OutOfMemory → result ≡ Fault.OutOfMemory }
         ensures line { fault ≢ LineFault.OutOfMemory → result ≡ Line number fault }
@@ -83,7 +83,8 @@ impl From<SelectorError> for Fault {
     ghost use Rattle.hayagriva.specs.declared.selectors.SelectorError.TheVariants as error;
     ghost use Rattle.hayagriva_query.specs.declared.fault.Fault.TheVariants.{OutOfMemory, Selector};
 
-    ghost from_gives = { λ s e. (s ≡ error.OutOfMemory → e ≡ OutOfMemory) × (s ≢ error.OutOfMemory → e ≡ Selector s) };
+    ghost from_gives = { λ s e. (s ≡ error.OutOfMemory → e ≡ OutOfMemory)
+        × (s ≢ error.OutOfMemory → e ≡ Selector s) };
 
     fn from(error: SelectorError) -> Fault {
         match error {

@@ -1,20 +1,22 @@
 //! A library from its text: a line an entry, and behind it its parents, one level deeper.
-ghost use Rattle.std.specs.Prelude.{◌≡◌, ◌+◌, ◌++◌, ◌∷◌, ◌⊎◌, [], List, length, map, min, IfOk, IfErr, IsErrAnd, IsOkAnd, IsOkUnless, OnOk};
+ghost use Rattle.std.specs.Prelude.{◌≡◌, ◌+◌, ◌++◌, ◌∷◌, [], length, min, IfOk, IfErr, IsOkAnd, IsOkUnless, OnOk};
 ghost use Rattle.std.specs.Str.Lines.{lines};
 ghost use Rattle.hayagriva.specs.Tree.{view};
-ghost use Rattle.hayagriva_query.specs.declared.fault.Fault.TheVariants.{Line, OutOfMemory};
-ghost use Rattle.hayagriva_query.specs.Input.{Row, items, row_read, rows_read, Describes};
-ghost use Rattle.hayagriva_query.specs.Chain.{HoldsRows, with_parent};
+ghost use Rattle.hayagriva_query.specs.declared.fault.Fault.TheVariants.{OutOfMemory};
+ghost use Rattle.hayagriva_query.specs.Chain.{AddsRow, KeepsRows, chain_view, with_parent};
+ghost use Rattle.hayagriva_query.specs.Input.{items, row_read, rows_read, Describes};
+ghost use Rattle.hayagriva_query.specs.LineReading.{FaultInLine, FaultInText};
 
 use crate::fault::Fault;
 use crate::line::read_line;
 use hayagriva::{Entry, Library};
 use std::alloc::Global;
 
-/// The library that the text describes. A fault is that of the first line that has one, or want of memory.
+/// The library that the text describes. A fault is that of the first line that has one, or out of
+/// memory.
 pub fn read_library(alloc: Global, text: &str) -> Result<Library, Fault>
     ensures ok { IfOk result (λ library. Describes text.now library) }
-    ensures fault { IfErr result (λ e. (e ≡ OutOfMemory) ⊎ IsErrAnd (rows_read 1 0 (lines text.now)) (λ f. e ≡ Line f.0 f.1)) }
+    ensures fault { IfErr result (FaultInText (rows_read 1 0 (lines text.now))) }
 {
     let mut reader = Reader::new(alloc);
     let mut number = 0;
@@ -36,6 +38,7 @@ struct Reader {
 }
 
 impl Reader {
+    // A library with no entries, and none to come.
     fn new(alloc: Global) -> Reader
         ensures library { result.library ≡ [] }
         ensures chain { result.chain.items ≡ [] }
@@ -48,10 +51,15 @@ impl Reader {
 
     // The line's entry is now the last open one.
     fn take_line(&mut self, alloc: Global, line: &str, number: usize) -> Result<(), Fault>
-        ensures depth { OnOk result (IsOkAnd (row_read (length self.old.chain.items) (items line.now)) (λ row. length self.new.chain.items ≡ row.depth + 1)) }
-        ensures rows { OnOk result (IsOkAnd (row_read (length self.old.chain.items) (items line.now)) (λ row. (rows : List Row)
-            → HoldsRows rows self.old.library (map view self.old.chain.items) → HoldsRows (rows ++ row ∷ []) self.new.library (map view self.new.chain.items))) }
-        ensures fault { IfErr result (λ e. (e ≡ OutOfMemory) ⊎ IsErrAnd (row_read (length self.old.chain.items) (items line.now)) (λ f. e ≡ Line number f)) }
+        ensures depth { OnOk result
+            (IsOkAnd (row_read (length self.old.chain.items) (items line.now)) (λ row.
+            length self.new.chain.items ≡ row.depth + 1)) }
+        ensures rows { OnOk result
+            (IsOkAnd (row_read (length self.old.chain.items) (items line.now)) (λ row.
+            AddsRow row self.old.library (chain_view self.old.chain)
+            self.new.library (chain_view self.new.chain))) }
+        ensures fault { IfErr result
+            (FaultInLine number (row_read (length self.old.chain.items) (items line.now))) }
     {
         match read_line(alloc, line, self.chain.len()) {
             Ok((depth, entry)) => {
@@ -66,40 +74,55 @@ impl Reader {
     // Leaves so many entries open, or as many as there are.
     fn close_to(&mut self, depth: usize) -> Result<(), Fault>
         ensures error { IsOkUnless result OutOfMemory }
-        ensures length { OnOk result (length self.new.chain.items ≡ min depth (length self.old.chain.items)) }
-        ensures rows { OnOk result ((rows : List Row)
-            → HoldsRows rows self.old.library (map view self.old.chain.items) → HoldsRows rows self.new.library (map view self.new.chain.items)) }
+        ensures length { OnOk result
+            (length self.new.chain.items ≡ min depth (length self.old.chain.items)) }
+        ensures rows { OnOk result (KeepsRows self.old.library (chain_view self.old.chain)
+            self.new.library (chain_view self.new.chain)) }
     {
         'closing: while self.chain.len() > depth
             && let Some(entry) = self.chain.pop()
         {
+            let mut entry = entry;
+            trim(&mut entry);
             self.put(entry)?;
         }
         Ok(())
     }
 
-    // Puts the entry that was the last open one where it belongs: behind the parents of the one before it, or in the library.
+    // Puts the entry that was the last open one where it belongs: behind the parents of the one
+    // before it, or in the library.
     fn put(&mut self, entry: Entry) -> Result<(), Fault>
         ensures error { IsOkUnless result OutOfMemory }
         ensures length { OnOk result (length self.new.chain.items ≡ length self.old.chain.items) }
-        ensures rows { OnOk result ((rows : List Row)
-            → HoldsRows rows self.old.library (map view self.old.chain.items ++ view entry ∷ []) → HoldsRows rows self.new.library (map view self.new.chain.items)) }
+        ensures rows { OnOk result
+            (KeepsRows self.old.library (chain_view self.old.chain ++ view entry ∷ [])
+            self.new.library (chain_view self.new.chain)) }
     {
         match self.chain.last_mut() {
             Some(child) => add_parent(child, entry),
-            None => Ok(self.library.push(&entry)?),
+            None => Ok(self.library.insert(entry)?),
         }
     }
 
+    // Puts the open entries where they belong, and answers the library.
     fn finish(mut self) -> Result<Library, Fault>
         ensures error { IsOkUnless result OutOfMemory }
-        ensures rows { IfOk result (λ library. (rows : List Row) → HoldsRows rows self.library (map view self.chain.items) → HoldsRows rows library []) }
+        ensures rows { IfOk result
+            (λ library. KeepsRows self.library (chain_view self.chain) library []) }
     {
         self.close_to(0)?;
         Ok(self.library)
     }
 }
 
+// Gives back the room that the entry's parents don't need.
+fn trim(entry: &mut Entry)
+    ensures { view entry.new ≡ view entry.old }
+{
+    entry.parents.shrink_to_fit();
+}
+
+// Puts a parent behind those that the entry has.
 fn add_parent(entry: &mut Entry, parent: Entry) -> Result<(), Fault>
     ensures error { IsOkUnless result OutOfMemory }
     ensures ok { OnOk result (view entry.new ≡ with_parent (view parent) (view entry.old)) }

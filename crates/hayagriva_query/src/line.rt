@@ -1,22 +1,24 @@
 //! One line of the input: a depth, a key, a type, and fields `name=value`, with a tab between two.
-ghost use Rattle.std.specs.Prelude.{◌≡◌, ◌⊎◌, None, Err, map, IfOk, IfErr, IsOkAnd, IsSomeAnd, OnOk};
+ghost use Rattle.std.specs.Prelude.{◌≡◌, map, ok_or, IfOk, IfErr, OnOk};
 ghost use Rattle.std.specs.Char.{is_ascii_digit};
 ghost use Rattle.std.specs.List.{list_all};
-ghost use Rattle.hayagriva.specs.Tree.{view, fields, with_fields};
-ghost use Rattle.hayagriva_query.specs.declared.fault.LineFault.TheVariants.{OutOfMemory, UnknownField};
-ghost use Rattle.hayagriva_query.specs.Input.{items, leaf, depth_read, field_set, field_read, fields_read, row_read};
+ghost use Rattle.hayagriva.specs.Tree.{view, fields};
+ghost use Rattle.hayagriva_query.specs.declared.fault.LineFault.TheVariants.{UnknownField};
+ghost use Rattle.hayagriva_query.specs.Input.{items, depth_read, with_field, field_read, fields_read, row_read};
+ghost use Rattle.hayagriva_query.specs.LineReading.{FaultOf, IsRow, SetsFields};
 
 use crate::fault::LineFault;
 use hayagriva::Entry;
 use hayagriva::types::EntryType;
 use std::alloc::{AllocError, Global};
 
+// How deep an entry may stand.
 const MAX_DEPTH: usize = 500;
 
 /// The entry of a line, without its parents, and its depth, where that is at most `deepest`.
 pub fn read_line(alloc: Global, line: &str, deepest: usize) -> Result<(usize, Entry), LineFault>
-    ensures row { IfOk result (λ r. IsOkAnd (row_read deepest (items line.now)) (λ row. (r.0 ≡ row.depth) × (view r.1 ≡ leaf row.fields))) }
-    ensures fault { IfErr result (λ e. (e ≡ OutOfMemory) ⊎ (row_read deepest (items line.now) ≡ Err e)) }
+    ensures row { IfOk result (IsRow (row_read deepest (items line.now))) }
+    ensures fault { IfErr result (FaultOf (row_read deepest (items line.now))) }
 {
     let items = items_of(alloc, line)?;
     read_items(alloc, items.as_slice(), deepest)
@@ -29,9 +31,10 @@ fn items_of<'a>(alloc: Global, line: &'a str) -> Result<Vec<&'a str>, AllocError
     line.split('\t').collect(alloc)
 }
 
+// The same, from the items.
 fn read_items(alloc: Global, items: &[&str], deepest: usize) -> Result<(usize, Entry), LineFault>
-    ensures row { IfOk result (λ r. IsOkAnd (row_read deepest (map (λ t. t.now) items.now)) (λ row. (r.0 ≡ row.depth) × (view r.1 ≡ leaf row.fields))) }
-    ensures fault { IfErr result (λ e. (e ≡ OutOfMemory) ⊎ (row_read deepest (map (λ t. t.now) items.now) ≡ Err e)) }
+    ensures row { IfOk result (IsRow (row_read deepest (map (λ t. t.now) items.now))) }
+    ensures fault { IfErr result (FaultOf (row_read deepest (map (λ t. t.now) items.now))) }
 {
     let [depth, key, kind, more @ ..] = items else {
         return Err(LineFault::Shape);
@@ -49,8 +52,10 @@ fn read_items(alloc: Global, items: &[&str], deepest: usize) -> Result<(usize, E
 
 // Sets the field of each item in turn.
 fn read_fields(alloc: Global, entry: &mut Entry, items: &[&str]) -> Result<(), LineFault>
-    ensures ok { OnOk result (IsOkAnd (fields_read (fields (view entry.old)) (map (λ t. t.now) items.now)) (λ f. view entry.new ≡ with_fields (λ _. f) (view entry.old))) }
-    ensures fault { IfErr result (λ e. (e ≡ OutOfMemory) ⊎ (fields_read (fields (view entry.old)) (map (λ t. t.now) items.now) ≡ Err e)) }
+    ensures ok { OnOk result (SetsFields
+        (fields_read (fields (view entry.old)) (map (λ t. t.now) items.now)) entry.old entry.new) }
+    ensures fault { IfErr result (FaultOf
+        (fields_read (fields (view entry.old)) (map (λ t. t.now) items.now))) }
 {
     'items: for item in items {
         read_field(alloc, entry, item)?;
@@ -58,9 +63,11 @@ fn read_fields(alloc: Global, entry: &mut Entry, items: &[&str]) -> Result<(), L
     Ok(())
 }
 
+// Sets the field of one item.
 fn read_field(alloc: Global, entry: &mut Entry, item: &str) -> Result<(), LineFault>
-    ensures ok { OnOk result (IsOkAnd (field_read (fields (view entry.old)) item.now) (λ f. view entry.new ≡ with_fields (λ _. f) (view entry.old))) }
-    ensures fault { IfErr result (λ e. (e ≡ OutOfMemory) ⊎ (field_read (fields (view entry.old)) item.now ≡ Err e)) }
+    ensures ok { OnOk result (SetsFields
+        (field_read (fields (view entry.old)) item.now) entry.old entry.new) }
+    ensures fault { IfErr result (FaultOf (field_read (fields (view entry.old)) item.now)) }
 {
     match item.split_once('=') {
         Some((name, value)) => set_field(alloc, entry, name, value),
@@ -79,6 +86,7 @@ fn depth_of(item: &str, deepest: usize) -> Option<usize>
     (depth <= MAX_DEPTH && depth <= deepest).then_some(depth)
 }
 
+// Whether there are ASCII digits alone.
 fn is_all_digits(item: &str) -> bool
     ensures { result ≡ list_all is_ascii_digit item.now }
 {
@@ -87,8 +95,11 @@ fn is_all_digits(item: &str) -> bool
 
 // Sets the field with this name, in the place of what was there.
 fn set_field(alloc: Global, entry: &mut Entry, name: &str, value: &str) -> Result<(), LineFault>
-    ensures ok { OnOk result (IsSomeAnd (field_set name.now value.now (fields (view entry.old))) (λ f. view entry.new ≡ with_fields (λ _. f) (view entry.old))) }
-    ensures fault { IfErr result (λ e. (e ≡ OutOfMemory) ⊎ ((e ≡ UnknownField) × (field_set name.now value.now (fields (view entry.old)) ≡ None))) }
+    ensures ok { OnOk result (SetsFields
+        (ok_or (with_field name.now value.now (fields (view entry.old))) UnknownField)
+        entry.old entry.new) }
+    ensures fault { IfErr result (FaultOf
+        (ok_or (with_field name.now value.now (fields (view entry.old))) UnknownField)) }
 {
     match name {
         "language" => entry.set_language(String::from_str(alloc, value)?),

@@ -2,7 +2,7 @@
 ghost use Rattle.std.specs.Prelude.{◌≡◌, ◌⊎◌, IfOk, IfErr, IsOkUnless, List, ℕ, OnOk, string_bytes};
 ghost use Rattle.std.specs.Io.KnownBytes.{Appends};
 ghost use Rattle.hayagriva_query.specs.declared.fault.Fault.TheVariants.{CannotWrite, OutOfMemory};
-ghost use Rattle.hayagriva_query.specs.Output.{AreLinesOf, IsLineOf};
+ghost use Rattle.hayagriva_query.specs.Output.{AreLines, IsLineOf};
 
 use crate::fault::Fault;
 use hayagriva::Hit;
@@ -10,9 +10,11 @@ use std::alloc::Global;
 use std::collections::BTreeMap;
 use std::io::Write;
 
-/// Prints each hit's line. A line is handed on whole, so that nothing of a later one stands before it.
+/// Prints each hit's line. A line is handed on whole, so that nothing of a later one stands before
+/// it.
 pub fn print_hits<W: Write>(alloc: Global, hits: &[Hit], out: &mut W) -> Result<(), Fault>
-    ensures printed { OnOk result ((printed : List ℕ) × AreLinesOf hits.now printed × Appends (W.contents out.old) (W.contents out.new) printed) }
+    ensures printed { OnOk result ((printed : List ℕ) × AreLines IsLineOf hits.now printed
+        × Appends (W.contents out.old) (W.contents out.new) printed) }
     ensures fault { IfErr result (λ e. (e ≡ CannotWrite) ⊎ (e ≡ OutOfMemory)) }
 {
     for hit in hits {
@@ -27,7 +29,8 @@ pub fn print_hits<W: Write>(alloc: Global, hits: &[Hit], out: &mut W) -> Result<
     }
 }
 
-// The entry's key, then a tab and `name=key` for each binding, in byte order of the names, and a line feed.
+// The entry's key, then a tab and `name=key` for each binding, in byte order of the names, and a
+// line feed.
 fn line_of(alloc: Global, hit: &Hit) -> Result<String, Fault>
     ensures line { IfOk result (λ line. IsLineOf hit.now (string_bytes line)) }
     ensures fault { IsOkUnless result OutOfMemory }

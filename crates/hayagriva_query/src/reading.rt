@@ -8,10 +8,11 @@ use std::alloc::Global;
 use std::io;
 use std::io::Read;
 
-/// All bytes that the reader has left, up to its end. A read that is only interrupted is tried again;
-/// `CannotRead` is any other failed read, and an end that 4294967295 reads don't reach.
+/// All bytes that the reader has left, up to its end. A read that is only interrupted is tried
+/// again; `CannotRead` is any other failed read, and an end that 4294967295 reads don't reach.
 pub fn read_all<R: Read>(alloc: Global, input: &mut R) -> Result<Vec<u8>, Fault>
-    ensures bytes { IfOk result (λ bytes. Consumes (R.remaining input.old) (R.remaining input.new) bytes.items) }
+    ensures bytes { IfOk result
+        (λ bytes. Consumes (R.remaining input.old) (R.remaining input.new) bytes.items) }
     ensures fault { IfErr result (λ e. (e ≡ CannotRead) ⊎ (e ≡ OutOfMemory)) }
     ensures end { OnOk result (IsAtEnd (R.remaining input.new)) }
 {

@@ -1,8 +1,10 @@
 //! The whole program, but for where its words, its input and its output come from.
 ghost use Rattle.std.specs.Prelude.{◌≡◌, ◌≢◌, ◌≤◌, length, slice_get, string_bytes, IfErr, IfSome, IsErrOf, OnOk};
-ghost use Rattle.hayagriva_query.specs.declared.fault.Fault.TheVariants.{Usage};
 ghost use Rattle.std.specs.Io.KnownBytes.{Keeps};
-ghost use Rattle.hayagriva_query.specs.Output.{Answers};
+ghost use Rattle.std.specs.Process.{exit_status};
+ghost use Rattle.hayagriva_query.specs.declared.fault.Fault.TheVariants.{Usage};
+ghost use Rattle.hayagriva_query.specs.Output.{Answers, KeepsAtFault};
+ghost use Rattle.hayagriva_query.specs.Words.{IsStatus, words_of};
 
 use crate::fault::Fault;
 use crate::library_text::read_library;
@@ -11,9 +13,36 @@ use crate::reading::read_all;
 use hayagriva::Steps;
 use std::alloc::Global;
 use std::io::{Read, Write};
+use std::process::ExitCode;
 
-/// Runs the program and answers the status that the process is to end with. `words` are the arguments
-/// without the program's own name. A fault is one line on `err`.
+/// Runs the program over the words that were given, and answers how the process is to end: as `run`
+/// says, or with the fault that there are no words.
+pub fn run_given<R: Read, W: Write, E: Write>(
+    alloc: Global,
+    given: Result<Vec<String>, Fault>,
+    input: &mut R,
+    out: &mut W,
+    err: &mut E,
+) -> ExitCode
+    ensures answer { exit_status result ≡ 0 → IfSome (slice_get (words_of given) 0) (λ word.
+        Answers (string_bytes word) (R.remaining input.old) (R.remaining input.new)
+        (W.contents out.old) (W.contents out.new)) }
+    ensures quiet { exit_status result ≡ 0 → Keeps (E.contents err.old) (E.contents err.new) }
+    ensures status { IsStatus given (exit_status result) }
+    ensures silent { length (words_of given) ≢ 1 → Keeps (W.contents out.old) (W.contents out.new) }
+    ensures unread { length (words_of given) ≢ 1
+        → Keeps (R.remaining input.old) (R.remaining input.new) }
+    ensures kept { IfSome (slice_get (words_of given) 0) (λ word. KeepsAtFault (string_bytes word)
+        (R.remaining input.old) (W.contents out.old) (W.contents out.new)) }
+{
+    match given {
+        Ok(words) => ExitCode::from(run(alloc, words.as_slice(), input, out, err)),
+        Err(fault) => ExitCode::from(complain(&fault, err)),
+    }
+}
+
+/// Runs the program and answers the status that the process is to end with. `words` are the
+/// arguments without the program's own name. A fault is one line on `err`.
 pub fn run<R: Read, W: Write, E: Write>(
     alloc: Global,
     words: &[String],
@@ -22,23 +51,34 @@ pub fn run<R: Read, W: Write, E: Write>(
     err: &mut E,
 ) -> u8
     ensures answer { result ≡ 0 → IfSome (slice_get words.now 0) (λ word.
-        Answers (string_bytes word) (R.remaining input.old) (R.remaining input.new) (W.contents out.old) (W.contents out.new)) }
+        Answers (string_bytes word) (R.remaining input.old) (R.remaining input.new)
+        (W.contents out.old) (W.contents out.new)) }
+    ensures quiet { result ≡ 0 → Keeps (E.contents err.old) (E.contents err.new) }
     ensures usage { length words.now ≢ 1 → result ≡ 2 }
     ensures other { length words.now ≡ 1 → result ≤ 1 }
     ensures silent { length words.now ≢ 1 → Keeps (W.contents out.old) (W.contents out.new) }
     ensures unread { length words.now ≢ 1 → Keeps (R.remaining input.old) (R.remaining input.new) }
+    ensures kept { IfSome (slice_get words.now 0) (λ word. KeepsAtFault (string_bytes word)
+        (R.remaining input.old) (W.contents out.old) (W.contents out.new)) }
 {
     match answer(alloc, words, input, out) {
         Ok(()) => 0,
-        Err(fault) => {
-            // Where this fails, the status says it all.
-            let _ = writeln!(err, "{fault}");
-            let _ = err.flush();
-            fault.status()
-        }
+        Err(fault) => complain(&fault, err),
     }
 }
 
+// Tells the fault in one line, and answers the status that it ends with.
+fn complain<E: Write>(fault: &Fault, err: &mut E) -> u8
+    ensures usage { fault.now ≡ Usage → result ≡ 2 }
+    ensures other { fault.now ≢ Usage → result ≡ 1 }
+{
+    // Where this fails, the status says it all.
+    let _ = writeln!(err, "{fault}");
+    let _ = err.flush();
+    fault.status()
+}
+
+// Reads the library, asks it, and prints the hits.
 fn answer<R: Read, W: Write>(
     alloc: Global,
     words: &[String],
@@ -46,11 +86,14 @@ fn answer<R: Read, W: Write>(
     out: &mut W,
 ) -> Result<(), Fault>
     ensures answer { OnOk result (IfSome (slice_get words.now 0) (λ word.
-        Answers (string_bytes word) (R.remaining input.old) (R.remaining input.new) (W.contents out.old) (W.contents out.new))) }
+        Answers (string_bytes word) (R.remaining input.old) (R.remaining input.new)
+        (W.contents out.old) (W.contents out.new))) }
     ensures usage { length words.now ≢ 1 → IsErrOf result Usage }
     ensures other { length words.now ≡ 1 → IfErr result (λ e. e ≢ Usage) }
     ensures silent { length words.now ≢ 1 → Keeps (W.contents out.old) (W.contents out.new) }
     ensures unread { length words.now ≢ 1 → Keeps (R.remaining input.old) (R.remaining input.new) }
+    ensures kept { IfSome (slice_get words.now 0) (λ word. KeepsAtFault (string_bytes word)
+        (R.remaining input.old) (W.contents out.old) (W.contents out.new)) }
 {
     let [selector] = words else {
         return Err(Fault::Usage);

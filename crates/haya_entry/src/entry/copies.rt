@@ -1,6 +1,6 @@
 //! Copies of entries.
 ghost use Rattle.std.specs.Prelude.{◌≡◌, [], IfOk, OnOk};
-ghost use Rattle.haya_entry.specs.Tree.{view, fields, with_fields, with_parents, with_texts_of, with_rest_of};
+ghost use Rattle.haya_entry.specs.Tree.{Sets, view, fields, with_parents, with_texts_of, with_rest_of};
 
 use crate::Entry;
 use haya_text::{OutOfMemory, TryClone};
@@ -11,7 +11,7 @@ impl Entry {
     pub fn try_clone(&self, alloc: Global) -> Result<Entry, OutOfMemory>
         ensures { IfOk result (λ copy. view copy ≡ view self.now) }
     {
-        let mut parents = Vec::new(alloc);
+        let mut parents = Vec::with_capacity(alloc, self.parents.len())?;
         for parent in &self.parents {
             parents.push(parent.try_clone(alloc)?)?;
         }
@@ -31,7 +31,7 @@ impl Entry {
 
     // Takes the fields that are texts over from another entry.
     fn copy_texts(&mut self, alloc: Global, from: &Entry) -> Result<(), OutOfMemory>
-        ensures { OnOk result (view self.new ≡ with_fields (with_texts_of (fields (view from.now))) (view self.old)) }
+        ensures { OnOk result (Sets self.old self.new (with_texts_of (fields (view from.now)))) }
     {
         self.title = from.title.try_clone(alloc)?;
         self.location = from.location.try_clone(alloc)?;
@@ -47,8 +47,14 @@ impl Entry {
 
     // Takes the other fields over.
     fn copy_rest(&mut self, alloc: Global, from: &Entry) -> Result<(), OutOfMemory>
-        ensures { OnOk result (view self.new ≡ with_fields (with_rest_of (fields (view from.now))) (view self.old)) }
+        ensures { OnOk result (Sets self.old self.new (with_rest_of (fields (view from.now)))) }
     {
+        self.authors = from.authors.try_clone(alloc)?;
+        self.editors = from.editors.try_clone(alloc)?;
+        self.affiliated = from.affiliated.try_clone(alloc)?;
+        self.date = from.date;
+        self.volume_total = from.volume_total.try_clone(alloc)?;
+        self.page_total = from.page_total.try_clone(alloc)?;
         self.language = from.language.try_clone(alloc)?;
         self.serial_number = from.serial_number.try_clone(alloc)?;
         Ok(())

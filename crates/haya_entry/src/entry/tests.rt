@@ -1,7 +1,10 @@
-//! What each call gives back where there is memory. A refused allocation ends a test, and each entry is let go by
-//! a call: so no test has a path on which it has to drop entries, and the proof stays short.
+//! What each call gives back where there is memory. An allocation that fails ends a test, and each entry is dropped
+//! by a call: so no test has a path on which it has to drop entries, which is expensive to prove.
 use crate::{Entry, EntryType, SerialNumber};
-use haya_text::{FormatString, OutOfMemory, TryClone};
+use haya_numbers::Numeric;
+use haya_people::{Person, PersonRole, PersonsWithRoles};
+use haya_text::{FormatString, OutOfMemory, ReadText, TryClone};
+use haya_time::Date;
 use std::alloc::Global;
 use std::collections::BTreeMap;
 use std::process::Abort;
@@ -17,6 +20,12 @@ const TEXTS: &[&str] = &[
     "note",
     "abstract",
     "genre",
+    "author",
+    "editor",
+    "affiliated",
+    "date",
+    "volume-total",
+    "page-total",
     "language",
     "serial-number",
     "doi",
@@ -290,4 +299,69 @@ fn is_equal_to_its_copy_alone(rt: HostRuntime) {
     drop(copy);
     drop(there);
     drop(here);
+}
+
+fn people(rt: &(impl Abort + AllocGlobal), text: &str) -> Vec<Person> {
+    let person: Result<Person, _> = ReadText::from_str(rt.alloc(), text);
+    let mut people = Vec::new(rt.alloc());
+    people
+        .push(person.expect(rt, "a person"))
+        .expect(rt, "memory");
+    people
+}
+
+fn translators(rt: &(impl Abort + AllocGlobal), text: &str) -> Vec<PersonsWithRoles> {
+    let mut lists = Vec::new(rt.alloc());
+    lists
+        .push(PersonsWithRoles::new(people(rt, text), PersonRole::Translator))
+        .expect(rt, "memory");
+    lists
+}
+
+// A book with people of three parts, and the first author's name.
+fn with_people(rt: &(impl Abort + AllocGlobal)) -> Entry {
+    let mut entry = entry(rt, "key", EntryType::Book);
+    entry.set_authors(people(rt, "Doe, Jane"));
+    entry.set_editors(people(rt, "van Dissmer, Courtney"));
+    entry.set_affiliated(translators(rt, "Kwan, Kevin"));
+    entry
+}
+
+fn names_person(found: Option<&[Person]>, name: &str) -> bool {
+    match found {
+        Some(people) => people.iter().any(|person| person.name.as_str() == name),
+        None => false,
+    }
+}
+
+#[test]
+fn gets_the_people_that_were_set(rt: HostRuntime) {
+    let entry = with_people(&rt);
+    assert!(rt; has_names(&rt, &entry, "author editor affiliated "));
+    assert!(rt; names_person(entry.authors(), "Doe"));
+    assert!(rt; names_person(entry.editors(), "Dissmer"));
+    assert!(rt; matches!(entry.affiliated(), Some(lists) if lists.len() == 1));
+    let copy = entry.try_clone(rt.alloc()).expect(&rt, "memory");
+    assert!(rt; copy == entry);
+    drop(copy);
+    drop(entry);
+}
+
+#[test]
+fn gets_the_date_and_the_totals_that_were_set(rt: HostRuntime) {
+    let mut entry = entry(&rt, "key", EntryType::Book);
+    entry.set_date(Date::from_year(1987));
+    entry.set_volume_total(Numeric::new(3));
+    assert!(rt; has_names(&rt, &entry, "date volume-total "));
+    entry.set_page_total(Numeric::new(500));
+    assert!(rt; has_names(&rt, &entry, "date volume-total page-total "));
+    assert!(rt; entry.date() == Some(&Date::from_year(1987)));
+    assert!(rt; entry.volume_total() == Some(&Numeric::new(3)));
+    assert!(rt; entry.page_total() == Some(&Numeric::new(500)));
+    let copy = entry.try_clone(rt.alloc()).expect(&rt, "memory");
+    assert!(rt; copy == entry);
+    entry.set_date(Date::from_year(1988));
+    assert!(rt; copy != entry);
+    drop(copy);
+    drop(entry);
 }

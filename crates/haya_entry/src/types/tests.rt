@@ -1,3 +1,4 @@
+//! Types by their names.
 use crate::{EntryType, UnknownType};
 use std::process::Abort;
 use std::str::FromStr;

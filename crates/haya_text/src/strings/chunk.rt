@@ -1,5 +1,6 @@
-ghost use Rattle.std.specs.Prelude.{◌≡◌, ◌++◌, ◌↔◌, [], length, string_bytes, IfOk, IsOk, IsTrue, OnErr};
-ghost use Rattle.haya_text.specs.Chunks.{Chunk, chunk_view};
+//! A chunk of a text, which has one kind.
+ghost use Rattle.std.specs.Prelude.{◌≡◌, ◌↔◌, [], length, string_bytes, IfOk, IsOk, IsTrue, OnErr};
+ghost use Rattle.haya_text.specs.Chunks.{AppendsText, Chunk, chunk_view};
 
 use crate::{ChunkKind, OutOfMemory, TryClone};
 use std::alloc::Global;
@@ -8,7 +9,9 @@ use std::fmt;
 /// A chunk of a text: its characters, and what they are for.
 #[derive(Debug, Drop, PartialEq, Eq, Hash)]
 pub struct StringChunk {
+    /// The text of the chunk.
     pub value: String,
+    /// What it is for.
     pub kind: ChunkKind,
 }
 
@@ -84,11 +87,12 @@ impl TryClone for StringChunk {
 }
 
 impl fmt::Write for StringChunk {
-    ghost write_str_gives = { λ old text new. chunk_view new ≡ (string_bytes old.value ++ text, old.kind) };
+    ghost write_str_gives = { AppendsText };
 
-    /// Appends a text and keeps the kind. Fails where memory is refused, and then nothing changes.
+    /// Appends a text and keeps the kind. Fails where an allocation fails, and then nothing
+    /// changes.
     fn write_str(&mut self, text: &str) -> fmt::Result
-        ensures ok { IsOk result → chunk_view self.new ≡ (string_bytes self.old.value ++ text.now, self.old.kind) }
+        ensures ok { IsOk result → AppendsText self.old text.now self.new }
         ensures err { OnErr result (chunk_view self.new ≡ chunk_view self.old) }
     {
         match self.value.push_str(text) {

@@ -1,7 +1,8 @@
+//! Texts in chunks, and what is appended to them.
 ghost use Rattle.std.specs.Prelude.{◌≡◌, ◌↔◌, ◌++◌, List, [], ◌∷◌, All, length, min, sum_by, string_bytes, IfOk, IsOk, IsTrue, OnOk, OnErr};
 ghost use Rattle.std.specs.Char.{encode_utf8};
 ghost use Rattle.std.specs.Str.{chars};
-ghost use Rattle.haya_text.specs.Chunks.{Chunk, chunk_view, chunks, characters, marked, plain_text, ends_in, grown, pushed};
+ghost use Rattle.haya_text.specs.Chunks.{Chunk, Appends, chunk_view, chunks, characters_of_kind, plain_text, ends_in, grow_last, push_str};
 
 use crate::{ChunkKind, OutOfMemory, StringChunk, TryClone};
 use std::alloc::Global;
@@ -9,7 +10,10 @@ use std::fmt;
 
 /// A text in chunks, in order.
 #[derive(Debug, Drop, PartialEq, Eq, Hash)]
-pub struct ChunkedString(pub Vec<StringChunk>);
+pub struct ChunkedString(
+    /// The chunks, in order.
+    pub Vec<StringChunk>,
+);
 
 impl ChunkedString {
     /// The text without chunks.
@@ -35,11 +39,12 @@ impl ChunkedString {
         Ok(text)
     }
 
-    /// Appends a text: to the last chunk where that is of this kind, else as a new chunk, which may be
-    /// empty. Where memory is refused nothing changes.
+    /// Appends a text: to the last chunk where that is of this kind, else as a new chunk, which may
+    /// be empty. Where an allocation fails nothing changes.
     pub fn push_str(&mut self, text: &str, kind: ChunkKind) -> Result<(), OutOfMemory>
-        ensures ok { OnOk result (chunks self.new ≡ pushed (chunks self.old) text.now kind) }
-        ensures grows { OnOk result (characters (chunks self.new) ≡ characters (chunks self.old) ++ marked kind (chars text.now)) }
+        ensures ok { OnOk result (chunks self.new ≡ push_str (chunks self.old) text.now kind) }
+        ensures grows { OnOk result
+            (Appends (characters_of_kind kind (chars text.now)) self.old self.new) }
         ensures err { OnErr result (chunks self.new ≡ chunks self.old) }
     {
         if self.ends_in(kind) {
@@ -59,7 +64,7 @@ impl ChunkedString {
     }
 
     fn grow_last(&mut self, text: &str) -> Result<(), OutOfMemory>
-        ensures ok { OnOk result (chunks self.new ≡ grown (chunks self.old) text.now) }
+        ensures ok { OnOk result (chunks self.new ≡ grow_last (chunks self.old) text.now) }
         ensures err { OnErr result (chunks self.new ≡ chunks self.old) }
     {
         if let Some(last) = self.0.last_mut() {
@@ -70,15 +75,16 @@ impl ChunkedString {
 
     /// Appends a character as `push_str` appends a text.
     pub fn push_char(&mut self, c: char, kind: ChunkKind) -> Result<(), OutOfMemory>
-        ensures ok { OnOk result (chunks self.new ≡ pushed (chunks self.old) (encode_utf8 c) kind) }
-        ensures grows { OnOk result (characters (chunks self.new) ≡ characters (chunks self.old) ++ (c, kind) ∷ []) }
+        ensures ok { OnOk result
+            (chunks self.new ≡ push_str (chunks self.old) (encode_utf8 c) kind) }
+        ensures grows { OnOk result (Appends ((c, kind) ∷ []) self.old self.new) }
         ensures err { OnErr result (chunks self.new ≡ chunks self.old) }
     {
         let mut buffer = [0u8; 4];
         self.push_str(c.encode_utf8(&mut buffer), kind)
     }
 
-    /// Appends a chunk as it is: it joins no other. Where memory is refused nothing changes.
+    /// Appends a chunk as it is: it joins no other. Where an allocation fails nothing changes.
     pub fn push_chunk(&mut self, chunk: StringChunk) -> Result<(), OutOfMemory>
         ensures ok { OnOk result (chunks self.new ≡ chunks self.old ++ chunk_view chunk ∷ []) }
         ensures err { OnErr result (chunks self.new ≡ chunks self.old) }
@@ -87,8 +93,8 @@ impl ChunkedString {
         Ok(())
     }
 
-    /// Appends the chunks of another text as they are: none joins another. Where memory is refused
-    /// nothing changes.
+    /// Appends the chunks of another text as they are: none joins another. Where an allocation
+    /// fails nothing changes.
     pub fn extend(&mut self, other: ChunkedString) -> Result<(), OutOfMemory>
         ensures ok { OnOk result (chunks self.new ≡ chunks self.old ++ chunks other) }
         ensures err { OnErr result (chunks self.new ≡ chunks self.old) }
@@ -142,11 +148,11 @@ impl TryClone for ChunkedString {
 impl fmt::Write for ChunkedString {
     ghost use Rattle.haya_text.specs.declared.strings.kind.ChunkKind.TheVariants.{Normal};
 
-    ghost write_str_gives = { λ old text new. chunks new ≡ pushed (chunks old) text Normal };
+    ghost write_str_gives = { λ old text new. chunks new ≡ push_str (chunks old) text Normal };
 
-    /// Pushes a plain text. Fails where memory is refused, and then nothing changes.
+    /// Pushes a plain text. Fails where an allocation fails, and then nothing changes.
     fn write_str(&mut self, text: &str) -> fmt::Result
-        ensures ok { IsOk result → chunks self.new ≡ pushed (chunks self.old) text.now Normal }
+        ensures ok { IsOk result → chunks self.new ≡ push_str (chunks self.old) text.now Normal }
         ensures err { OnErr result (chunks self.new ≡ chunks self.old) }
     {
         match self.push_str(text, ChunkKind::Normal) {

@@ -1,3 +1,4 @@
+//! Texts without math, whose case may be folded.
 ghost use Rattle.std.specs.Prelude.{◌≡◌, ◌≤◌, List, [], false, length, map, vec_capacity, IfOk, MatchResult};
 ghost use Rattle.std.specs.List.{list_any};
 ghost use denote.Enum.Bare.{sameb};
@@ -11,13 +12,18 @@ use std::alloc::Global;
 /// A chunk whose case may be folded: no math.
 #[derive(Debug, Drop, PartialEq, Eq, Hash)]
 pub struct FoldableStringChunk {
+    /// The text of the chunk.
     pub value: String,
+    /// What it is for.
     pub kind: FoldableKind,
 }
 
 /// A text in chunks, in order, without math.
 #[derive(Debug, Drop, PartialEq, Eq, Hash)]
-pub struct FoldableChunkedString(pub Vec<FoldableStringChunk>);
+pub struct FoldableChunkedString(
+    /// The chunks, in order.
+    pub Vec<FoldableStringChunk>,
+);
 
 /// Why a text was not taken over into one without math. The text is handed back as it was.
 #[derive(Debug, Drop, PartialEq, Eq)]
@@ -89,14 +95,15 @@ impl FoldableChunkedString {
         FoldableChunkedString(Vec::new(alloc))
     }
 
-    /// The same chunks, in order. A text with math is refused before any growth; a text that is refused
-    /// is handed back as it was.
+    /// The same chunks, in order. A text with math is refused before anything is allocated. A text
+    /// that is refused is handed back as it was.
     #[tactic(auto, using(crate::proofs::Folds::has_math_items))]
     pub fn try_from_chunked(
         alloc: Global,
         text: ChunkedString,
     ) -> Result<FoldableChunkedString, FoldError>
-        ensures { MatchResult result (λ folded. foldable_chunks folded ≡ chunks text) (RefusesFold text) }
+        ensures { MatchResult result
+            (λ folded. foldable_chunks folded ≡ chunks text) (RefusesFold text) }
     {
         if has_math(&text.0) {
             return Err(FoldError::Math(text));
@@ -126,12 +133,14 @@ impl TryClone for FoldableChunkedString {
 }
 
 impl ChunkedString {
-    /// The same chunks, in order. Where memory is refused the text is handed back as it was.
+    /// The same chunks, in order. Where an allocation fails the text is handed back as it was.
     pub fn from_foldable(
         alloc: Global,
         text: FoldableChunkedString,
     ) -> Result<ChunkedString, FoldableChunkedString>
-        ensures { MatchResult result (λ unfolded. chunks unfolded ≡ foldable_chunks text) (λ back. foldable_chunks back ≡ foldable_chunks text) }
+        ensures { MatchResult result
+            (λ unfolded. chunks unfolded ≡ foldable_chunks text)
+            (λ back. foldable_chunks back ≡ foldable_chunks text) }
     {
         match Vec::with_capacity(alloc, text.0.len()) {
             Ok(room) => Ok(unfold_all(text.0, room)),

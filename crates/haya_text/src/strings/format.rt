@@ -1,9 +1,9 @@
+//! Texts with a long form and perhaps a short one.
 ghost use Rattle.std.specs.Prelude.{◌≡◌, [], ◌∷◌, None, Some, string_bytes, IfOk};
 ghost use Rattle.std.specs.Fmt.{DisplaysOnOk};
-ghost use Rattle.haya_text.specs.Chunks.{chunk_view, chunks, plain_text};
-ghost use Rattle.haya_text.specs.Printed.{shown};
-ghost use Rattle.haya_text.specs.declared.strings.format.LongShortForm.TheVariants.{Short};
-ghost use Rattle.haya_text.specs.Texts.{TextView, text_view, selected, without_short};
+ghost use Rattle.haya_text.specs.Chunks.{chunk_view, chunks};
+ghost use Rattle.haya_text.specs.Printing.{text_display};
+ghost use Rattle.haya_text.specs.Texts.{TextView, text_view, plain_view, select, short_display, with_short, without_short};
 
 use crate::{ChunkedReadError, ChunkedString, OutOfMemory, ReadText, StringChunk, TryClone};
 use std::alloc::Global;
@@ -12,14 +12,18 @@ use std::fmt;
 /// Which form of a text is wanted.
 #[derive(Clone, Copy, Debug, PartialEq, Eq, Hash)]
 pub enum LongShortForm {
+    /// The form without cuts.
     Long,
+    /// The short form, or the long one where there is none.
     Short,
 }
 
 /// A text in its long form, and perhaps a short one.
 #[derive(Debug, Drop, PartialEq, Eq, Hash)]
 pub struct FormatString {
+    /// The long form.
     pub value: ChunkedString,
+    /// The short form, if there is one.
     pub short: Option<Box<ChunkedString>>,
 }
 
@@ -36,7 +40,7 @@ impl FormatString {
 
     /// One chunk of plain text, without a short form. Nothing in it is read as a sign.
     pub fn with_value(alloc: Global, value: String) -> Result<FormatString, OutOfMemory>
-        ensures { IfOk result (λ text. text_view text ≡ without_short (plain_text (string_bytes value))) }
+        ensures { IfOk result (λ text. text_view text ≡ plain_view (string_bytes value)) }
     {
         Ok(FormatString {
             value: ChunkedString::from_string(alloc, value)?,
@@ -50,7 +54,8 @@ impl FormatString {
         value: String,
         short: String,
     ) -> Result<FormatString, OutOfMemory>
-        ensures { IfOk result (λ text. text_view text ≡ record { value = plain_text (string_bytes value); short = Some (plain_text (string_bytes short)) }) }
+        ensures { IfOk result
+            (λ text. text_view text ≡ with_short (string_bytes value) (string_bytes short)) }
     {
         let value = ChunkedString::from_string(alloc, value)?;
         let short = ChunkedString::from_string(alloc, short)?;
@@ -62,7 +67,7 @@ impl FormatString {
 
     /// The same as `with_value`.
     pub fn from_string(alloc: Global, value: String) -> Result<FormatString, OutOfMemory>
-        ensures { IfOk result (λ text. text_view text ≡ without_short (plain_text (string_bytes value))) }
+        ensures { IfOk result (λ text. text_view text ≡ plain_view (string_bytes value)) }
     {
         FormatString::with_value(alloc, value)
     }
@@ -79,7 +84,7 @@ impl FormatString {
 
     /// The form that is wanted. The long one stands in for a missing short one.
     pub fn select(&self, form: LongShortForm) -> &ChunkedString
-        ensures { chunks result.now ≡ selected form (text_view self.now) }
+        ensures { chunks result.now ≡ select form (text_view self.now) }
     {
         match (form, &self.short) {
             (LongShortForm::Short, Some(short)) => short,
@@ -87,10 +92,11 @@ impl FormatString {
         }
     }
 
-    /// Writes the short form as Display writes the long one. The long one stands in for a missing short
-    /// one, and the writer's fault ends the call.
+    /// Writes the short form as Display writes the long one. The long one stands in for a missing
+    /// short one, and the writer's fault ends the call.
     pub fn fmt_short<W: fmt::Write>(&self, f: &mut fmt::Formatter<W>) -> fmt::Result
-        ensures { DisplaysOnOk W.write_str_gives f.old result (Some (shown (selected Short (text_view self.now)))) f.new }
+        ensures { DisplaysOnOk W.write_str_gives
+            f.old result (Some (short_display (text_view self.now))) f.new }
     {
         write!(f, "{}", self.select(LongShortForm::Short))
     }
@@ -107,7 +113,7 @@ impl FormatString {
 }
 
 impl fmt::Display for FormatString {
-    ghost output = { λ text. Some (shown (chunks text.value)) };
+    ghost output = { λ text. Some (text_display (chunks text.value)) };
 
     /// The long form.
     fn fmt<W: fmt::Write>(&self, f: &mut fmt::Formatter<W>) -> fmt::Result {
@@ -118,21 +124,21 @@ impl fmt::Display for FormatString {
 impl ReadText for FormatString {
     type Fault = ChunkedReadError;
 
-    ghost use Rattle.std.specs.Prelude.{◌≡◌, false, Some, None, option_map, IfOk, IfErr};
+    ghost use Rattle.std.specs.Prelude.{◌≡◌, false, Some, None, IfOk, IfErr};
     ghost use Rattle.haya_text.specs.Grammar.{ReadsAs};
-    ghost use Rattle.haya_text.specs.Reading.{chunks_read, is_memory, IsRefusal};
-    ghost use Rattle.haya_text.specs.Texts.{TextView, text_view, without_short};
+    ghost use Rattle.haya_text.specs.Reading.{is_out_of_memory, IsRefusal};
+    ghost use Rattle.haya_text.specs.Texts.{TextView, text_read, text_view};
 
     ghost Value = { TextView };
 
     ghost value = { text_view };
 
-    ghost reads = { λ text. option_map without_short (chunks_read text) };
+    ghost reads = { text_read };
 
     /// The long form, read as `ChunkedString` reads it, without a short one.
     fn from_str(alloc: Global, text: &str) -> Result<FormatString, ChunkedReadError>
-        ensures ok { IfOk result (λ v. option_map without_short (chunks_read text.now) ≡ Some (text_view v)) }
-        ensures fault { IfErr result (λ e. is_memory e ≡ false → option_map without_short (chunks_read text.now) ≡ None) }
+        ensures ok { IfOk result (λ v. text_read text.now ≡ Some (text_view v)) }
+        ensures fault { IfErr result (λ e. is_out_of_memory e ≡ false → text_read text.now ≡ None) }
         ensures grammar { IfOk result (λ v. ReadsAs text.now (chunks v.value)) }
         ensures refused { IfErr result (IsRefusal text.now) }
     {

@@ -1,3 +1,4 @@
+//! What a chunk is for.
 ghost use Rattle.std.specs.Prelude.{◌≡◌};
 
 /// What a chunk of a text is for.

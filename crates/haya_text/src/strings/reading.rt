@@ -1,9 +1,10 @@
+//! How texts are read, mark by mark.
 ghost use Rattle.std.specs.Prelude.{◌≡◌, ◌+◌, ◌^◌, ◌<◌, ◌≤◌, [], ◌∷◌, ℕ, List, Bool, true, false, Ok, Err, Option, Some, None, length, IfOk, IfErr, IfSome, MatchOption, MatchResult, OnOk};
 ghost use Rattle.haya_text.specs.Chunks.{chunks, characters};
 ghost use Rattle.haya_text.specs.Cursor.{text_len};
 ghost use Rattle.haya_text.specs.Normal.{norm};
-ghost use Rattle.haya_text.specs.Marks.{told, standing, Refuses};
-ghost use Rattle.haya_text.specs.Reading.{kind_in, after_these, scan, chunks_read, IsRefusal};
+ghost use Rattle.haya_text.specs.Marks.{scan_of_mark, IsInRuns, Refuses, TakesMark, TakesPlain};
+ghost use Rattle.haya_text.specs.Reading.{kind_in, result_after, scan, chunks_read, IsRefusal};
 ghost use Rattle.haya_text.specs.declared.strings.reading.Mark.TheVariants.{Close};
 
 use super::printing::is_control;
@@ -14,7 +15,7 @@ use thiserror::Error;
 
 /// A closing brace in a text where no group is open.
 #[derive(Clone, Copy, Debug, PartialEq, Eq, Error)]
-#[error("unmatched closing brace at byte {position}")]
+#[error("unmatched closing brace at position {position}")]
 pub struct ChunkedStrParseError {
     position: usize,
 }
@@ -33,8 +34,10 @@ impl ChunkedStrParseError {
 /// Why a text was not read as a chunked one.
 #[derive(Clone, Copy, Debug, PartialEq, Eq, Error)]
 pub enum ChunkedReadError {
+    /// A closing brace where no group is open.
     #[error("{0}")]
     Parse(ChunkedStrParseError),
+    /// An allocation failed, which says nothing of the text.
     #[error("out of memory")]
     OutOfMemory,
 }
@@ -51,9 +54,9 @@ impl From<OutOfMemory> for ChunkedReadError {
 }
 
 impl ReadFault for ChunkedReadError {
-    ghost use Rattle.haya_text.specs.Reading.{is_memory};
+    ghost use Rattle.haya_text.specs.Reading.{is_out_of_memory};
 
-    ghost out_of_memory = { is_memory };
+    ghost out_of_memory = { is_out_of_memory };
 
     fn is_out_of_memory(&self) -> bool {
         matches!(self, ChunkedReadError::OutOfMemory)
@@ -66,7 +69,7 @@ impl ReadText for ChunkedString {
     ghost use Rattle.std.specs.Prelude.{◌≡◌, List, false, Some, None, IfOk, IfErr};
     ghost use Rattle.haya_text.specs.Chunks.{Chunk, chunks};
     ghost use Rattle.haya_text.specs.Grammar.{ReadsAs};
-    ghost use Rattle.haya_text.specs.Reading.{chunks_read, is_memory, IsRefusal};
+    ghost use Rattle.haya_text.specs.Reading.{chunks_read, is_out_of_memory, IsRefusal};
 
     ghost Value = { List Chunk };
 
@@ -74,12 +77,13 @@ impl ReadText for ChunkedString {
 
     ghost reads = { chunks_read };
 
-    /// The text in its chunks: what stands between braces is verbatim, what stands between dollars is
-    /// math, and a backslash before a brace, a dollar or a backslash makes that character plain. Refused
-    /// with its place is a closing brace where no group is open.
+    /// The text in its chunks: what stands between braces is verbatim, what stands between dollars
+    /// is math, and a backslash before a brace, a dollar or a backslash makes that character plain.
+    /// Refused with its place is a closing brace where no group is open.
     fn from_str(alloc: Global, text: &str) -> Result<ChunkedString, ChunkedReadError>
         ensures ok { IfOk result (λ v. chunks_read text.now ≡ Some (chunks v)) }
-        ensures fault { IfErr result (λ e. is_memory e ≡ false → chunks_read text.now ≡ None) }
+        ensures fault { IfErr result
+            (λ e. is_out_of_memory e ≡ false → chunks_read text.now ≡ None) }
         ensures grammar { IfOk result (λ v. ReadsAs text.now (chunks v)) }
         ensures refused { IfErr result (IsRefusal text.now) }
     {
@@ -89,7 +93,8 @@ impl ReadText for ChunkedString {
 
 // Reads mark by mark.
 fn read_chunks(alloc: Global, text: &str) -> Result<ChunkedString, ChunkedReadError>
-    ensures { MatchResult result (λ v. chunks_read text.now ≡ Some (chunks v)) (IsRefusal text.now) }
+    ensures { MatchResult result
+        (λ v. chunks_read text.now ≡ Some (chunks v)) (IsRefusal text.now) }
 {
     let mut reader = Reader {
         read: ChunkedString::new(alloc),
@@ -126,8 +131,9 @@ impl Reader {
     // Takes the mark at this place.
     fn take(&mut self, mark: Mark, place: usize) -> Result<(), ChunkedReadError>
         requires { self.old.depth + 1 < 2 ^ 64 }
-        ensures told { MatchResult result (λ _. (rest : List ℕ) → after_these (characters (chunks self.old.read)) (told self.old.depth self.old.math mark rest) ≡ standing self.new rest) (Refuses place self.old mark) }
-        ensures normal { chunks self.old.read ≡ norm (chunks self.old.read) → OnOk result (chunks self.new.read ≡ norm (chunks self.new.read)) }
+        ensures reads { MatchResult result
+            (λ _. TakesMark self.old mark self.new) (Refuses place self.old mark) }
+        ensures normal { IsInRuns self.old → OnOk result (IsInRuns self.new) }
         ensures depth { self.new.depth ≤ self.old.depth + 1 }
     {
         match mark {
@@ -152,8 +158,8 @@ impl Reader {
 
     // Appends a character that stands for itself here.
     fn push(&mut self, c: char) -> Result<(), ChunkedReadError>
-        ensures told { OnOk result ((rest : List ℕ) → after_these (characters (chunks self.old.read)) (after_these ((c, kind_in self.old.depth self.old.math) ∷ []) (scan self.old.depth self.old.math false rest)) ≡ standing self.new rest) }
-        ensures normal { chunks self.old.read ≡ norm (chunks self.old.read) → OnOk result (chunks self.new.read ≡ norm (chunks self.new.read)) }
+        ensures reads { OnOk result (TakesPlain self.old c self.new) }
+        ensures normal { IsInRuns self.old → OnOk result (IsInRuns self.new) }
         ensures depth { self.new.depth ≡ self.old.depth }
         ensures fault { IfErr result (λ e. e ≡ ChunkedReadError.OutOfMemory) }
     {
@@ -178,7 +184,9 @@ impl Reader {
 
 // Takes the next mark. A backslash stands for itself where no control character follows it.
 fn next_mark(cursor: &mut Cursor) -> Option<Mark>
-    ensures told { (depth : ℕ) (math : Bool) → MatchOption result (scan depth math false cursor.old.rest ≡ Ok []) (λ m. scan depth math false cursor.old.rest ≡ told depth math m cursor.new.rest) }
+    ensures reads { (depth : ℕ) (math : Bool) → MatchOption result
+        (scan depth math false cursor.old.rest ≡ Ok [])
+        (λ m. scan depth math false cursor.old.rest ≡ scan_of_mark depth math m cursor.new.rest) }
     ensures forward { IfSome result (λ m. cursor.old.place < cursor.new.place) }
     ensures closing { result ≡ Some Close → cursor.new.place ≡ cursor.old.place + 1 }
     ensures same_text { text_len cursor.new ≡ text_len cursor.old }
@@ -192,10 +200,12 @@ fn next_mark(cursor: &mut Cursor) -> Option<Mark>
     }
 }
 
-// The character that a backslash before this place stands for: the control character that follows, which
-// is taken, or else itself.
+// The character that a backslash before this place stands for: the control character that follows,
+// which is taken, or else itself.
 fn escaped(cursor: &mut Cursor) -> char
-    ensures told { (depth : ℕ) (math : Bool) → scan depth math true cursor.old.rest ≡ after_these ((result, kind_in depth math) ∷ []) (scan depth math false cursor.new.rest) }
+    ensures reads { (depth : ℕ) (math : Bool) → scan depth math true cursor.old.rest
+        ≡ result_after
+        ((result, kind_in depth math) ∷ []) (scan depth math false cursor.new.rest) }
     ensures forward { cursor.old.place ≤ cursor.new.place }
     ensures same_text { text_len cursor.new ≡ text_len cursor.old }
 {

@@ -1,5 +1,6 @@
-//! What each call gives back where there is memory. A refused allocation ends a test, and what is owned is let go by
-//! a call: so no test has a path on which it has to drop texts, and its proof stays short.
+//! What each call gives back where there is memory. A failed allocation ends a test, and what is
+//! owned is let go by a call: so no test has a path on which it has to drop texts, and its proof
+//! stays short.
 ghost use Rattle.std.specs.Prelude.{◌≡◌, option_map, IfOk};
 
 use super::ChunkKind::{Math, Normal, Verbatim};
@@ -103,7 +104,9 @@ fn a_closing_brace_is_refused(rt: HostRuntime) {
         panic!(rt; "a closing brace is read")
     };
     assert_eq!(rt; brace.position(), 1);
-    assert!(rt; !ChunkedReadError::Parse(brace).is_out_of_memory());
+    let fault = ChunkedReadError::Parse(brace);
+    assert!(rt; !fault.is_out_of_memory());
+    assert!(rt; is_shown(&rt, &fault, "unmatched closing brace at position 1"));
     assert!(rt; ChunkedReadError::OutOfMemory.is_out_of_memory());
 }
 
@@ -129,6 +132,7 @@ fn a_text_is_extended(rt: HostRuntime) {
     text.extend(more).expect(&rt, "memory");
     text.write_str("d").expect(&rt, "memory");
     text.write_str("e").expect(&rt, "memory");
+    text.write_str("").expect(&rt, "memory");
     let all = [("c", Normal), ("é", Normal), ("x", Math), ("de", Normal)];
     assert!(rt; has(&rt, &text, &all));
     let copy = text.try_clone(rt.alloc()).expect(&rt, "memory");
@@ -194,6 +198,7 @@ fn texts_are_shown(rt: HostRuntime) {
 fn one_chunk(rt: HostRuntime) {
     let mut chunk = StringChunk::verbatim(string(&rt, "a"));
     chunk.write_str("{").expect(&rt, "memory");
+    chunk.write_str("").expect(&rt, "memory");
     assert_eq!(rt;
         (chunk.as_str(), chunk.len(), chunk.is_empty()),
         ("a{", 2, false)
@@ -356,6 +361,94 @@ fn forms_of_math(rt: HostRuntime) {
     drop(value);
     drop(read);
     assert!(rt; FormatString::from_str(rt.alloc(), "}").is_err());
+}
+
+// How often a piece is repeated in a long text.
+const MANY: usize = 70_000;
+
+fn repeated(rt: &(impl Abort + AllocGlobal), piece: &str) -> String {
+    let mut text = String::new(rt.alloc());
+    for _ in 0..MANY {
+        text.push_str(piece).expect(rt, "memory");
+    }
+    text
+}
+
+// Many chunks, each of another kind than the one before it.
+fn many_chunks(rt: &(impl Abort + AllocGlobal)) -> ChunkedString {
+    let mut text = ChunkedString::new(rt.alloc());
+    for _ in 0..MANY {
+        text.push_str("a{", Normal).expect(rt, "memory");
+        text.push_char('é', Verbatim).expect(rt, "memory");
+    }
+    text
+}
+
+// Whether the text is serialized as so many repetitions of the piece.
+fn repeats(rt: &(impl Abort + AllocGlobal), text: &ChunkedString, piece: &str) -> bool {
+    let wanted = repeated(rt, piece);
+    let same = is_serialized(rt, text, wanted.as_str());
+    drop(wanted);
+    same
+}
+
+#[test]
+fn texts_of_many_chunks(rt: HostRuntime) {
+    let text = many_chunks(&rt);
+    assert_eq!(rt; (text.0.len(), text.len()), (2 * MANY, 4 * MANY));
+    assert!(rt; repeats(&rt, &text, "a\\{{é}"));
+    let shown = repeated(&rt, "a{é");
+    assert!(rt; is_shown(&rt, &text, shown.as_str()));
+    assert!(rt;
+        is_written(
+            &rt,
+            &text,
+            repeated(&rt, "a\\{{é}").as_str(),
+            shown.as_str()
+        )
+    );
+    drop(shown);
+    let folded = FoldableChunkedString::try_from_chunked(rt.alloc(), text).expect(&rt, "no math");
+    let copy = folded.try_clone(rt.alloc()).expect(&rt, "memory");
+    assert!(rt; copy == folded);
+    drop(copy);
+    let mut twice = ChunkedString::from_foldable(rt.alloc(), folded).expect(&rt, "memory");
+    let copy = twice.try_clone(rt.alloc()).expect(&rt, "memory");
+    assert!(rt; copy == twice);
+    twice.extend(copy).expect(&rt, "memory");
+    assert!(rt; repeats(&rt, &twice, "a\\{{é}a\\{{é}"));
+    drop(twice);
+}
+
+#[test]
+fn long_texts_are_read(rt: HostRuntime) {
+    let serialized = repeated(&rt, "a\\{{é}");
+    let read = FormatString::from_str(rt.alloc(), serialized.as_str()).expect(&rt, "a text");
+    drop(serialized);
+    assert!(rt; repeats(&rt, &read.value, "a\\{{é}"));
+    drop(read);
+}
+
+#[test]
+fn long_chunks(rt: HostRuntime) {
+    let (long, short) = (repeated(&rt, "é{"), repeated(&rt, "$"));
+    let text = FormatString::with_short(rt.alloc(), long, short).expect(&rt, "memory");
+    let copy = text.try_clone(rt.alloc()).expect(&rt, "memory");
+    assert!(rt; copy == text);
+    drop(text);
+    assert!(rt; repeats(&rt, copy.select(LongShortForm::Short), "\\$"));
+    let mut grown = copy.value;
+    let more = repeated(&rt, "é{");
+    grown.write_str(more.as_str()).expect(&rt, "memory");
+    drop(more);
+    assert!(rt; grown.0.len() == 1 && repeats(&rt, &grown, "é\\{é\\{"));
+    drop(grown);
+    let mut chunk = StringChunk::math(repeated(&rt, "x"));
+    chunk.write_str("y").expect(&rt, "memory");
+    let copy = chunk.try_clone(rt.alloc()).expect(&rt, "memory");
+    assert!(rt; copy == chunk && copy.len() == MANY + 1);
+    drop(copy);
+    drop(chunk);
 }
 
 fn read_if_any<T: ReadText>(alloc: Global, text: &str) -> Result<Option<T>, OutOfMemory>

@@ -1,9 +1,11 @@
 //! The iterators of a library. Contracts see each as the list of what it has left.
-ghost use Rattle.std.specs.Prelude.{◌≡◌, map};
+ghost use Rattle.std.specs.Prelude.{◌≡◌, ℕ, List, map};
+ghost use Rattle.std.specs.Coded.{coded_list};
 ghost use Rattle.std.specs.Iterator.{YieldsFirstBy, item_count};
 ghost use Rattle.std.specs.Map.{keys_of};
-ghost use Rattle.haya_entry.specs.Tree.{view};
+ghost use Rattle.haya_entry.specs.Tree.{Tree, view};
 ghost use Rattle.hayagriva.specs.Stored.{entries_of, texts_of};
+ghost use Rattle.hayagriva.specs.TreeCode.{tree_coded};
 
 use haya_entry::Entry;
 use indexmap::map;
@@ -16,12 +18,6 @@ pub struct Entries<'a> {
 }
 
 impl<'a> Model for Entries<'a> {
-    ghost use Rattle.std.specs.Prelude.{List};
-    ghost use Rattle.std.specs.Coded.{coded_list};
-    ghost use Rattle.haya_entry.specs.Tree.{Tree};
-    ghost use Rattle.hayagriva.specs.Stored.{entries_of};
-    ghost use Rattle.hayagriva.specs.TreeCode.{tree_coded};
-
     ghost Value = { List Tree };
 
     ghost coded = { coded_list tree_coded };
@@ -57,9 +53,6 @@ pub struct Keys<'a> {
 }
 
 impl<'a> Model for Keys<'a> {
-    ghost use Rattle.std.specs.Prelude.{List, ℕ};
-    ghost use Rattle.hayagriva.specs.Stored.{texts_of};
-
     ghost Value = { List (List ℕ) };
 
     ghost view = { λ a. texts_of a.rest };
@@ -93,12 +86,6 @@ pub struct IntoEntries {
 }
 
 impl Model for IntoEntries {
-    ghost use Rattle.std.specs.Prelude.{List};
-    ghost use Rattle.std.specs.Coded.{coded_list};
-    ghost use Rattle.haya_entry.specs.Tree.{Tree};
-    ghost use Rattle.hayagriva.specs.Stored.{entries_of};
-    ghost use Rattle.hayagriva.specs.TreeCode.{tree_coded};
-
     ghost Value = { List Tree };
 
     ghost coded = { coded_list tree_coded };

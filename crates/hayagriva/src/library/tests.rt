@@ -1,3 +1,4 @@
+//! Libraries at worked rows.
 use super::*;
 use crate::works;
 use haya_entry::EntryType;

@@ -1,3 +1,4 @@
+//! Queries at worked rows.
 use crate::works::{below, english, entry, string};
 use crate::{Hit, Library, SelectorError};
 use haya_entry::{EntryType, Steps};
@@ -21,27 +22,27 @@ fn small_library(rt: &(impl Abort + AllocGlobal)) -> Library {
 }
 
 // Each hit's key, behind `=` the key of the entry that `j` is bound to, and a blank.
-fn shown(alloc: Global, hits: &[Hit]) -> Result<String, OutOfMemory> {
-    let mut shown = String::new(alloc);
+fn hits_text(alloc: Global, hits: &[Hit]) -> Result<String, OutOfMemory> {
+    let mut text = String::new(alloc);
     for hit in hits {
-        shown.push_str(hit.entry.key())?;
+        text.push_str(hit.entry.key())?;
         if let Some(bound) = hit.bindings.get("j") {
-            shown.push('=')?;
-            shown.push_str(bound.key())?;
+            text.push('=')?;
+            text.push_str(bound.key())?;
         }
-        shown.push(' ')?;
+        text.push(' ')?;
     }
-    Ok(shown)
+    Ok(text)
 }
 
 fn answer(rt: &(impl Abort + AllocGlobal), library: &Library, text: &str) -> String {
     let hits = library
         .query(rt.alloc(), text, &mut Steps::new())
         .expect(rt, "memory");
-    shown(rt.alloc(), hits.as_slice()).expect(rt, "memory")
+    hits_text(rt.alloc(), hits.as_slice()).expect(rt, "memory")
 }
 
-// Selectors, and the hits as they are shown.
+// Selectors, and the text of their hits.
 const ANSWERS: &[(&str, &str)] = &[
     ("*[doi] | *[language]", "paper note "),
     ("article > (j:periodical > w:*[language])", "paper=journal "),
@@ -56,9 +57,25 @@ const ANSWERS: &[(&str, &str)] = &[
 fn answers_in_order(rt: HostRuntime) {
     let library = small_library(&rt);
     for (text, wanted) in ANSWERS {
-        let shown = answer(&rt, &library, *text);
-        assert_eq!(rt; shown.as_str(), *wanted, "{text}");
+        let text_of_hits = answer(&rt, &library, *text);
+        assert_eq!(rt; text_of_hits.as_str(), *wanted, "{text}");
     }
+    drop(library);
+}
+
+#[test]
+fn many_entries(rt: HostRuntime) {
+    let mut library = Library::new(rt.alloc());
+    for number in 0..150 {
+        let key = format!(in rt.alloc(); "{number}").expect(&rt, "memory");
+        let work = english(&rt, key.as_str(), EntryType::Web);
+        library.insert(work).expect(&rt, "memory");
+    }
+    let hits = library
+        .query(rt.alloc(), "*[language]", &mut Steps::new())
+        .expect(&rt, "memory");
+    assert_eq!(rt; hits.len(), 150);
+    drop(hits);
     drop(library);
 }
 
@@ -73,9 +90,37 @@ fn counts_the_calls_of_a_query(rt: HostRuntime) {
             .is_empty()
     );
     assert_eq!(rt; steps.seen(), 4);
-    let refused = library.query(rt.alloc(), "book >", &mut steps);
-    assert!(rt; matches!(refused, Err(SelectorError::MissingValue)));
-    drop(refused);
+    let fault = library.query(rt.alloc(), "book[", &mut steps);
+    assert!(rt; matches!(fault, Err(SelectorError::MalformedAttribute)));
+    drop(fault);
     assert_eq!(rt; steps.seen(), 4);
+    drop(library);
+}
+
+// An article in a periodical, and one on a blog.
+fn articles(rt: &(impl Abort + AllocGlobal)) -> Library {
+    let toplas = entry(rt, "toplas", EntryType::Periodical);
+    let dependence = below(rt, entry(rt, "dependence", EntryType::Article), toplas);
+    let aeon = entry(rt, "aeon", EntryType::Blog);
+    let feminism = below(rt, entry(rt, "feminism", EntryType::Article), aeon);
+    let mut library = Library::new(rt.alloc());
+    library.push(&dependence).expect(rt, "memory");
+    library.push(&feminism).expect(rt, "memory");
+    drop(dependence);
+    drop(feminism);
+    library
+}
+
+// At each article: `>`, its left side, the binding and its type on the parents, and the type at the parent.
+#[test]
+fn counts_the_calls_on_parents(rt: HostRuntime) {
+    let library = articles(&rt);
+    let mut steps = Steps::new();
+    let hits = library
+        .query(rt.alloc(), "article > b:periodical", &mut steps)
+        .expect(&rt, "memory");
+    assert_eq!(rt; hits.len(), 1);
+    drop(hits);
+    assert_eq!(rt; steps.seen(), 10);
     drop(library);
 }

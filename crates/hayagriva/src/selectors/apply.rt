@@ -1,9 +1,11 @@
-ghost use Rattle.std.specs.Prelude.{◌≡◌, ◌+◌, ◌*◌, ◌≤◌, ℕ, List, IfOk, IfSome, is_some, option_map};
-ghost use Rattle.std.specs.HashMap.{get_by_text};
+//! What a selector answers at an entry.
+ghost use Rattle.std.specs.Prelude.{◌≡◌, ◌+◌, ◌*◌, ◌≤◌, IfOk, OnOk};
 ghost use Rattle.haya_entry.specs.Tree.{view, size};
-ghost use Rattle.hayagriva.specs.Binds.{bound_to, found_bound, is_bound};
+ghost use Rattle.hayagriva.specs.Binds.{bound_select};
 ghost use Rattle.hayagriva.specs.Calls.{calls};
 ghost use Rattle.hayagriva.specs.Holds.{holds as holds_for};
+ghost use Rattle.hayagriva.specs.Library.{entry_value};
+ghost use Rattle.hayagriva.specs.Query.{Applied};
 ghost use Rattle.hayagriva.specs.Syntax.{syntax, nodes};
 
 use super::Selector;
@@ -16,18 +18,14 @@ use std::collections::HashMap;
 
 impl Selector {
     /// What the selector's names stand for at an entry: each bound name with the entry that it was
-    /// bound to last. `None` where the selector doesn't hold at the entry. Refused with
-    /// `OutOfMemory` alone.
+    /// bound to last. `None` where the selector doesn't hold at the entry. The only error is
+    /// `OutOfMemory`.
     pub fn apply<'e>(
         &self,
         alloc: Global,
         entry: &'e Entry,
     ) -> Result<Option<HashMap<String, &'e Entry>>, OutOfMemory>
-        ensures holds { IfOk result (λ o. is_some o ≡ holds_for (syntax self.now) (view entry.now)) }
-        ensures names { IfOk result
-            (λ o. IfSome o (λ m. (q : List ℕ) → is_some (get_by_text m q) ≡ is_bound (syntax self.now) (view entry.now) q)) }
-        ensures bound { IfOk result
-            (λ o. IfSome o (λ m. (q : List ℕ) → option_map (λ e. view e.now) (get_by_text m q) ≡ bound_to (syntax self.now) (view entry.now) q)) }
+        ensures { IfOk result (Applied (syntax self.now) (view entry.now)) }
     {
         self.apply_counted(alloc, entry, &mut Steps::new())
     }
@@ -42,12 +40,9 @@ impl Selector {
         entry: &'e Entry,
         steps: &mut Steps,
     ) -> Result<Option<HashMap<String, &'e Entry>>, OutOfMemory>
-        ensures holds { IfOk result (λ o. is_some o ≡ holds_for (syntax self.now) (view entry.now)) }
-        ensures names { IfOk result
-            (λ o. IfSome o (λ m. (q : List ℕ) → is_some (get_by_text m q) ≡ is_bound (syntax self.now) (view entry.now) q)) }
-        ensures bound { IfOk result
-            (λ o. IfSome o (λ m. (q : List ℕ) → option_map (λ e. view e.now) (get_by_text m q) ≡ bound_to (syntax self.now) (view entry.now) q)) }
-        ensures ticks { IfOk result (λ _. steps.new ≡ steps.old + calls (syntax self.now) (view entry.now)) }
+        ensures answer { IfOk result (Applied (syntax self.now) (view entry.now)) }
+        ensures ticks { OnOk result
+            (steps.new ≡ steps.old + calls (syntax self.now) (view entry.now)) }
         ensures most { steps.new ≤ steps.old + nodes (syntax self.now) * size (view entry.now) }
     {
         let mut found = Bindings::new(alloc);
@@ -58,7 +53,7 @@ impl Selector {
         }
     }
 
-    /// Whether the selector holds at an entry. Refused with `OutOfMemory` alone.
+    /// Whether the selector holds at an entry. The only error is `OutOfMemory`.
     pub fn matches(&self, alloc: Global, entry: &Entry) -> Result<bool, OutOfMemory>
         ensures { IfOk result (λ b. b ≡ holds_for (syntax self.now) (view entry.now)) }
     {
@@ -67,14 +62,15 @@ impl Selector {
     }
 
     /// The entry that a name was bound to last at an entry. `None` where the selector doesn't hold
-    /// at the entry, or doesn't bind the name. Refused with `OutOfMemory` alone.
+    /// at the entry, or doesn't bind the name. The only error is `OutOfMemory`.
     pub fn bound<'e>(
         &self,
         alloc: Global,
         entry: &'e Entry,
         name: &str,
     ) -> Result<Option<&'e Entry>, OutOfMemory>
-        ensures { IfOk result (λ o. option_map (λ e. view e.now) o ≡ found_bound (syntax self.now) (view entry.now) name.now) }
+        ensures { IfOk result (λ o.
+            entry_value o ≡ bound_select (syntax self.now) (view entry.now) name.now) }
     {
         let mut found = Bindings::new(alloc);
         if holds_at(self, alloc, entry, &mut found, &mut Steps::new())? {

@@ -1,10 +1,11 @@
+//! The names that an evaluation has bound so far.
 ghost use Rattle.std.specs.Prelude.{◌≡◌, ◌<◌, ◌≤◌, ℕ, All, List, [], ◌∷◌, ◌++◌, Some, IfOk, OnOk, length, map, option_map, take};
 ghost use Rattle.std.specs.Coded.{codes};
 ghost use Rattle.std.specs.HashMap.{get_by_text};
 ghost use Rattle.haya_entry.specs.contracts.entry.Entry as the_entry;
 ghost use Rattle.haya_entry.specs.Tree.{view};
-ghost use Rattle.hayagriva.specs.Binds.{first_bound, last_of};
-ghost use Rattle.hayagriva.specs.Evaluation.{AddsOn, Found, shown};
+ghost use Rattle.hayagriva.specs.Binds.{pair_of_first, last_of};
+ghost use Rattle.hayagriva.specs.Evaluation.{AddsOn, EntryPairs, pairs_view};
 
 use haya_entry::Entry;
 use haya_text::OutOfMemory;
@@ -12,14 +13,14 @@ use std::alloc::Global;
 use std::collections::HashMap;
 use std::marker::Model;
 
-/// The names that were bound so far, in order, each beside its entry.
+// The names that were bound so far, in order, each beside its entry.
 #[derive(Drop)]
-pub struct Bindings<'s, 'e> {
+pub(crate) struct Bindings<'s, 'e> {
     pairs: Vec<(&'s str, &'e Entry)>,
 }
 
 impl<'s, 'e> Model for Bindings<'s, 'e> {
-    ghost Value = { Found };
+    ghost Value = { EntryPairs };
 
     ghost view = { λ b. map (λ p. (p.0.now, p.1.now)) b.pairs.items };
 
@@ -27,8 +28,8 @@ impl<'s, 'e> Model for Bindings<'s, 'e> {
 }
 
 impl<'s, 'e> Bindings<'s, 'e> {
-    /// No bindings.
-    pub fn new(alloc: Global) -> Bindings<'s, 'e>
+    // No bindings.
+    pub(crate) fn new(alloc: Global) -> Bindings<'s, 'e>
         ensures { result ≡ [] }
     {
         Bindings {
@@ -36,23 +37,24 @@ impl<'s, 'e> Bindings<'s, 'e> {
         }
     }
 
-    /// How many there are.
-    pub fn len(&self) -> usize
-        ensures { result ≡ length (shown self.now) }
+    // How many there are.
+    pub(crate) fn len(&self) -> usize
+        ensures { result ≡ length (pairs_view self.now) }
     {
         self.pairs.len()
     }
 
-    /// Adds one.
-    pub fn bind(&mut self, name: &'s str, entry: &'e Entry) -> Result<(), OutOfMemory>
-        ensures { OnOk result (shown self.new ≡ shown self.old ++ (name.now, Some (view entry.now)) ∷ []) }
+    // Adds one.
+    pub(crate) fn bind(&mut self, name: &'s str, entry: &'e Entry) -> Result<(), OutOfMemory>
+        ensures { OnOk result (pairs_view self.new ≡
+            pairs_view self.old ++ (name.now, Some (view entry.now)) ∷ []) }
     {
         self.pairs.push((name, entry))?;
         Ok(())
     }
 
-    /// Adds one of the name to the parent at the first place, where there is a place.
-    pub fn bind_first(
+    // Adds one of the name to the parent at the first place, where there is a place.
+    pub(crate) fn bind_first(
         &mut self,
         name: &'s str,
         parents: &'e [Entry],
@@ -60,7 +62,7 @@ impl<'s, 'e> Bindings<'s, 'e> {
     ) -> Result<(), OutOfMemory>
         requires { All (λ i. i < length parents.now) places.now }
         ensures { OnOk result
-            (AddsOn (map view parents.now) self.old self.new (first_bound name.now (Some places.now))) }
+            (AddsOn (map view parents.now) self.old self.new (pair_of_first name.now (Some places.now))) }
     {
         if let Some(first) = places.first() {
             self.bind(name, &parents[*first])?;
@@ -68,24 +70,24 @@ impl<'s, 'e> Bindings<'s, 'e> {
         Ok(())
     }
 
-    /// Leaves the first `len` alone.
-    pub fn truncate(&mut self, len: usize)
-        requires { len ≤ length (shown self.old) }
-        ensures { shown self.new ≡ take len (shown self.old) }
+    // Leaves the first `len` alone.
+    pub(crate) fn truncate(&mut self, len: usize)
+        requires { len ≤ length (pairs_view self.old) }
+        ensures { pairs_view self.new ≡ take len (pairs_view self.old) }
     {
         self.pairs.truncate(len);
     }
 
-    /// The entry that the name was bound to last.
-    pub fn last(&self, name: &str) -> Option<&'e Entry>
+    // The entry that the name was bound to last.
+    pub(crate) fn last(&self, name: &str) -> Option<&'e Entry>
         ensures { option_map (λ e. e.now) result ≡ last_of name.now self.now }
     {
         let pair = self.pairs.iter().rev().find(|pair| pair.0 == name);
         pair.map(|pair| pair.1)
     }
 
-    /// Each name with the entry that it was bound to last.
-    pub fn to_map(&self, alloc: Global) -> Result<HashMap<String, &'e Entry>, OutOfMemory>
+    // Each name with the entry that it was bound to last.
+    pub(crate) fn to_map(&self, alloc: Global) -> Result<HashMap<String, &'e Entry>, OutOfMemory>
         ensures { IfOk result
             (λ m. (q : List ℕ) → option_map (λ e. e.now) (get_by_text m q) ≡ last_of q self.now) }
     {

@@ -2,12 +2,12 @@
 ghost use Rattle.std.specs.Prelude.{◌≡◌, [], IfOk, if◌then◌else◌, is_some, map, option_map, sum_by};
 ghost use Rattle.std.specs.Option.{option_map_or};
 ghost use Rattle.haya_entry.specs.Tree.{view};
-ghost use Rattle.hayagriva.specs.Binds.{binds, binds_on, each_binds, first_binds, first_binds_on, first_led, led};
+ghost use Rattle.hayagriva.specs.Binds.{binds, binds_on, each_binds, first_binds, first_binds_on, pairs_at_first, pairs_at};
 ghost use Rattle.hayagriva.specs.Calls.{calls, calls_on, first_calls, first_calls_on, free_calls, greedy_calls};
-ghost use Rattle.hayagriva.specs.Evaluation.{AddsAt, AddsOn, Ticks};
-ghost use Rattle.hayagriva.specs.Holds.{holds, some_holds, candidates, first_candidates, first_alone as alone, greedy, least_free};
-ghost use Rattle.hayagriva.specs.Places.{up_to};
-ghost use Rattle.hayagriva.specs.Syntax.{syntax, syntaxes};
+ghost use Rattle.hayagriva.specs.Evaluation.{AddsAt, AddsOn, GivesPlaces, Ticks, views};
+ghost use Rattle.hayagriva.specs.Holds.{holds, some_holds, candidates, first_candidates, first_place as alone, greedy, least_free};
+ghost use Rattle.hayagriva.specs.Places.{items_up_to};
+ghost use Rattle.hayagriva.specs.Syntax.{syntax, members_of};
 
 use super::Selector;
 use super::bindings::Bindings;
@@ -16,9 +16,9 @@ use haya_entry::{Entry, Steps};
 use haya_text::OutOfMemory;
 use std::alloc::Global;
 
-/// Whether the selector holds at an entry. Where it does, its bindings are added to `found`.
+// Whether the selector holds at an entry. Where it does, its bindings are added to `found`.
 #[cycle(evaluate)]
-pub fn holds_at<'s, 'e>(
+pub(crate) fn holds_at<'s, 'e>(
     selector: &'s Selector,
     alloc: Global,
     entry: &'e Entry,
@@ -47,23 +47,23 @@ pub fn holds_at<'s, 'e>(
             Ok(true)
         }
         Selector::Attr(inner, names) => {
-            let mark = found.len();
+            let before = found.len();
             if holds_at(inner, alloc, entry, found, steps)? && has_all(entry, names) {
                 return Ok(true);
             }
-            found.truncate(mark);
+            found.truncate(before);
             Ok(false)
         }
         Selector::Alt(members) => any_holds(members, alloc, entry, found, steps),
         Selector::Multi(_) => Ok(false),
         Selector::Ancestrage(child, parent) => {
-            let mark = found.len();
+            let before = found.len();
             if holds_at(child, alloc, entry, found, steps)?
                 && candidates_on(parent, alloc, entry.parents(), found, steps)?.is_some()
             {
                 return Ok(true);
             }
-            found.truncate(mark);
+            found.truncate(before);
             Ok(false)
         }
     }
@@ -79,11 +79,11 @@ fn any_holds<'s, 'e>(
     steps: &mut Steps,
 ) -> Result<bool, OutOfMemory>
     ensures answer { IfOk result
-        (λ b. b ≡ some_holds (syntaxes (map syntax members.now)) (view entry.now)) }
+        (λ b. b ≡ some_holds (members_of members.now) (view entry.now)) }
     ensures bound { IfOk result (λ b. AddsAt (view entry.now) found.old found.new
-        (if b then first_binds (syntaxes (map syntax members.now)) (view entry.now) else [])) }
+        (if b then first_binds (members_of members.now) (view entry.now) else [])) }
     ensures ticks { Ticks result steps.old steps.new
-        (first_calls (syntaxes (map syntax members.now)) (view entry.now)) }
+        (first_calls (members_of members.now) (view entry.now)) }
 {
     for member in members {
         if holds_at(member, alloc, entry, found, steps)? {
@@ -103,12 +103,11 @@ fn candidates_on<'s, 'e>(
     found: &mut Bindings<'s, 'e>,
     steps: &mut Steps,
 ) -> Result<Option<Vec<usize>>, OutOfMemory>
-    ensures answer { IfOk result
-        (λ o. option_map (λ v. v.items) o ≡ candidates (syntax selector.now) (map view parents.now)) }
-    ensures bound { IfOk result (λ o. AddsOn (map view parents.now) found.old found.new
-        (if is_some o then binds_on (syntax selector.now) (map view parents.now) else [])) }
+    ensures answer { GivesPlaces result (candidates (syntax selector.now) (views parents.now)) }
+    ensures bound { IfOk result (λ o. AddsOn (views parents.now) found.old found.new
+        (if is_some o then binds_on (syntax selector.now) (views parents.now) else [])) }
     ensures ticks { Ticks result steps.old steps.new
-        (calls_on (syntax selector.now) (map view parents.now)) }
+        (calls_on (syntax selector.now) (views parents.now)) }
 {
     steps.tick();
     match selector {
@@ -133,13 +132,13 @@ fn candidates_on<'s, 'e>(
             }
         }
         Selector::Attr(inner, names) => {
-            let mark = found.len();
+            let before = found.len();
             match candidates_on(inner, alloc, parents, found, steps)? {
                 None => Ok(None),
                 Some(places) => match kept_places(names, parents, places) {
                     Some(left) => Ok(Some(left)),
                     None => {
-                        found.truncate(mark);
+                        found.truncate(before);
                         Ok(None)
                     }
                 },
@@ -159,12 +158,12 @@ fn first_candidates_on<'s, 'e>(
     found: &mut Bindings<'s, 'e>,
     steps: &mut Steps,
 ) -> Result<Option<Vec<usize>>, OutOfMemory>
-    ensures answer { IfOk result
-        (λ o. option_map (λ v. v.items) o ≡ first_candidates (syntaxes (map syntax members.now)) (map view parents.now)) }
-    ensures bound { IfOk result (λ o. AddsOn (map view parents.now) found.old found.new
-        (if is_some o then first_binds_on (syntaxes (map syntax members.now)) (map view parents.now) else [])) }
+    ensures answer { GivesPlaces result
+        (first_candidates (members_of members.now) (views parents.now)) }
+    ensures bound { IfOk result (λ o. AddsOn (views parents.now) found.old found.new
+        (if is_some o then first_binds_on (members_of members.now) (views parents.now) else [])) }
     ensures ticks { Ticks result steps.old steps.new
-        (first_calls_on (syntaxes (map syntax members.now)) (map view parents.now)) }
+        (first_calls_on (members_of members.now) (views parents.now)) }
 {
     for member in members {
         let places = candidates_on(member, alloc, parents, found, steps)?;
@@ -185,20 +184,20 @@ fn each_takes_one<'s, 'e>(
     found: &mut Bindings<'s, 'e>,
     steps: &mut Steps,
 ) -> Result<Option<Vec<usize>>, OutOfMemory>
-    ensures answer { IfOk result
-        (λ o. option_map (λ v. v.items) o ≡ greedy (syntaxes (map syntax members.now)) (map view parents.now) []) }
-    ensures bound { IfOk result (λ o. AddsOn (map view parents.now) found.old found.new
-        (option_map_or (λ v. each_binds (syntaxes (map syntax members.now)) (map view parents.now) v.items) o [])) }
+    ensures answer { GivesPlaces result (greedy (members_of members.now) (views parents.now) []) }
+    ensures bound { IfOk result (λ o. AddsOn (views parents.now) found.old found.new
+        (option_map_or
+        (λ v. each_binds (members_of members.now) (views parents.now) v.items) o [])) }
     ensures ticks { Ticks result steps.old steps.new
-        (greedy_calls (syntaxes (map syntax members.now)) (map view parents.now) []) }
+        (greedy_calls (members_of members.now) (views parents.now) []) }
 {
-    let mark = found.len();
+    let before = found.len();
     let mut taken = Vec::new(alloc);
     for member in members {
         match first_free(member, alloc, parents, &taken, found, steps)? {
             Some(place) => taken.push(place)?,
             None => {
-                found.truncate(mark);
+                found.truncate(before);
                 return Ok(None);
             }
         }
@@ -217,12 +216,15 @@ fn first_alone<'s, 'e>(
     found: &mut Bindings<'s, 'e>,
     steps: &mut Steps,
 ) -> Result<Option<Vec<usize>>, OutOfMemory>
-    ensures answer { IfOk result
-        (λ o. option_map (λ v. v.items) o ≡ alone (holds (syntax selector.now)) (map view parents.now)) }
-    ensures bound { IfOk result (λ o. AddsOn (map view parents.now) found.old found.new
-        (if is_some o then first_led (holds (syntax selector.now)) (binds (syntax selector.now)) (map view parents.now) else [])) }
+    ensures answer { GivesPlaces result (alone (holds (syntax selector.now)) (views parents.now)) }
+    ensures bound { IfOk result (λ o. AddsOn (views parents.now) found.old found.new
+        (if is_some o then
+        pairs_at_first (holds (syntax selector.now)) (binds (syntax selector.now))
+        (views parents.now)
+        else [])) }
     ensures ticks { Ticks result steps.old steps.new
-        (sum_by (calls (syntax selector.now)) (up_to (holds (syntax selector.now)) (map view parents.now))) }
+        (sum_by (calls (syntax selector.now)) (items_up_to (holds (syntax selector.now))
+            (views parents.now))) }
 {
     match first_free(selector, alloc, parents, &[], found, steps)? {
         Some(place) => Ok(Some(vec![in alloc; place]?)),
@@ -242,11 +244,12 @@ fn first_free<'s, 'e>(
     steps: &mut Steps,
 ) -> Result<Option<usize>, OutOfMemory>
     ensures answer { IfOk result
-        (λ o. o ≡ least_free (holds (syntax selector.now)) (map view parents.now) taken.now) }
-    ensures bound { IfOk result (λ o. AddsOn (map view parents.now) found.old found.new
-        (option_map_or (led (binds (syntax selector.now)) (map view parents.now)) o [])) }
+        (λ o. o ≡ least_free (holds (syntax selector.now)) (views parents.now) taken.now) }
+    ensures bound { IfOk result (λ o. AddsOn (views parents.now) found.old found.new
+        (option_map_or (pairs_at (binds (syntax selector.now)) (views parents.now)) o [])) }
     ensures ticks { Ticks result steps.old steps.new
-        (free_calls (holds (syntax selector.now)) (calls (syntax selector.now)) (map view parents.now) taken.now) }
+        (free_calls (holds (syntax selector.now)) (calls (syntax selector.now))
+        (views parents.now) taken.now) }
 {
     for (place, parent) in parents.iter().enumerate() {
         if is_taken(taken, place) {

@@ -1,6 +1,6 @@
 //! Reads a selector: a function for each form.
 ghost use Rattle.std.specs.Prelude.{◌≡◌, ◌≤◌, ◌∷◌, length};
-ghost use Rattle.hayagriva.specs.Grammar.{Value, Factor, Attributes, Binding, Term, Expr};
+ghost use Rattle.hayagriva.specs.Grammar.{ValueForm, FactorForm, AttributesForm, BindingForm, TermForm, ExprForm};
 ghost use Rattle.hayagriva.specs.Parser.{Gives, GivesNames, GivesRun};
 ghost use Rattle.hayagriva.specs.Syntax.{syntax};
 ghost use Rattle.hayagriva.specs.Token.{Word};
@@ -14,10 +14,10 @@ use std::str::FromStr;
 #[cfg(test)]
 mod tests;
 
-/// Terms with `>` between.
+// Terms with `>` between.
 #[cycle(parser)]
-pub(super) fn expr(alloc: Global, tokens: &mut Tokens<'_>) -> Result<Selector, SelectorError>
-    ensures value { Gives Expr tokens.old tokens.new result }
+pub(crate) fn expr(alloc: Global, tokens: &mut Tokens<'_>) -> Result<Selector, SelectorError>
+    ensures value { Gives ExprForm tokens.old tokens.new result }
     ensures shorter { length tokens.new ≤ length tokens.old }
 {
     let mut left = term(alloc, tokens)?;
@@ -28,10 +28,10 @@ pub(super) fn expr(alloc: Global, tokens: &mut Tokens<'_>) -> Result<Selector, S
     Ok(left)
 }
 
-/// Bindings with `|` or `&` between.
+// Bindings with `|` or `&` between.
 #[cycle(parser)]
 fn term(alloc: Global, tokens: &mut Tokens<'_>) -> Result<Selector, SelectorError>
-    ensures value { Gives Term tokens.old tokens.new result }
+    ensures value { Gives TermForm tokens.old tokens.new result }
     ensures shorter { length tokens.new ≤ length tokens.old }
 {
     let mut left = binding(alloc, tokens)?;
@@ -46,7 +46,7 @@ fn term(alloc: Global, tokens: &mut Tokens<'_>) -> Result<Selector, SelectorErro
     }
 }
 
-/// The members of a run of one sign, behind the first member and sign.
+// The members of a run of one sign, behind the first member and sign.
 #[cycle(parser)]
 fn run(
     alloc: Global,
@@ -68,10 +68,10 @@ fn run(
     }
 }
 
-/// Attributes, with a name and `:` before them or not.
+// Attributes, with a name and `:` before them or not.
 #[cycle(parser)]
 fn binding(alloc: Global, tokens: &mut Tokens<'_>) -> Result<Selector, SelectorError>
-    ensures value { Gives Binding tokens.old tokens.new result }
+    ensures value { Gives BindingForm tokens.old tokens.new result }
     ensures shorter { length tokens.new ≤ length tokens.old }
 {
     let Some(name) = tokens.eat_name() else {
@@ -81,10 +81,10 @@ fn binding(alloc: Global, tokens: &mut Tokens<'_>) -> Result<Selector, SelectorE
     Ok(Selector::Binding(String::from_str(alloc, name)?, Box::new(alloc, inner)?))
 }
 
-/// A factor, with a bracket list behind it or not.
+// A factor, with a bracket list behind it or not.
 #[cycle(parser)]
 fn attributes(alloc: Global, tokens: &mut Tokens<'_>) -> Result<Selector, SelectorError>
-    ensures value { Gives Attributes tokens.old tokens.new result }
+    ensures value { Gives AttributesForm tokens.old tokens.new result }
     ensures shorter { length tokens.new ≤ length tokens.old }
 {
     let inner = factor(alloc, tokens)?;
@@ -95,10 +95,10 @@ fn attributes(alloc: Global, tokens: &mut Tokens<'_>) -> Result<Selector, Select
     Ok(Selector::Attr(Box::new(alloc, inner)?, list))
 }
 
-/// A value, behind any number of `!`.
+// A value, behind any number of `!`.
 #[cycle(parser)]
 fn factor(alloc: Global, tokens: &mut Tokens<'_>) -> Result<Selector, SelectorError>
-    ensures value { Gives Factor tokens.old tokens.new result }
+    ensures value { Gives FactorForm tokens.old tokens.new result }
     ensures shorter { length tokens.new ≤ length tokens.old }
 {
     if !tokens.eat_sign(Sign::ExclamationMark) {
@@ -108,10 +108,10 @@ fn factor(alloc: Global, tokens: &mut Tokens<'_>) -> Result<Selector, SelectorEr
     Ok(Selector::Neg(Box::new(alloc, inner)?))
 }
 
-/// A selector in parentheses, `*` or a type.
+// A selector in parentheses, `*` or a type.
 #[cycle(parser)]
 fn value(alloc: Global, tokens: &mut Tokens<'_>) -> Result<Selector, SelectorError>
-    ensures value { Gives Value tokens.old tokens.new result }
+    ensures value { Gives ValueForm tokens.old tokens.new result }
     ensures shorter { length tokens.new ≤ length tokens.old }
 {
     if tokens.eat_sign(Sign::LeftParen) {
@@ -130,9 +130,9 @@ fn value(alloc: Global, tokens: &mut Tokens<'_>) -> Result<Selector, SelectorErr
     entry_type(alloc, name)
 }
 
-/// The type that an identifier names, in upper or lower case.
+// The type that an identifier names, in upper or lower case.
 fn entry_type(alloc: Global, name: &str) -> Result<Selector, SelectorError>
-    ensures { (rest : _) → Gives Value (Word name.now ∷ rest) rest result }
+    ensures { (rest : _) → Gives ValueForm (Word name.now ∷ rest) rest result }
 {
     let lower = name.to_ascii_lowercase(alloc)?;
     match EntryType::from_str(&lower) {
@@ -141,7 +141,7 @@ fn entry_type(alloc: Global, name: &str) -> Result<Selector, SelectorError>
     }
 }
 
-/// The names of a bracket list, behind its `[`.
+// The names of a bracket list, behind its `[`.
 fn names(alloc: Global, tokens: &mut Tokens<'_>) -> Result<Vec<String>, SelectorError>
     ensures value { GivesNames tokens.old tokens.new result }
     ensures shorter { length tokens.new ≤ length tokens.old }

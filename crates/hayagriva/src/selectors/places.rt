@@ -1,16 +1,18 @@
-ghost use Rattle.std.specs.Prelude.{◌≡◌, ◌==◌, ℕ, false, IfOk, map, option_map, string_bytes};
+//! Places of parents: all of them, those that have names, those that are taken.
+ghost use Rattle.std.specs.Prelude.{◌≡◌, ◌==◌, ℕ, false, map, option_map, string_bytes};
 ghost use Rattle.std.specs.List.{list_any};
 ghost use Rattle.haya_entry.specs.Names.{has_all as all_had};
 ghost use Rattle.haya_entry.specs.Tree.{view};
-ghost use Rattle.hayagriva.specs.Holds.{some_places, kept};
+ghost use Rattle.hayagriva.specs.Evaluation.{GivesPlaces, views};
+ghost use Rattle.hayagriva.specs.Holds.{some_places, kept_places};
 ghost use Rattle.hayagriva.specs.Places.{places, at_place};
 
 use haya_entry::Entry;
 use haya_text::OutOfMemory;
 use std::alloc::Global;
 
-/// Whether the entry has every name.
-pub fn has_all(entry: &Entry, names: &[String]) -> bool
+// Whether the entry has every name.
+pub(crate) fn has_all(entry: &Entry, names: &[String]) -> bool
     ensures { result ≡ all_had (map string_bytes names.now) (view entry.now) }
 {
     names.iter().all(|name| entry.has(name.as_str()))
@@ -27,21 +29,25 @@ fn if_any(places: Vec<usize>) -> Option<Vec<usize>>
     }
 }
 
-/// All places of the parents, or none where there is no parent.
-pub fn all_places(alloc: Global, parents: &[Entry]) -> Result<Option<Vec<usize>>, OutOfMemory>
-    ensures { IfOk result (λ o. option_map (λ v. v.items) o ≡ some_places (places (map view parents.now))) }
+// All places of the parents, or none where there is no parent.
+pub(crate) fn all_places(
+    alloc: Global,
+    parents: &[Entry],
+) -> Result<Option<Vec<usize>>, OutOfMemory>
+    ensures { GivesPlaces result (some_places (places (views parents.now))) }
 {
     Ok(if_any((0..parents.len()).collect(alloc)?))
 }
 
-/// The candidates that have every name, or none where no candidate does. Where there are no
-/// candidates, nothing is tested.
-pub fn kept_places(
+// The candidates that have every name, or none where no candidate does. Where there are no
+// candidates, nothing is tested.
+pub(crate) fn kept_places(
     names: &[String],
     parents: &[Entry],
     candidates: Vec<usize>,
 ) -> Option<Vec<usize>>
-    ensures { option_map (λ v. v.items) result ≡ kept (map string_bytes names.now) (map view parents.now) candidates.items }
+    ensures { option_map (λ v. v.items) result ≡
+        kept_places (map string_bytes names.now) (views parents.now) candidates.items }
 {
     if candidates.is_empty() {
         return Some(candidates);
@@ -53,7 +59,8 @@ pub fn kept_places(
 
 // Whether there is a parent at the place, with every name.
 fn has_all_at(names: &[String], parents: &[Entry], place: usize) -> bool
-    ensures { result ≡ at_place false (all_had (map string_bytes names.now)) (map view parents.now) place }
+    ensures { result ≡
+        at_place false (all_had (map string_bytes names.now)) (views parents.now) place }
 {
     match parents.get(place) {
         Some(parent) => has_all(parent, names),
@@ -61,8 +68,8 @@ fn has_all_at(names: &[String], parents: &[Entry], place: usize) -> bool
     }
 }
 
-/// Whether the place is among those that are taken.
-pub fn is_taken(taken: &[usize], place: usize) -> bool
+// Whether the place is among those that are taken.
+pub(crate) fn is_taken(taken: &[usize], place: usize) -> bool
     ensures { result ≡ list_any (λ t. t == place) taken.now }
 {
     taken.iter().any(|other| *other == place)

@@ -3,12 +3,12 @@ ghost use Rattle.std.specs.Prelude.{◌≡◌, ◌∷◌, [], MatchOption, Match
 ghost use Rattle.std.specs.Str.{chars};
 ghost use Rattle.hayagriva.specs.Cut.{sign_of, token};
 ghost use Rattle.hayagriva.specs.declared.selectors.token.Sign.TheVariants.{Colon};
-ghost use Rattle.hayagriva.specs.Token.{AreTokens, BeginsNot, BeginsNoName, BeginsNoWord, Mark, Word, in_word, starts_word};
+ghost use Rattle.hayagriva.specs.Token.{AreTokens, BeginsNot, BeginsNoName, BeginsNoWord, SignToken, Word, in_word, starts_word};
 
 use haya_text::cursor::Cursor;
 use std::marker::Model;
 
-/// A character that is a token by itself.
+// A character that is a token by itself.
 #[derive(Clone, Copy, Debug, PartialEq, Eq)]
 pub(crate) enum Sign {
     LeftBracket,
@@ -24,17 +24,17 @@ pub(crate) enum Sign {
     ExclamationMark,
 }
 
-/// A token, where it stands in the text.
+// A token, where it stands in the text.
 #[derive(Clone, Copy, Debug, PartialEq, Eq)]
 pub(crate) enum Lexeme<'a> {
     Sign(Sign),
-    /// An identifier.
+    // An identifier.
     Word(&'a str),
-    /// Any other character.
+    // Any other character.
     Invalid(char),
 }
 
-/// The tokens that are left of a text.
+// The tokens that are left of a text.
 #[derive(Drop)]
 pub(crate) struct Tokens<'a> {
     cursor: Cursor<'a>,
@@ -51,7 +51,7 @@ impl<'a> Model for Tokens<'a> {
 }
 
 impl<'a> Tokens<'a> {
-    /// All tokens of a text.
+    // All tokens of a text.
     pub(crate) fn new(text: &'a str) -> Self
         ensures { AreTokens result (chars text.now) }
     {
@@ -60,7 +60,7 @@ impl<'a> Tokens<'a> {
         }
     }
 
-    /// The same tokens, to be taken apart from these.
+    // The same tokens, to be taken apart from these.
     fn fork(&self) -> Self
         ensures { result ≡ self.now }
     {
@@ -69,9 +69,10 @@ impl<'a> Tokens<'a> {
         }
     }
 
-    /// Takes the next token. `None` at the end.
+    // Takes the next token. `None` at the end.
     fn next(&mut self) -> Option<Lexeme<'a>>
-        ensures { MatchOption result ((self.old ≡ []) × (self.new ≡ [])) (λ t. self.old ≡ token t ∷ self.new) }
+        ensures { MatchOption result ((self.old ≡ []) × (self.new ≡ []))
+            (λ t. self.old ≡ token t ∷ self.new) }
     {
         self.cursor.eat_whitespace();
         let first = self.cursor.peek()?;
@@ -85,9 +86,10 @@ impl<'a> Tokens<'a> {
         Some(Lexeme::Sign(sign))
     }
 
-    /// Takes the next token if it is this sign.
+    // Takes the next token if it is this sign.
     pub(crate) fn eat_sign(&mut self, wanted: Sign) -> bool
-        ensures { MatchBool result (self.old ≡ Mark wanted ∷ self.new) (BeginsNot wanted self.old × (self.new ≡ self.old)) }
+        ensures { MatchBool result (self.old ≡ SignToken wanted ∷ self.new)
+            (BeginsNot wanted self.old × (self.new ≡ self.old)) }
     {
         let mut ahead = self.fork();
         if let Some(Lexeme::Sign(sign)) = ahead.next() {
@@ -99,9 +101,10 @@ impl<'a> Tokens<'a> {
         false
     }
 
-    /// Takes the next token if it is an identifier.
+    // Takes the next token if it is an identifier.
     pub(crate) fn eat_word(&mut self) -> Option<&'a str>
-        ensures { MatchOption result (BeginsNoWord self.old × (self.new ≡ self.old)) (λ w. self.old ≡ Word w.now ∷ self.new) }
+        ensures { MatchOption result (BeginsNoWord self.old × (self.new ≡ self.old))
+            (λ w. self.old ≡ Word w.now ∷ self.new) }
     {
         let mut ahead = self.fork();
         if let Some(Lexeme::Word(word)) = ahead.next() {
@@ -111,9 +114,10 @@ impl<'a> Tokens<'a> {
         None
     }
 
-    /// Takes an identifier and the `:` behind it, if both stand next.
+    // Takes an identifier and the `:` behind it, if both stand next.
     pub(crate) fn eat_name(&mut self) -> Option<&'a str>
-        ensures { MatchOption result (BeginsNoName self.old × (self.new ≡ self.old)) (λ w. self.old ≡ Word w.now ∷ Mark Colon ∷ self.new) }
+        ensures { MatchOption result (BeginsNoName self.old × (self.new ≡ self.old))
+            (λ w. self.old ≡ Word w.now ∷ SignToken Colon ∷ self.new) }
     {
         let mut ahead = self.fork();
         let name = ahead.eat_word()?;
@@ -125,21 +129,21 @@ impl<'a> Tokens<'a> {
     }
 }
 
-/// Whether an identifier may begin so.
+// Whether an identifier may begin so.
 fn starts_word(c: char) -> bool
     ensures { result ≡ starts_word c }
 {
     c.is_ascii_alphabetic() || c == '-'
 }
 
-/// Whether an identifier may go on so.
+// Whether an identifier may go on so.
 fn in_word(c: char) -> bool
     ensures { result ≡ in_word c }
 {
     c.is_ascii_alphanumeric() || c == '-'
 }
 
-/// The sign that a character is.
+// The sign that a character is.
 fn sign_of(c: char) -> Option<Sign>
     ensures { result ≡ sign_of c }
 {

@@ -8,7 +8,7 @@ use haya_text::{OutOfMemory, TryClone};
 use std::alloc::Global;
 
 impl Selector {
-    /// A copy, equal to this selector. The only error is refused memory.
+    /// A copy, equal to this selector. The only error is out of memory.
     #[cycle(copies)]
     pub fn try_clone(&self, alloc: Global) -> Result<Selector, OutOfMemory>
         ensures { IfOk result (λ copy. syntax copy ≡ syntax self.now) }
@@ -55,7 +55,7 @@ fn copies(alloc: Global, selectors: &[Selector]) -> Result<Vec<Selector>, OutOfM
 }
 
 impl SelectorError {
-    /// A copy, equal to this error. The only error is refused memory.
+    /// A copy, equal to this error. The only error is out of memory.
     pub fn try_clone(&self, alloc: Global) -> Result<SelectorError, OutOfMemory>
         ensures { IfOk result (λ copy. fault copy ≡ fault self.now) }
     {

@@ -1,11 +1,12 @@
-//! A refused allocation ends a test, and what is owned is let go by a call: so no test has a path on which it has to
-//! drop what a run leaves, and its proof stays short.
+//! A failed allocation ends a test, and what is owned is let go by a call: so no test has a path on
+//! which it has to drop what a run leaves, and its proof stays short.
 mod failing;
 
-use super::run;
+use super::{run, run_given};
+use crate::fault::Fault;
 use failing::{FailingReader, FailingWriter};
 use std::io::Read;
-use std::process::Abort;
+use std::process::{Abort, ExitCode};
 
 // Two articles, one in a periodical and one in a blog.
 const ARTICLES: &[u8] = b"0\tdependence\tarticle\tdoi=10.1145/24039.24041\n1\ttoplas\tperiodical\n\
@@ -66,6 +67,32 @@ fn ends<R: Read>(
         && end.complaint.as_slice() == complaint.as_bytes();
     drop(end);
     same
+}
+
+// Whether a run over the small library ends so, with these words or the fault that there are none.
+fn ends_given(
+    rt: &(impl Abort + AllocGlobal),
+    given: Result<Vec<String>, Fault>,
+    (status, printed, complaint): (u8, &str, &str),
+) -> bool {
+    let (mut out, mut err) = (Vec::new(rt.alloc()), Vec::new(rt.alloc()));
+    let end = run_given(rt.alloc(), given, &mut SMALL, &mut out, &mut err);
+    let same = end == ExitCode::from(status)
+        && out.as_slice() == printed.as_bytes()
+        && err.as_slice() == complaint.as_bytes();
+    drop(out);
+    drop(err);
+    same
+}
+
+#[test]
+fn ends_with_its_status(rt: HostRuntime) {
+    let usage = "usage: hayagriva_query SELECTOR\n";
+    assert!(rt; ends_given(&rt, Ok(texts(&rt, &["book"])), (0, "note\n", "")));
+    assert!(rt; ends_given(&rt, Ok(texts(&rt, &["["])), (1, "", "missing value\n")));
+    assert!(rt; ends_given(&rt, Ok(texts(&rt, &[])), (2, "", usage)));
+    assert!(rt; ends_given(&rt, Err(Fault::Usage), (2, "", usage)));
+    assert!(rt; ends_given(&rt, Err(Fault::OutOfMemory), (1, "", "out of memory\n")));
 }
 
 const HITS: &[Row] = &[
@@ -210,6 +237,63 @@ fn goes_down_to_depth_500(rt: HostRuntime) {
         assert!(rt; ends(&rt, &["*"], &mut input.as_bytes(), wanted));
         drop(input);
     }
+}
+
+// How many entries the long inputs have.
+const MANY: usize = 7_000;
+
+// A book with many parents, each a blog, or many books.
+fn many_lines(rt: &(impl Abort + AllocGlobal), depth: usize, kind: &str) -> String {
+    let mut input = String::new(rt.alloc());
+    writeln!(input, "0\tfirst\tbook").expect(rt, "memory");
+    for number in 0..MANY {
+        writeln!(input, "{depth}\tkey{number}\t{kind}").expect(rt, "memory");
+    }
+    input
+}
+
+// Over 70,000 bytes, one a read.
+#[test]
+fn reads_byte_after_byte(rt: HostRuntime) {
+    let input = many_lines(&rt, 0, "web");
+    let mut slow = FailingReader {
+        bytes: input.as_bytes(),
+        step: 1,
+        good: usize::MAX,
+        flickers: true,
+        interrupted: false,
+    };
+    assert!(rt; input.len() > 70_000);
+    assert!(rt; ends(&rt, &["book"], &mut slow, (0, "first\n", "")));
+    drop(input);
+}
+
+#[test]
+fn takes_many_parents_and_prints_many_lines(rt: HostRuntime) {
+    let input = many_lines(&rt, 1, "blog");
+    let wanted = (0, "first\tlast=key0\n", "");
+    assert!(rt; ends(&rt, &["book > last:*"], &mut input.as_bytes(), wanted));
+    drop(input);
+    let input = many_lines(&rt, 0, "blog");
+    let end = run_on(&rt, &["blog"], &mut input.as_bytes());
+    drop(input);
+    assert_eq!(rt; (end.status, end.complaint.len()), (0, 0));
+    assert_eq!(rt; end.printed.iter().filter(|b| **b == b'\n').count(), MANY);
+    drop(end);
+}
+
+#[test]
+fn takes_a_long_selector(rt: HostRuntime) {
+    let mut selector = String::from_str(rt.alloc(), "note").expect(&rt, "memory");
+    for _ in 0..MANY {
+        selector.push_str(" | web").expect(&rt, "memory");
+    }
+    let wanted = (1, "", "unknown entry type: `note`\n");
+    assert!(rt; ends(&rt, &[selector.as_str()], &mut SMALL, wanted));
+    selector.push_str(" | book").expect(&rt, "memory");
+    let known = selector.as_str().trim_start_matches("note |");
+    assert!(rt; ends(&rt, &[known], &mut SMALL, (0, "note\n", "")));
+    drop(selector);
 }
 
 #[test]

@@ -1,3 +1,4 @@
+//! Selectors at worked entries.
 use crate::works::{below, english, entry, selector, string};
 use crate::{BoundSelect, Selector};
 use haya_entry::{Entry, EntryType, Steps};
@@ -91,6 +92,22 @@ const ON_PARENTS: &[(&str, &[Work], &str)] = &[
         "yes",
     ),
     ("article > (blog | a:web)", &[Work::WebInEnglish], "web"),
+    (
+        "* > (a:* & b:*)[language]",
+        &[Work::Blog, Work::WebInEnglish],
+        "blog",
+    ),
+    ("* > (a:* & b:*)[language]", &[Work::Blog, Work::Book], "no"),
+    (
+        "* > (book | web)[language]",
+        &[Work::Book, Work::WebInEnglish],
+        "no",
+    ),
+    (
+        "* > (book | web)[language]",
+        &[Work::Blog, Work::WebInEnglish],
+        "yes",
+    ),
     ("article & article", &[], "no"),
     ("a:article[language]", &[], "no"),
     ("a:*", &[Work::Blog], "article"),
@@ -154,16 +171,38 @@ fn lists_without_members(rt: HostRuntime) {
     assert!(rt; holds_above_any(&rt, Selector::Multi(Vec::new(rt.alloc()))));
 }
 
-// `* > a:*[language]` over two parents: at the entry, `*`, the binding, the list and its `*`.
+// A web site behind 150 blogs, by a selector of 200 members.
+#[test]
+fn many_parents_and_members(rt: HostRuntime) {
+    let blogs = article(&rt, &[Work::Blog; 150]);
+    let entry = below(&rt, blogs, made(&rt, Work::WebInEnglish));
+    let mut text = string(&rt, "article > (book");
+    for _ in 0..200 {
+        text.push_str(" | misc").expect(&rt, "memory");
+    }
+    text.push_str(" | a:web)").expect(&rt, "memory");
+    assert!(rt; is_answer(&rt, text.as_str(), &entry, "web"));
+    drop(entry);
+}
+
+// Each row: a selector, the parents of an article, and how often the evaluator is entered at the article.
+const CALLS: &[(&str, &[Work], u64)] = &[
+    ("* > a:*[language]", &[Work::Blog, Work::WebInEnglish], 5),
+    ("* > book[language]", &[Work::Book, Work::BookInEnglish], 5),
+    ("* > (* & article)", &[Work::Article, Work::Book], 5),
+];
+
 #[test]
 fn counts_calls(rt: HostRuntime) {
-    let entry = article(&rt, &[Work::Blog, Work::WebInEnglish]);
-    let selector = selector(&rt, "* > a:*[language]");
-    let mut steps = Steps::new();
-    let found = selector
-        .apply_counted(rt.alloc(), &entry, &mut steps)
-        .expect(&rt, "memory");
-    assert!(rt; found.is_some());
-    assert_eq!(rt; steps.seen(), 5);
-    drop(selector);
+    for (text, parents, wanted) in CALLS {
+        let entry = article(&rt, *parents);
+        let selector = selector(&rt, *text);
+        let mut steps = Steps::new();
+        let found = selector
+            .apply_counted(rt.alloc(), &entry, &mut steps)
+            .expect(&rt, "memory");
+        drop(found);
+        drop(selector);
+        assert_eq!(rt; steps.seen(), *wanted, "{text}");
+    }
 }

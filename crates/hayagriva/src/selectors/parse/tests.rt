@@ -1,3 +1,4 @@
+//! Texts of selectors at worked rows.
 use super::*;
 use std::process::Abort;
 

@@ -7,7 +7,7 @@ use Rattle.std.proofs.lemmas.List.{map-id}
 use Rattle.std.proofs.lemmas.Map.Iter.{iter_end}
 use Rattle.hayagriva.specs.Library.{key_of}
 use Rattle.hayagriva.specs.Tree.{view}
-use Rattle.hayagriva_query.specs.Output.{shown_name}
+use Rattle.hayagriva_query.specs.Output.{binding_text}
 use Rattle.hayagriva_query.proofs.Names.{names_of, names-collected, names-ordered}
 use Rattle.hayagriva_query.proofs.printing.line_of.Goals as goal
 
@@ -29,5 +29,5 @@ returns-clause-line c =
           c.in_ok-push-3.ensures.bytes
           ∙ ap (λ l. string_bytes c.loop-name.line ++ l) (c.in_ok-push-3.ensures.ascii (omega arith))
           ∙ ap (λ l. l ++ 10 ∷ []) c.loop-name.invariant
-          ∙ ap (λ l. key ++ flat_map shown_name (names_of l) ++ 10 ∷ []) whole;
+          ∙ ap (λ l. key ++ flat_map binding_text (names_of l) ++ 10 ∷ []) whole;
     }

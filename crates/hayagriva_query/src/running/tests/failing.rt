@@ -2,8 +2,8 @@
 use std::io;
 use std::io::{Read, Write};
 
-/// Gives at most `step` bytes a read. Each read after the first `good` ones fails, and where `flickers`
-/// is set, every second read is interrupted and gives nothing.
+/// Gives at most `step` bytes a read. Each read after the first `good` ones fails, and where
+/// `flickers` is set, every second read is interrupted and gives nothing.
 #[derive(Drop)]
 pub struct FailingReader<'a> {
     pub bytes: &'a [u8],
@@ -30,7 +30,8 @@ impl Read for FailingReader<'_> {
     }
 }
 
-/// Takes `room` bytes, and then fails, once or each time. Where `stuck` is set, it can't be flushed.
+/// Takes `room` bytes, and then fails, once or each time. Where `stuck` is set, it can't be
+/// flushed.
 #[derive(Drop)]
 pub struct FailingWriter {
     pub taken: Vec<u8>,

@@ -3,15 +3,15 @@ use Rattle.std.proofs.lemmas.Result.{err_from_is_err_and}
 use Rattle.std.specs.Str.{chars}
 use Rattle.haya_text.specs.Chunks.{characters, chunks}
 use Rattle.haya_text.specs.Marks.{Refuses}
-use Rattle.haya_text.specs.Reading.{IsRefusal, after_these, scan}
+use Rattle.haya_text.specs.Reading.{IsRefusal, result_after, scan}
 use Rattle.haya_text.specs.declared.strings.reading.ChunkedReadError.{ChunkedReadError}
 use Rattle.haya_text.specs.declared.strings.reading.ChunkedReadError.TheVariants.{Parse, OutOfMemory}
 use Rattle.haya_text.specs.declared.strings.reading.Mark.{Mark}
 use Rattle.haya_text.specs.declared.strings.reading.Mark.TheVariants.{Close}
 use Rattle.haya_text.specs.declared.strings.reading.Reader.{Reader}
 use Rattle.haya_text.specs.Grammar.{IsRefusedAt}
-use Rattle.haya_text.proofs.Grammars.{refused_at, told-refused}
-use Rattle.haya_text.proofs.Scans.{after_these-nil}
+use Rattle.haya_text.proofs.Grammars.{refused_at, scan_of_mark-refused}
+use Rattle.haya_text.proofs.Scans.{result_after-nil}
 use Rattle.haya_text.proofs.Characters.{length-chars}
 use Rattle.haya_text.proofs.strings.reading.read_chunks.Goals as goal
 
@@ -24,7 +24,7 @@ pub marks-init : goal.marks-init
 marks-init c =
     let whole = length-chars c.args.text.now c.utf8.text in
     record {
-      told = rw (c.new.ensures, c.new-cursor.ensures) (after_these-nil _);
+      reads = rw (c.new.ensures, c.new-cursor.ensures) (result_after-nil _);
       normal = rw c.new.ensures refl;
       depth = omega arith;
       place = c.place-place.ensures;
@@ -38,18 +38,18 @@ returns-in_err-take c =
     let rest : List ℕ = c.next_mark.new.cursor.rest in
     let at_brace : c.in-Some.mark ≡ Close → r.depth ≡ 0 → r.math ≡ false → IsRefusedAt c.marks.place c.args.text.now = λ brace depth math.
     let stops : scan 0 false false (chars c.args.text.now) ≡ Err (125 ∷ rest) =
-    sym c.marks.invariant.told ∙ ap (after_these (characters (chunks r.read))) (c.in-Some.ensures.told r.depth r.math ∙ told-refused r.depth r.math c.in-Some.mark rest brace depth math) in
+    sym c.marks.invariant.reads ∙ ap (result_after (characters (chunks r.read))) (c.in-Some.ensures.reads r.depth r.math ∙ scan_of_mark-refused r.depth r.math c.in-Some.mark rest brace depth math) in
     let next = c.in-Some.ensures.closing (ap Some brace) in
     let whole = c.in-Some.ensures.same_text ∙ c.marks.invariant.whole in
     refused_at c.args.text.now rest c.marks.place c.utf8.text stops (omega arith) in
-    rw (p.1, p.2) (refusal c.args.text.now c.marks.place r c.in-Some.mark c.in_err-take.field-0.0 c.in_err-take.ensures.told at_brace)
+    rw (p.1, p.2) (refusal c.args.text.now c.marks.place r c.in-Some.mark c.in_err-take.field-0.0 c.in_err-take.ensures.reads at_brace)
 
 pub marks-preserved : goal.marks-preserved
 marks-preserved c =
     let deeper = c.in_ok-take.ensures.depth in
     let forward = c.in-Some.ensures.forward in
     record {
-      told = sym (c.in_ok-take.ensures.told c.next_mark.new.cursor.rest) ∙ ap (after_these (characters (chunks c.marks.reader.read))) (sym (c.in-Some.ensures.told c.marks.reader.depth c.marks.reader.math)) ∙ c.marks.invariant.told;
+      reads = sym (c.in_ok-take.ensures.reads c.next_mark.new.cursor.rest) ∙ ap (result_after (characters (chunks c.marks.reader.read))) (sym (c.in-Some.ensures.reads c.marks.reader.depth c.marks.reader.math)) ∙ c.marks.invariant.reads;
       normal = c.in_ok-take.ensures.normal c.marks.invariant.normal;
       depth = omega arith;
       place = c.place-place-in-Some.ensures;

@@ -14,10 +14,8 @@ entries-preserved-in-Continue-branch-3 c =
     let rest = c.next.new.self in
     let left : c.entries.entry-iterator ≡ x ∷ rest = c.in-Some.ensures.steps in
     let so_far : HitsSoFar s c.args.self.now (x ∷ rest) c.entries.hits.items = rw left at c.entries.invariant.0 in
-    let holding : holds s x ≡ true = sym c.in_ok-bindings.ensures.holds ∙ ap is_some c.in-Some-2.is in
-    let names = rw c.in-Some-2.is at c.in_ok-bindings.ensures.names in
-    let bound = rw c.in-Some-2.is at c.in_ok-bindings.ensures.bound in (
-      rw c.in_ok-push.ensures.items (one_hit s c.args.self.now x rest c.entries.hits.items _ so_far holding (record { entry = refl; names = names; bindings = bound })),
+    let (holding, bindings) = rw c.in-Some-2.is at c.in_ok-bindings.ensures.answer in (
+      rw c.in_ok-push.ensures.items (one_hit s c.args.self.now x rest c.entries.hits.items _ so_far holding (record { entry = refl; bindings = bindings })),
       counted (calls s) x c.entries.entry-iterator rest left _ _ _ c.entries.invariant.1 c.in_ok-bindings.ensures.ticks,
       bounded size x c.entries.entry-iterator rest left _ _ _ (nodes s) c.entries.invariant.2 c.in_ok-bindings.ensures.most,
     )

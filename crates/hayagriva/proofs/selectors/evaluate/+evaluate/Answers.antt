@@ -6,11 +6,11 @@ use Rattle.std.proofs.lemmas.List.{map-append}
 use Rattle.std.proofs.lemmas.Result.{MatchResult-from_err}
 use Rattle.haya_entry.specs.Tree.{view}
 use Rattle.hayagriva.specs.Binds.{binds}
-use Rattle.hayagriva.specs.Evaluation.{shown}
+use Rattle.hayagriva.specs.Evaluation.{pairs_view}
 use Rattle.hayagriva.specs.Calls.{calls}
 use Rattle.hayagriva.specs.Holds.{holds, is_type, greedy, least_free}
-use Rattle.hayagriva.specs.Places.{up_to}
-use Rattle.hayagriva.specs.Syntax.{Syntax, OfType, Under, syntax, syntaxes}
+use Rattle.hayagriva.specs.Places.{items_up_to}
+use Rattle.hayagriva.specs.Syntax.{Syntax, Entry, Ancestrage, syntax, syntaxes}
 use Rattle.hayagriva.proofs.Bounds.{ticks_more}
 use Rattle.hayagriva.proofs.FreePlaces.{walked, passed, place_is, met_any, met_yes, met_no}
 use Rattle.hayagriva.proofs.Greedy.{bound_next, kept_next, calls_part, calls_some, calls_none, taken_some, each-greedy}
@@ -79,13 +79,13 @@ each_takes_one-loop-member-preserved t c =
     let d : c.deref.result.now ≡ taken = c.deref.ensures.value in
     let e : least_free (holds s) xs taken ≡ Some i = sym (rw d at c.in_ok-place.ensures.answer) ∙ c.in-Some.is in
     let inv = rw l at c.loop-member.invariant in
-    let old = shown c.args.found.now in
+    let old = pairs_view c.args.found.now in
     let k = rw c.in-Some.is at c.in_ok-place.ensures.bound in
     rw c.in_ok-push-in-Some.ensures.items (
       sym (taken_some s rest xs taken i e) ∙ inv.0,
       omega (arith, inv.1, calls_some s rest xs taken i e, rw d at c.in_ok-place.ensures.ticks),
-      bound_next s rest xs taken i e (shown c.loop-member.found) _ _ inv.2 k,
-      kept_next old (shown c.loop-member.found) _ _ inv.3 k,
+      bound_next s rest xs taken i e (pairs_view c.loop-member.found) _ _ inv.2 k,
+      kept_next old (pairs_view c.loop-member.found) _ _ inv.3 k,
     )
 
 pub each_takes_one-returns-in_err-place-clause-ticks : goal.each_takes_one-returns-in_err-place-clause-ticks
@@ -161,11 +161,11 @@ candidates_on-returns-in-Entry-clause-bound t c =
 pub candidates_on-returns-in-Entry-clause-ticks : goal.candidates_on-returns-in-Entry-clause-ticks
 candidates_on-returns-in-Entry-clause-ticks t c =
     let xs = map view c.args.parents.now in
-    let more = λ (s : Syntax). ticks_more c.first_alone.result c.args.steps.now c.first_alone.new.steps (sum_by (calls s) (up_to (holds s) xs)) in
+    let more = λ (s : Syntax). ticks_more c.first_alone.result c.args.steps.now c.first_alone.new.steps (sum_by (calls s) (items_up_to (holds s) xs)) in
     let h = rw c.tick.ensures at c.first_alone.ensures.ticks in
     elim c.in-Entry.is [
-      | inl w ↦ let e = ap syntax w.1 ∙ syntax-entry w.0 in rw e (more (OfType w.0) (rw e at h))
-      | inr w ↦ let e = ap syntax w.2 ∙ syntax-ancestrage w.0 w.1 in rw e (more (Under (syntax w.0.value) (syntax w.1.value)) (rw e at h))
+      | inl w ↦ let e = ap syntax w.1 ∙ syntax-entry w.0 in rw e (more (Entry w.0) (rw e at h))
+      | inr w ↦ let e = ap syntax w.2 ∙ syntax-ancestrage w.0 w.1 in rw e (more (Ancestrage (syntax w.0.value) (syntax w.1.value)) (rw e at h))
     ]
 
 pub holds_at-returns-in_ok-bind-in-Binding-clause-bound : goal.holds_at-returns-in_ok-bind-in-Binding-clause-bound

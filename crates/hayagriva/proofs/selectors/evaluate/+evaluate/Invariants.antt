@@ -2,10 +2,10 @@ use Rattle.std.proofs.Common.{◌≡◌, ◌+◌, ◌++◌, [], drop, false, len
 use Rattle.std.specs.Prelude.{find, sum_by}
 use Rattle.haya_entry.specs.Tree.{view, at_list}
 use Rattle.hayagriva.specs.Binds.{first_binds, first_binds_on}
-use Rattle.hayagriva.specs.Evaluation.{resolved, shown}
+use Rattle.hayagriva.specs.Evaluation.{pair_entries, pairs_view}
 use Rattle.hayagriva.specs.Calls.{calls, first_calls, first_calls_on, free_calls, greedy_calls}
 use Rattle.hayagriva.specs.Holds.{holds, some_holds, first_candidates, greedy, least_free}
-use Rattle.hayagriva.specs.Places.{at_place, up_to}
+use Rattle.hayagriva.specs.Places.{at_place, items_up_to}
 use Rattle.hayagriva.specs.Syntax.{syntax, syntaxes}
 use Rattle.hayagriva.proofs.FreePlaces.{left}
 use Rattle.hayagriva.proofs.Greedy.{all_taken, greedy_binds}
@@ -20,7 +20,7 @@ invariant-any_holds-loop-member l =
     (some_holds rest x ≡ some_holds all x)
     × (l.steps + first_calls rest x ≡ l.fn.steps + first_calls all x)
     × (first_binds rest x ≡ first_binds all x)
-    × (shown l.found ≡ shown l.fn.found)
+    × (pairs_view l.found ≡ pairs_view l.fn.found)
 
 abbrev pub invariant-first_candidates_on-loop-member : goal.invariant-first_candidates_on-loop-member
 invariant-first_candidates_on-loop-member l =
@@ -30,7 +30,7 @@ invariant-first_candidates_on-loop-member l =
     (first_candidates rest xs ≡ first_candidates all xs)
     × (l.steps + first_calls_on rest xs ≡ l.fn.steps + first_calls_on all xs)
     × (first_binds_on rest xs ≡ first_binds_on all xs)
-    × (shown l.found ≡ shown l.fn.found)
+    × (pairs_view l.found ≡ pairs_view l.fn.found)
 
 -- what is taken, with what the members that are left take, is what all take
 abbrev pub invariant-each_takes_one-loop-member : goal.invariant-each_takes_one-loop-member
@@ -40,8 +40,8 @@ invariant-each_takes_one-loop-member l =
     let xs = map view l.parents in
     (all_taken rest xs l.taken.items ≡ greedy all xs [])
     × (l.steps + greedy_calls rest xs l.taken.items ≡ l.fn.steps + greedy_calls all xs [])
-    × (shown l.found ++ resolved (at_list xs) (greedy_binds rest xs l.taken.items) ≡ shown l.fn.found ++ resolved (at_list xs) (greedy_binds all xs []))
-    × (take (length (shown l.fn.found)) (shown l.found) ≡ shown l.fn.found)
+    × (pairs_view l.found ++ pair_entries (at_list xs) (greedy_binds rest xs l.taken.items) ≡ pairs_view l.fn.found ++ pair_entries (at_list xs) (greedy_binds all xs []))
+    × (take (length (pairs_view l.fn.found)) (pairs_view l.found) ≡ pairs_view l.fn.found)
 
 -- the places that are left
 abbrev pub invariant-first_free-loop-place : goal.invariant-first_free-loop-place
@@ -50,5 +50,5 @@ invariant-first_free-loop-place l =
     let xs = map view l.parents in
     let rest = left xs l.taken l.place in
     (find (at_place false test xs) rest ≡ least_free test xs l.taken)
-    × (l.steps + sum_by (at_place 0 (calls (syntax l.selector)) xs) (up_to (at_place false test xs) rest) ≡ l.fn.steps + free_calls test (calls (syntax l.selector)) xs l.taken)
-    × (shown l.found ≡ shown l.fn.found)
+    × (l.steps + sum_by (at_place 0 (calls (syntax l.selector)) xs) (items_up_to (at_place false test xs) rest) ≡ l.fn.steps + free_calls test (calls (syntax l.selector)) xs l.taken)
+    × (pairs_view l.found ≡ pairs_view l.fn.found)

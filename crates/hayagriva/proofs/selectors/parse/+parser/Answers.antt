@@ -1,7 +1,7 @@
 use Rattle.std.proofs.Common.{[], sym, ◌∙◌}
 use Rattle.std.proofs.lemmas.List.{map-append}
 use Rattle.std.proofs.lemmas.Result.{err_from_is_err_and}
-use Rattle.hayagriva.specs.Grammar.{Or, And, bare, with_names, in_factor, in_names, in_term, in_next, no_term, unbalanced, parens, wildcard, no_value, negated, named, in_binding, no_pair}
+use Rattle.hayagriva.specs.Grammar.{Or, And, no_list, with_names, in_factor, in_names, in_term, in_next, no_term, unbalanced, parens, wildcard, no_value, negated, named, in_binding, no_pair}
 use Rattle.hayagriva.specs.Parser.{in_member}
 use Rattle.hayagriva.proofs.Parsing.{of_part, terms_from, terms_next, in_parens_at, word_value, factor_value, binding_attributes, in_negated_at, in_named_at, run_closed, run_next, pairs_from, pairs_next, run_fails, alt_next, multi_next}
 use Rattle.hayagriva.proofs.Syntaxes.{syntax-wildcard, syntax-neg, syntax-binding, syntax-attr, syntax-ancestrage}
@@ -14,7 +14,7 @@ attributes-returns-in_err-inner-clause-value t c =
 
 pub attributes-returns-then-not-eat_sign-clause-value : goal.attributes-returns-then-not-eat_sign-clause-value
 attributes-returns-then-not-eat_sign-clause-value t c =
-    rw c.if-not-eat_sign.ensures.1 (bare c.in_ok-inner.ensures.value c.if-not-eat_sign.ensures.0)
+    rw c.if-not-eat_sign.ensures.1 (no_list c.in_ok-inner.ensures.value c.if-not-eat_sign.ensures.0)
 
 pub attributes-returns-in_err-list-clause-value : goal.attributes-returns-in_err-list-clause-value
 attributes-returns-in_err-list-clause-value t c =

@@ -4,12 +4,12 @@ use Rattle.std.proofs.lemmas.Bool.Decides.{nat_tests}
 use Rattle.std.proofs.lemmas.Fn.{filter_same}
 use Rattle.haya_entry.specs.Names.{has_all}
 use Rattle.haya_entry.specs.Tree.{Tree, view}
-use Rattle.hayagriva.specs.Holds.{kept, some_places}
+use Rattle.hayagriva.specs.Holds.{kept_places, some_places}
 use Rattle.hayagriva.specs.Places.{at_place}
 use Rattle.hayagriva.proofs.selectors.places.kept_places.Goals as goal
 
 kept_of_some : (names : List (List ℕ)) (xs : List Tree) (is : List ℕ) → (length is == 0) ≡ false
-    → some_places (filter (at_place false (has_all names) xs) is) ≡ kept names xs is
+    → some_places (filter (at_place false (has_all names) xs) is) ≡ kept_places names xs is
 kept_of_some names xs [] e = absurd (grind (arith, nat_tests))
 kept_of_some names xs (i ∷ is) e = refl
 

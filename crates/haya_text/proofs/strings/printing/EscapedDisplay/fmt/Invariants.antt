@@ -1,9 +1,9 @@
 use Rattle.std.proofs.Common.{flat_map}
 use Rattle.std.specs.Fmt.{HasWritten, IsPlainFormatter}
-use Rattle.haya_text.specs.Printed.{escape}
+use Rattle.haya_text.specs.Printing.{escape_of}
 use Rattle.haya_text.proofs.strings.printing.EscapedDisplay.fmt.Given as goal
 
 -- the characters so far are written
 abbrev pub invariant-loop-c : goal.invariant-loop-c
 invariant-loop-c g l =
-    IsPlainFormatter l.initial.f → HasWritten g.W.Write.write_str_gives l.initial.f (flat_map escape l.yielded) l.f
+    IsPlainFormatter l.initial.f → HasWritten g.W.Write.write_str_gives l.initial.f (flat_map escape_of l.yielded) l.f

@@ -1,10 +1,10 @@
 use Rattle.std.proofs.Common.{map, take}
 use Rattle.std.specs.Fmt.{HasWritten, IsPlainFormatter}
 use Rattle.haya_text.specs.Chunks.{chunk_view}
-use Rattle.haya_text.specs.Printed.{serialized}
+use Rattle.haya_text.specs.Printing.{to_serialized}
 use Rattle.haya_text.proofs.strings.printing.SerializedDisplay.fmt.Given as goal
 
 -- the chunks so far are written
 abbrev pub invariant-loop-chunk : goal.invariant-loop-chunk
 invariant-loop-chunk g l =
-    IsPlainFormatter l.initial.f → HasWritten g.W.Write.write_str_gives l.initial.f (serialized (map chunk_view (take l.chunk-index l.chunk-items))) l.f
+    IsPlainFormatter l.initial.f → HasWritten g.W.Write.write_str_gives l.initial.f (to_serialized (map chunk_view (take l.chunk-index l.chunk-items))) l.f

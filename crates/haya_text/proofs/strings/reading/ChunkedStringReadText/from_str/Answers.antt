@@ -5,7 +5,7 @@ use Rattle.haya_text.specs.declared.strings.reading.ChunkedReadError.{ChunkedRea
 use Rattle.haya_text.specs.declared.strings.reading.ChunkedReadError.TheVariants.{Parse, OutOfMemory}
 use Rattle.haya_text.specs.Chunks.{chunks}
 use Rattle.haya_text.specs.Grammar.{ReadsAs}
-use Rattle.haya_text.specs.Reading.{chunks_read, is_memory, position_of, IsRefusal}
+use Rattle.haya_text.specs.Reading.{chunks_read, is_out_of_memory, position_of, IsRefusal}
 use Rattle.haya_text.proofs.Grammars.{reads-as, refused-reads}
 use Rattle.haya_text.proofs.strings.reading.ChunkedStringReadText.from_str.Goals as goal
 
@@ -13,7 +13,7 @@ grammar : (text : List ℕ) (r : Result ChunkedString ChunkedReadError) → Matc
 grammar text (Ok v) h = reads-as text (chunks v) h
 grammar text (Err e) h = tt
 
-fault : (text : List ℕ) (r : Result ChunkedString ChunkedReadError) → MatchResult r (λ v. chunks_read text ≡ Some (chunks v)) (IsRefusal text) → IfErr r (λ e. is_memory e ≡ false → chunks_read text ≡ None)
+fault : (text : List ℕ) (r : Result ChunkedString ChunkedReadError) → MatchResult r (λ v. chunks_read text ≡ Some (chunks v)) (IsRefusal text) → IfErr r (λ e. is_out_of_memory e ≡ false → chunks_read text ≡ None)
 fault text (Ok v) h = tt
 fault text (Err (Parse brace)) h = λ _. refused-reads text (position_of brace) h
 fault text (Err OutOfMemory) h = λ f. cc

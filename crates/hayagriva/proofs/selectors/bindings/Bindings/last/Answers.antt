@@ -6,11 +6,11 @@ use Rattle.std.proofs.lemmas.Iterator.Search.{find_from_yields_List}
 use borrow.Author.Tests.{tests}
 use Rattle.haya_entry.specs.declared.entry.Entry.{Entry}
 use Rattle.hayagriva.specs.Binds.{last_of}
-use Rattle.hayagriva.specs.Evaluation.{Found}
+use Rattle.hayagriva.specs.Evaluation.{EntryPairs}
 use Rattle.hayagriva.proofs.Lasts.{last_of-map, option_map-map}
 use Rattle.hayagriva.proofs.selectors.bindings.Bindings.last.Goals as goal
 
-last_found : (q : List ℕ) (items : List (Bor (List ℕ) × Bor Entry)) (found : Found) (o : Option (Bor (Bor (List ℕ) × Bor Entry))) (r : Option (Bor Entry))
+last_found : (q : List ℕ) (items : List (Bor (List ℕ) × Bor Entry)) (found : EntryPairs) (o : Option (Bor (Bor (List ℕ) × Bor Entry))) (r : Option (Bor Entry))
     → map (λ p. (p.0.now, p.1.now)) items ≡ found
     → option_map (λ y. y.now) o ≡ find (λ p. bytes_eq p.0.now q) (reverse items)
     → r ≡ option_map (λ y. y.now.1) o

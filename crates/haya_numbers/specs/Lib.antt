@@ -1,0 +1,16 @@
+pub mod Characters
+pub mod Classes
+pub mod Cuts
+pub mod Numbers
+pub mod Numeric
+pub mod NumericBack
+pub mod NumericForms
+pub mod NumericGrammar
+pub mod NumericPrinted
+pub mod NumericReading
+pub mod Pages
+pub mod PagesBack
+pub mod PagesOrder
+pub mod PagesPrinted
+pub mod PagesReading
+pub mod Pieces

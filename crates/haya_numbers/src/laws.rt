@@ -1,0 +1,45 @@
+//! Laws of the definitions. No program calls them.
+ghost use Rattle.std.specs.Prelude.{◌≡◌, ◌↔◌, ℕ, List, true, Ok, Err};
+ghost use Rattle.std.specs.Str.{chars};
+ghost use Rattle.std.specs.Cmp.{IsTotalOrder};
+ghost use Rattle.haya_numbers.specs.Numeric.{NumericView, value_view, numeric_view, csl_order};
+ghost use Rattle.haya_numbers.specs.NumericBack.{reads_back as is_back};
+ghost use Rattle.haya_numbers.specs.NumericGrammar.{IsFault, ReadsAs};
+ghost use Rattle.haya_numbers.specs.NumericPrinted.{shown_numeric};
+ghost use Rattle.haya_numbers.specs.NumericReading.{numeric_read};
+ghost use Rattle.haya_numbers.specs.declared.numeric.Numeric as numeric;
+ghost use Rattle.haya_numbers.specs.declared.numeric.NumericError.{NumericError};
+ghost use Rattle.haya_numbers.specs.declared.numeric.NumericValue as numeric_value;
+
+pub mod pages;
+
+use crate::{Numeric, NumericValue};
+
+/// `==` of numbers and of their values holds exactly where both are equal by value.
+pub fn equal_by_value()
+    ensures numeric { (a b : numeric.Numeric)
+        → (⟦<Numeric as PartialEq>⟧.eq a b ≡ true) ↔ (numeric_view a ≡ numeric_view b) }
+    ensures value { (a b : numeric_value.NumericValue)
+        → (⟦<NumericValue as PartialEq>⟧.eq a b ≡ true) ↔ (value_view a ≡ value_view b) }
+{}
+
+/// The order of numbers is total: of any two one is first or they tie, and it goes on along chains.
+pub fn order()
+    ensures { IsTotalOrder csl_order }
+{}
+
+/// A number without affixes reads back from its print as itself, where it is one number above the
+/// least `i32`, or a set of two or more of them, all but the last with a delimiter, and no negative
+/// number behind a hyphen.
+pub fn reads_back()
+    ensures { (n : NumericView) → is_back n ≡ true → numeric_read (shown_numeric n) ≡ Ok n }
+{}
+
+/// A text reads as a number exactly where its parts are those of one, and has a fault exactly where
+/// its parts show it. So each text has one value or one fault.
+pub fn reads_its_parts()
+    ensures value { (text : List ℕ) (v : NumericView) → ReadsAs text v
+        ↔ (numeric_read text ≡ Ok v) }
+    ensures fault { (text : List ℕ) (e : NumericError) → IsFault (chars text) e
+        ↔ (numeric_read text ≡ Err e) }
+{}

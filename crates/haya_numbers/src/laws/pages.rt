@@ -1,0 +1,50 @@
+//! Laws of the definitions of pages. No program calls them.
+ghost use Rattle.std.specs.Prelude.{◌≡◌, ◌↔◌, ℕ, List, true, map, Ok, Err};
+ghost use Rattle.std.specs.Cmp.{IsTotalOrder};
+ghost use Rattle.std.specs.Str.{chars};
+ghost use Rattle.haya_numbers.specs.Pages.{PartView, part_view, parts};
+ghost use Rattle.haya_numbers.specs.PagesBack.{are_readable};
+ghost use Rattle.haya_numbers.specs.PagesOrder.{pages_order, part_order};
+ghost use Rattle.haya_numbers.specs.PagesPrinted.{shown_pages};
+ghost use Rattle.haya_numbers.specs.PagesReading.{pages_read, part_read, IsFirstFault};
+ghost use Rattle.haya_numbers.specs.Pieces.{pieces, AreItsPieces};
+ghost use Rattle.haya_numbers.specs.declared.page.PageRanges as pages;
+ghost use Rattle.haya_numbers.specs.declared.page.PageRangesPart as part;
+ghost use Rattle.haya_numbers.specs.declared.page.PageRangesPartErr as fault;
+
+use crate::{PageRanges, PageRangesPart};
+
+/// The pieces of a text are the one list of separators and longest runs that makes up the text.
+pub fn pieces()
+    ensures { (text : List ℕ) (ps : List (List ℕ)) → AreItsPieces text ps ↔ (ps ≡ pieces text) }
+{}
+
+/// A text reads as pages exactly where each of its pieces reads as a part, and else its fault is that of
+/// the first piece that has one.
+pub fn reads_by_pieces()
+    ensures read { (text : List ℕ) (ps : List PartView) →
+        (pages_read text ≡ Ok ps) ↔ (map part_read (pieces text) ≡ map (λ p. Ok p) ps) }
+    ensures fault { (text : List ℕ) (e : fault.PageRangesPartErr) →
+        (pages_read text ≡ Err e) ↔ IsFirstFault (map part_read (pieces text)) e }
+{}
+
+/// `==` of parts and of lists of pages holds exactly where both are equal by value.
+pub fn equal_by_value()
+    ensures part { (a b : part.PageRangesPart) →
+        (⟦<PageRangesPart as PartialEq>⟧.eq a b ≡ true) ↔ (part_view a ≡ part_view b) }
+    ensures pages { (a b : pages.PageRanges) →
+        (⟦<PageRanges as PartialEq>⟧.eq a b ≡ true) ↔ (parts a ≡ parts b) }
+{}
+
+/// `csl_cmp` of parts and of lists of pages is a total preorder.
+pub fn order()
+    ensures part { IsTotalOrder part_order }
+    ensures pages { IsTotalOrder pages_order }
+{}
+
+/// Pages and ranges of single numbers from 0 on without affixes, with one separator between two, read
+/// back from their print as themselves. `PageRanges::reads_back` tells whether pages are like that.
+pub fn reads_back()
+    ensures { (ps : List PartView) → are_readable ps ≡ true
+        → pages_read (chars (shown_pages ps)) ≡ Ok ps }
+{}

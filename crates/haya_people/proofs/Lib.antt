@@ -1,0 +1,12 @@
+pub mod Equal
+mod TableLemmas
+mod Beginnings
+mod AnyAnswers
+pub mod RoleEqual
+mod Styles
+mod OrderRows
+mod Families
+mod Parts
+mod Rows
+mod Steps
+mod Items

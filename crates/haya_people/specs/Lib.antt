@@ -1,0 +1,14 @@
+pub mod Orders
+pub mod Particles
+pub mod Person
+pub mod Roles
+pub mod Tables
+pub mod Signs
+pub mod PersonOrder
+pub mod FirstName
+pub mod Forms
+pub mod Initials
+pub mod InitialsLeft
+pub mod Pieces
+pub mod Reading
+pub mod Words

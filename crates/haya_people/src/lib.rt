@@ -1,0 +1,19 @@
+//! Names of the people of a literature library: their parts, forms and orders.
+#![tactic(auto)]
+
+mod first_name;
+mod forms;
+mod initials;
+pub mod laws;
+mod order;
+mod particles;
+mod person;
+mod reading;
+mod role;
+mod table;
+#[cfg(test)]
+mod tests;
+
+pub use person::{Person, PersonError};
+pub use role::{PersonRole, PersonsWithRoles};
+pub use table::is_sorted_table;

@@ -1,0 +1,273 @@
+use crate::particles::tests::string;
+use crate::{Person, is_sorted_table};
+use haya_text::LongShortForm;
+use haya_text::LongShortForm::{Long, Short};
+use std::cmp::Ordering;
+use std::cmp::Ordering::{Equal, Greater, Less};
+use std::process::Abort;
+
+// Name, prefix, given name and suffix.
+type Parts = (
+    &'static str,
+    Option<&'static str>,
+    Option<&'static str>,
+    Option<&'static str>,
+);
+
+fn part(rt: &(impl Abort + AllocGlobal), text: Option<&str>) -> Option<String> {
+    match text {
+        Some(text) => Some(string(rt, text)),
+        None => None,
+    }
+}
+
+fn person(rt: &(impl Abort + AllocGlobal), parts: &Parts) -> Person {
+    Person {
+        name: string(rt, parts.0),
+        given_name: part(rt, parts.2),
+        prefix: part(rt, parts.1),
+        suffix: part(rt, parts.3),
+        comma_suffix: false,
+        alias: None,
+    }
+}
+
+// Two names, the form, whether particles are demoted, and how the first stands to the second.
+type Row = (Parts, Parts, LongShortForm, bool, Ordering);
+
+const TABLE: &[&str] = &["de", "de la", "von"];
+
+const ROWS: &[Row] = &[
+    // Case doesn't count, nor what follows where names differ.
+    (
+        ("Doe", None, Some("jane"), None),
+        ("DOE", None, Some("JANE"), None),
+        Long,
+        false,
+        Equal,
+    ),
+    (
+        ("Stra\u{df}e", None, None, None),
+        ("STRASSE", None, None, None),
+        Long,
+        true,
+        Equal,
+    ),
+    (
+        ("Doe", Some("z"), None, None),
+        ("Roe", Some("a"), None, None),
+        Long,
+        false,
+        Less,
+    ),
+    // Prefix, given name, suffix, in this order; a missing one first.
+    (
+        ("Doe", Some("b"), Some("a"), None),
+        ("doe", Some("a"), Some("b"), None),
+        Long,
+        false,
+        Greater,
+    ),
+    (
+        ("Doe", None, Some("b"), None),
+        ("Doe", Some("a"), Some("a"), None),
+        Short,
+        false,
+        Less,
+    ),
+    (
+        ("Doe", None, None, Some("Jr.")),
+        ("Doe", None, Some(""), None),
+        Long,
+        false,
+        Less,
+    ),
+    (
+        ("Doe", None, None, Some("jr.")),
+        ("Doe", None, None, Some("Sr.")),
+        Long,
+        true,
+        Less,
+    ),
+    // A particle counts with the name, or behind it.
+    (
+        ("von Zett", None, None, None),
+        ("de Ypsilon", None, None, None),
+        Long,
+        false,
+        Greater,
+    ),
+    (
+        ("von Adel", None, None, None),
+        ("de Ypsilon", None, None, None),
+        Long,
+        false,
+        Greater,
+    ),
+    (
+        ("von Adel", None, None, None),
+        ("de Ypsilon", None, None, None),
+        Long,
+        true,
+        Less,
+    ),
+    (
+        ("von Adel", None, None, None),
+        ("Adel", Some("de"), None, None),
+        Long,
+        true,
+        Greater,
+    ),
+    (
+        ("De La Cruz", None, None, None),
+        ("Cruz", Some("de la"), None, None),
+        Short,
+        true,
+        Equal,
+    ),
+    (
+        ("Cruz", Some("zu"), None, None),
+        ("cruz", None, None, None),
+        Long,
+        true,
+        Greater,
+    ),
+    // Names that are CJK come last, and go by name and given name, this in the long form alone.
+    (
+        ("\u{5c71}", None, None, None),
+        ("Zett", None, None, None),
+        Long,
+        false,
+        Greater,
+    ),
+    (
+        ("Abe", None, Some("\u{5c71}"), None),
+        ("Zett", None, None, None),
+        Long,
+        true,
+        Greater,
+    ),
+    (
+        ("Zett", None, None, None),
+        ("Abe", None, Some("\u{5c71}"), None),
+        Short,
+        false,
+        Less,
+    ),
+    (
+        ("\u{5c71}", None, Some("b"), None),
+        ("\u{5c71}", None, Some("a"), None),
+        Long,
+        false,
+        Greater,
+    ),
+    (
+        ("\u{5c71}", None, Some("b"), None),
+        ("\u{5c71}", None, Some("a"), None),
+        Short,
+        false,
+        Equal,
+    ),
+    (
+        ("\u{5c71}", Some("b"), None, Some("b")),
+        ("\u{5c71}", Some("a"), None, None),
+        Long,
+        false,
+        Equal,
+    ),
+    (
+        ("von \u{5c71}", None, None, None),
+        ("a \u{5c71}", None, None, None),
+        Long,
+        true,
+        Greater,
+    ),
+];
+
+fn is_ideograph(c: char) -> bool {
+    c >= '\u{4e00}' && c <= '\u{9fff}'
+}
+
+// How the first stands to the second in a list, and the second to the first.
+fn both_ways(
+    rt: &(impl Abort + AllocGlobal),
+    a: &Person,
+    b: &Person,
+    form: LongShortForm,
+    demoted: bool,
+) -> (Ordering, Ordering) {
+    assert!(rt; is_sorted_table(TABLE));
+    let there = a
+        .csl_cmp(rt.alloc(), b, form, demoted, TABLE, is_ideograph)
+        .expect(rt, "memory");
+    let back = b
+        .csl_cmp(rt.alloc(), a, form, demoted, TABLE, is_ideograph)
+        .expect(rt, "memory");
+    (there, back)
+}
+
+#[test]
+fn orders_lists_of_a_style(rt: HostRuntime) {
+    for (mine, theirs, form, demoted, wanted) in ROWS {
+        let a = person(&rt, mine);
+        let b = person(&rt, theirs);
+        let found = both_ways(&rt, &a, &b, *form, *demoted);
+        assert!(rt;
+            found == (*wanted, wanted.reverse()),
+            "{} {}",
+            mine.0,
+            theirs.0
+        );
+        drop(a);
+        drop(b);
+    }
+}
+
+// Ascending by name, given name, suffix, prefix, comma and alias.
+#[test]
+fn orders_persons_by_all_parts(rt: HostRuntime) {
+    let mut persons = Vec::new(rt.alloc());
+    let parts: &[Parts] = &[
+        ("", None, None, None),
+        ("Doe", Some("z"), None, None),
+        ("Doe", Some("z"), None, Some("Jr.")),
+        ("Doe", None, Some("Jane"), None),
+        ("Doe", None, Some("Jane"), Some("Jr.")),
+        ("Doe", Some("a"), Some("Jane"), Some("Jr.")),
+        ("doe", None, None, None),
+    ];
+    for row in parts {
+        persons.push(person(&rt, row)).expect(&rt, "memory");
+    }
+    let mut aliased = person(&rt, &("doe", None, None, None));
+    aliased.alias = Some(string(&rt, "z"));
+    persons.push(aliased).expect(&rt, "memory");
+    let mut comma = person(&rt, &("doe", None, None, None));
+    comma.comma_suffix = true;
+    persons.push(comma).expect(&rt, "memory");
+    for (i, a) in persons.iter().enumerate() {
+        for (j, b) in persons.iter().enumerate() {
+            assert!(rt; a.cmp(b) == i.cmp(&j) && (a == b) == (i == j), "{i} {j}");
+            assert!(rt; a.partial_cmp(b) == Some(i.cmp(&j)), "{i} {j}");
+        }
+    }
+    drop(persons);
+}
+
+#[test]
+fn tells_cjk_names(rt: HostRuntime) {
+    let rows: &[(Parts, bool)] = &[
+        (("\u{5c71}", None, None, None), true),
+        (("Doe", None, Some("J \u{5c71}"), None), true),
+        (
+            ("Doe", Some("\u{5c71}"), Some("Jane"), Some("\u{5c71}")),
+            false,
+        ),
+        (("", None, None, None), false),
+    ];
+    for (parts, wanted) in rows {
+        let someone = person(&rt, parts);
+        assert!(rt; someone.is_cjk(is_ideograph) == *wanted, "{}", parts.0);
+        drop(someone);
+    }
+}

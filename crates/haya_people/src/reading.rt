@@ -1,0 +1,196 @@
+//! Persons that are read from texts.
+ghost use Rattle.std.specs.Prelude.{◌≡◌, ◌==◌, ◌++◌, [], ℕ, List, false, Err, IfOk, MatchOption, MatchResult, Ok, Option, Some, map, option_map, string_bytes};
+ghost use Rattle.std.specs.List.{list_all, slice_split};
+ghost use Rattle.std.specs.Str.{chars, trim};
+ghost use Rattle.haya_people.specs.Person.{PersonView, person_view, is_memory};
+ghost use Rattle.haya_people.specs.Signs.{comma};
+ghost use Rattle.haya_people.specs.Words.{first_passes};
+ghost use Rattle.unicode.specs.Binary.{is_lowercase};
+ghost use Rattle.haya_people.specs.Reading.{is_lower, last_word, name_of, prefix_of, person_of, person_read, person_with, text_if_any, texts, trimmed, words_behind_lower, words_of, IsEnd, IsFirstWord};
+
+use crate::{Person, PersonError};
+use haya_text::{OutOfMemory, ReadText};
+use std::alloc::Global;
+use unicode::properties::is_lowercase;
+
+impl Person {
+    /// A person of one to three parts, each without the white space around it: the family part is
+    /// the first, the given name the last, and the suffix stands between. The prefix of the family
+    /// part ends with the last word that begins with a character of the Unicode property Lowercase;
+    /// where each word does, the last word is the name. No part is `Empty`, more than three are
+    /// `TooManyParts`.
+    pub fn from_strings(alloc: Global, parts: Vec<&str>) -> Result<Person, PersonError>
+        ensures { MatchResult result
+            (λ person. person_of (texts parts.entry.items) ≡ Ok (person_view person))
+            (λ e. is_memory e ≡ false → person_of (texts parts.entry.items) ≡ Err e) }
+    {
+        match parts.as_slice() {
+            [] => Err(PersonError::Empty),
+            [family] => Ok(person_with(alloc, family, None, None)?),
+            [family, given_name] => Ok(person_with(alloc, family, Some(given_name), None)?),
+            [family, suffix, given_name] => {
+                Ok(person_with(alloc, family, Some(given_name), Some(suffix))?)
+            }
+            _ => Err(PersonError::TooManyParts),
+        }
+    }
+}
+
+impl ReadText for Person {
+    type Fault = PersonError;
+
+    ghost use Rattle.std.specs.Prelude.{◌≡◌, ◌==◌, false, Ok, Err, MatchResult};
+    ghost use Rattle.std.specs.Result.{result_ok};
+    ghost use Rattle.haya_people.specs.Person.{PersonView, person_view, is_memory};
+    ghost use Rattle.haya_people.specs.Reading.{person_read};
+
+    ghost Value = { PersonView };
+
+    ghost value = { person_view };
+
+    ghost reads = { λ text. result_ok (person_read text) };
+
+    /// The person of the text, cut at each comma, as `from_strings` makes it of the parts.
+    fn from_str(alloc: Global, text: &str) -> Result<Person, PersonError>
+        ensures { MatchResult result
+            (λ person. person_read text.now ≡ Ok (person_view person))
+            (λ e. is_memory e ≡ false → person_read text.now ≡ Err e) }
+    {
+        Person::from_strings(alloc, cut_at_commas(alloc, text)?)
+    }
+}
+
+// The parts of a text between its commas.
+fn cut_at_commas(alloc: Global, text: &str) -> Result<Vec<&str>, OutOfMemory>
+    ensures { IfOk result (λ parts. texts parts.items ≡ slice_split (λ b. b == comma) text.now) }
+{
+    Ok(text.split(',').collect(alloc)?)
+}
+
+// The person of a family part, a given name and a suffix.
+fn person_with(
+    alloc: Global,
+    family: &str,
+    given_name: Option<&str>,
+    suffix: Option<&str>,
+) -> Result<Person, OutOfMemory>
+    ensures { IfOk result (λ person. person_view person ≡ person_with (trim family.now)
+        (trimmed given_name.entry) (trimmed suffix.entry)) }
+{
+    let (prefix, name) = split_family(family.trim());
+    Ok(Person {
+        name: String::from_str(alloc, name)?,
+        given_name: trimmed(alloc, given_name)?,
+        prefix: text_if_any(alloc, prefix)?,
+        suffix: trimmed(alloc, suffix)?,
+        comma_suffix: false,
+        alias: None,
+    })
+}
+
+// A copy of the text, if it isn't empty.
+fn text_if_any(alloc: Global, text: &str) -> Result<Option<String>, OutOfMemory>
+    ensures { IfOk result (λ t. option_map string_bytes t ≡ text_if_any text.now) }
+{
+    if text.is_empty() {
+        return Ok(None);
+    }
+    Ok(Some(String::from_str(alloc, text)?))
+}
+
+// The text without the white space around it, if there is one.
+fn trimmed(alloc: Global, text: Option<&str>) -> Result<Option<String>, OutOfMemory>
+    ensures { IfOk result (λ t. option_map string_bytes t ≡ trimmed text.entry) }
+{
+    match text {
+        Some(text) => Ok(Some(String::from_str(alloc, text.trim())?)),
+        None => Ok(None),
+    }
+}
+
+// The prefix and the name in a family part.
+fn split_family(family: &str) -> (&str, &str)
+    ensures prefix { result.0.now ≡ prefix_of family.now }
+    ensures name { result.1.now ≡ name_of family.now }
+{
+    let name = name_of(family);
+    let (front, _) = family.split_at(family.len() - name.len());
+    (front.trim_end(), name)
+}
+
+// The name in a family part: its last word if each is lower, else what follows the last lower one.
+fn name_of(family: &str) -> &str
+    ensures name { result.now ≡ name_of family.now }
+    ensures end { IsEnd family.now result.now }
+{
+    if is_all_lower(family) {
+        last_word(family)
+    } else {
+        words_behind_lower(family)
+    }
+}
+
+// Whether each word begins with a lower character.
+fn is_all_lower(text: &str) -> bool
+    ensures { result ≡ list_all is_lower (words_of text.now) }
+{
+    let mut left = text;
+    'words: while let Some((word, behind)) = split_word(left) {
+        if !is_lower(word) {
+            return false;
+        }
+        left = behind;
+    }
+    true
+}
+
+// The text from its last word on.
+fn last_word(text: &str) -> &str
+    ensures words { words_of result.now ≡ last_word (words_of text.now) }
+    ensures end { IsEnd text.now result.now }
+{
+    let mut left = text;
+    let mut last = text;
+    'words: while let Some((_, behind)) = split_word(left) {
+        last = left;
+        left = behind;
+    }
+    last
+}
+
+// The text behind its last lower word, or all of it.
+fn words_behind_lower(text: &str) -> &str
+    ensures words { words_of result.now ≡ words_behind_lower (words_of text.now) }
+    ensures end { IsEnd text.now result.now }
+{
+    let mut left = text;
+    let mut name = text;
+    'words: while let Some((word, behind)) = split_word(left) {
+        left = behind;
+        if is_lower(word) {
+            name = left;
+        }
+    }
+    name
+}
+
+// The first word of a text, and the text from the next word on.
+fn split_word(text: &str) -> Option<(&str, &str)>
+    ensures { MatchOption result (text.now ≡ []) (λ p. IsFirstWord text.now p.0.now p.1.now) }
+{
+    match text.find(char::is_whitespace) {
+        Some(end) => {
+            let (word, behind) = text.split_at(end);
+            Some((word, behind.trim_start()))
+        }
+        None if text.is_empty() => None,
+        None => Some((text, "")),
+    }
+}
+
+// Whether a word begins with a lower character.
+fn is_lower(word: &str) -> bool
+    ensures { result ≡ first_passes is_lowercase (chars word.now) }
+{
+    word.chars().next().is_some_and(|c| is_lowercase(c))
+}

@@ -1,0 +1,130 @@
+//! Numbers and signs at the front of a text.
+ghost use Rattle.std.specs.Prelude.{◌≡◌, ◌+◌, ◌≤◌, ◌==◌, ◌++◌, ◌∷◌, [], List, ℕ, Some, None, true, IfNone, IfSome, MatchOption, length};
+ghost use Rattle.std.specs.Char.{encode_utf8, is_ascii_digit};
+ghost use Rattle.std.specs.List.{list_all};
+ghost use Rattle.std.specs.Str.{chars, skip_leading_whitespace};
+ghost use Rattle.haya_time.specs.DurationText.{behind_run, colons, hyphen, is_empty, is_numeric, run, begins_with};
+ghost use Rattle.haya_time.specs.DurationReading.{sign_tail, digits_at};
+
+use unicode::properties::GeneralCategory;
+
+// Whether a character is of the general category Nd, Nl or No.
+fn is_numeric(c: char) -> bool
+    ensures { result ≡ is_numeric c }
+{
+    matches!(
+        GeneralCategory::for_char(c),
+        GeneralCategory::DecimalNumber
+            | GeneralCategory::LetterNumber
+            | GeneralCategory::OtherNumber
+    )
+}
+
+// The first character of a text, and the text behind it.
+fn split_char(text: &str) -> Option<(char, &str)>
+    ensures end { IfNone result (chars text.now ≡ []) }
+    ensures first { IfSome result (λ p. chars text.now ≡ p.0 ∷ chars p.1.now) }
+    ensures bytes { IfSome result (λ p. text.now ≡ encode_utf8 p.0 ++ p.1.now) }
+    ensures shorter { IfSome result (λ p. length p.1.now + 1 ≤ length text.now) }
+{
+    let mut characters = text.chars();
+    let first = characters.next()?;
+    Some((first, characters.as_str()))
+}
+
+// Whether a text has no characters.
+pub(crate) fn is_at_end(text: &str) -> bool
+    ensures { result ≡ is_empty (chars text.now) }
+{
+    split_char(text).is_none()
+}
+
+// The text behind the white space at its front.
+pub(crate) fn skip_space(text: &str) -> &str
+    ensures { chars result.now ≡ skip_leading_whitespace (chars text.now) }
+{
+    text.trim_start()
+}
+
+// The text behind the digits at its front.
+fn skip_digits(text: &str) -> &str
+    ensures cut { text.now ≡ run is_ascii_digit (chars text.now) ++ result.now }
+    ensures rest { chars result.now ≡ behind_run is_ascii_digit (chars text.now) }
+{
+    let mut rest = text;
+    'digits: while let Some((c, tail)) = split_char(rest) {
+        if !c.is_ascii_digit() {
+            return rest;
+        }
+        rest = tail;
+    }
+    rest
+}
+
+// Whether a numeric character stands first.
+fn starts_numeric(text: &str) -> bool
+    ensures { result ≡ begins_with is_numeric (chars text.now) }
+{
+    match split_char(text) {
+        Some((first, _)) => is_numeric(first),
+        None => false,
+    }
+}
+
+// The digits of the number at the front, which white space may precede, and what follows them. `None` if
+// a numeric character follows that is no ASCII digit.
+pub(crate) fn take_digits(text: &str) -> Option<(&str, &str)>
+    ensures cases { let read = digits_at (chars text.now) in
+        MatchOption result (read ≡ None) (λ p. read ≡ Some (p.0.now, chars p.1.now)) }
+    ensures digits { IfSome result (λ p. list_all is_ascii_digit p.0.now ≡ true) }
+{
+    let text = skip_space(text);
+    let rest = skip_digits(text);
+    if starts_numeric(rest) {
+        return None;
+    }
+    let (digits, rest) = text.split_at(text.len() - rest.len());
+    Some((digits, rest))
+}
+
+// What stands behind the sign at the front, which white space may precede.
+pub(crate) fn take_sign(text: &str, sign: char) -> Option<&str>
+    ensures { let read = sign_tail sign (chars text.now) in
+        MatchOption result (read ≡ None) (λ rest. read ≡ Some (chars rest.now)) }
+{
+    let text = skip_space(text);
+    let (first, rest) = split_char(text)?;
+    if first == sign { Some(rest) } else { None }
+}
+
+// The text behind the hyphens at its front.
+pub(crate) fn skip_hyphens(text: &str) -> &str
+    ensures { chars result.now ≡ behind_run (λ c. c == hyphen) (chars text.now) }
+{
+    let mut rest = text;
+    'hyphens: while let Some((c, tail)) = split_char(rest) {
+        if c != '-' {
+            return rest;
+        }
+        rest = tail;
+    }
+    rest
+}
+
+// How many colons stand before the first hyphen, or before the end.
+pub(crate) fn count_colons(text: &str) -> usize
+    ensures { result ≡ colons (chars text.now) }
+{
+    let mut rest = text;
+    let mut count = 0;
+    'signs: while let Some((c, tail)) = split_char(rest) {
+        if c == '-' {
+            return count;
+        }
+        if c == ':' {
+            count += 1;
+        }
+        rest = tail;
+    }
+    count
+}

@@ -1,0 +1,172 @@
+//! What texts read as, and what durations are printed as.
+use super::DurationError::{Malformed, TooLarge};
+use super::{Duration, DurationError, DurationRange};
+use haya_text::{ReadFault, ReadText, TryClone};
+use std::fmt;
+use std::process::Abort;
+use std::str::FromStr;
+
+fn is_shown<D: fmt::Display>(rt: &(impl Abort + AllocGlobal), value: &D, wanted: &str) -> bool {
+    format!(in rt.alloc(); "{value}")
+        .expect(rt, "memory")
+        .as_str()
+        == wanted
+}
+
+// Days, hours, minutes, seconds and milliseconds.
+type Values = (u32, u32, u32, u8, u16);
+
+fn time((days, hours, minutes, seconds, milliseconds): Values) -> Duration {
+    Duration {
+        days,
+        hours,
+        minutes,
+        seconds,
+        milliseconds,
+    }
+}
+
+const MINUTE: Values = (0, 0, 1, 0, 0);
+
+const TWO_MINUTES: Values = (0, 0, 2, 0, 0);
+
+// A text, what it reads as, and what that is printed as.
+type Row = (&'static str, Result<Values, DurationError>, &'static str);
+
+const DURATIONS: &[Row] = &[
+    ("01:00", Ok(MINUTE), "01:00"),
+    ("00:01:00", Ok(MINUTE), "01:00"),
+    ("01:00,000", Ok(MINUTE), "01:00"),
+    ("01:00,000 ", Ok(MINUTE), "01:00"),
+    ("00 : 00 : 01 : 00", Ok(MINUTE), "01:00"),
+    ("10:00:00:00", Ok((10, 0, 0, 0, 0)), "10:00:00:00"),
+    ("90:00", Ok((0, 1, 30, 0, 0)), "01:30:00"),
+    ("25:00:00", Ok((1, 1, 0, 0, 0)), "1:01:00:00"),
+    ("01:00,5", Ok((0, 0, 1, 0, 500)), "01:00,500"),
+    ("01:00,0005", Ok((0, 0, 1, 0, 1)), "01:00,001"),
+    ("01:00,00049", Ok(MINUTE), "01:00"),
+    ("01:00,9994", Ok((0, 0, 1, 0, 999)), "01:00,999"),
+    ("01:00,5005", Ok((0, 0, 1, 0, 501)), "01:00,501"),
+    ("01:00,9995", Err(TooLarge), ""),
+    ("01:61:48", Err(TooLarge), ""),
+    ("01:61:48,5x", Err(Malformed), ""),
+    ("01:00 ", Err(Malformed), ""),
+    ("01:00,", Err(Malformed), ""),
+    ("010:00,", Err(Malformed), ""),
+    ("01:00-02:00", Err(Malformed), ""),
+    ("1:00", Err(Malformed), ""),
+    ("4294967296:00", Err(Malformed), ""),
+    ("01:00,5½", Err(Malformed), ""),
+    ("", Err(Malformed), ""),
+];
+
+#[test]
+fn durations_are_read(rt: HostRuntime) {
+    for (text, wanted, shown) in DURATIONS {
+        let wanted = wanted.map(time);
+        assert_eq!(rt; <Duration as FromStr>::from_str(*text), wanted, "{text}");
+        assert_eq!(rt;
+            <Duration as ReadText>::from_str(rt.alloc(), *text),
+            wanted,
+            "{text}"
+        );
+        if let Ok(duration) = wanted {
+            assert!(rt; is_shown(&rt, &duration, *shown), "{text}");
+        }
+    }
+}
+
+// A text, the start and end that it reads as, and what these are printed as.
+type RangeRow = (
+    &'static str,
+    Result<(Values, Values), DurationError>,
+    &'static str,
+);
+
+const RANGES: &[RangeRow] = &[
+    ("01:00", Ok((MINUTE, MINUTE)), "01:00"),
+    ("01:00-02:00", Ok((MINUTE, TWO_MINUTES)), "01:00-02:00"),
+    ("01:00--02:00", Ok((MINUTE, TWO_MINUTES)), "01:00-02:00"),
+    (
+        "01:00,5 - 02:00",
+        Ok(((0, 0, 1, 0, 500), TWO_MINUTES)),
+        "01:00,500-02:00",
+    ),
+    ("01:61:48,5x", Err(TooLarge), ""),
+    ("01:61:48,5 x", Err(TooLarge), ""),
+    ("01:61:48-x", Err(TooLarge), ""),
+    ("01:61:48 -x", Err(TooLarge), ""),
+    ("01:61:48x", Err(Malformed), ""),
+    ("01:61:48,5½", Err(Malformed), ""),
+    ("01:61:48,", Err(Malformed), ""),
+    ("01:61:48 ", Err(Malformed), ""),
+    ("01:61:48,5:", Err(Malformed), ""),
+    ("01:00-01:61:48", Err(TooLarge), ""),
+    ("01:00-", Err(Malformed), ""),
+    ("01:00- -02:00", Err(Malformed), ""),
+    ("01:00 ", Err(Malformed), ""),
+    ("-01:00", Err(Malformed), ""),
+];
+
+#[test]
+fn ranges_are_read(rt: HostRuntime) {
+    for (text, wanted, shown) in RANGES {
+        let wanted = wanted.map(|(start, end)| DurationRange {
+            start: time(start),
+            end: time(end),
+        });
+        assert_eq!(rt;
+            <DurationRange as FromStr>::from_str(*text),
+            wanted,
+            "{text}"
+        );
+        assert_eq!(rt;
+            <DurationRange as ReadText>::from_str(rt.alloc(), *text),
+            wanted,
+            "{text}"
+        );
+        if let Ok(range) = wanted {
+            assert!(rt; is_shown(&rt, &range, *shown), "{text}");
+        }
+    }
+}
+
+const GREATEST: Values = (u32::MAX, u32::MAX, u32::MAX, u8::MAX, u16::MAX);
+
+#[test]
+fn hand_made_values_are_printed(rt: HostRuntime) {
+    let text = "4294967295:4294967295:4294967295:255,65535";
+    assert!(rt; is_shown(&rt, &time(GREATEST), text));
+    let range = DurationRange::new(time(GREATEST), Some(time(MINUTE)));
+    assert!(rt;
+        is_shown(
+            &rt,
+            &range,
+            "4294967295:4294967295:4294967295:255,65535-01:00"
+        )
+    );
+    assert!(rt; is_shown(&rt, &DurationRange::new(time(MINUTE), None), "01:00"));
+    assert!(rt; is_shown(&rt, &Duration::default(), "00:00"));
+}
+
+#[test]
+fn what_reads_back_is_told(rt: HostRuntime) {
+    assert!(rt; time(MINUTE).reads_back());
+    assert!(rt; time((10, 23, 59, 59, 999)).reads_back());
+    assert!(rt; !time((0, 24, 0, 0, 0)).reads_back());
+    assert!(rt; !time((0, 0, 0, 0, 1000)).reads_back());
+    let range = DurationRange::new(time(MINUTE), Some(time(GREATEST)));
+    assert!(rt; !range.reads_back());
+    assert_eq!(rt; range.try_clone(rt.alloc()), Ok(range));
+    assert_eq!(rt; time(MINUTE).try_clone(rt.alloc()), Ok(time(MINUTE)));
+    assert!(rt; !TooLarge.is_out_of_memory());
+}
+
+#[test]
+fn durations_are_ordered(rt: HostRuntime) {
+    assert!(rt; time(MINUTE) < time(GREATEST));
+    assert!(rt; time((0, 0, 0, 60, 0)) < time(MINUTE));
+    assert!(rt; time((0, 0, 0, 59, 1000)) < time((0, 0, 0, 60, 0)));
+    assert!(rt; time((0, 0, 0, 61, 0)) > time(MINUTE));
+    assert!(rt; time((0, 24, 0, 0, 0)) < time((1, 0, 0, 0, 0)));
+}

@@ -1,0 +1,3 @@
+//! Laws of the definitions. No program calls them.
+pub mod dates;
+pub mod durations;

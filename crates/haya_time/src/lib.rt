@@ -1,0 +1,9 @@
+//! Dates and durations of a literature library.
+#![tactic(auto)]
+
+mod date;
+mod duration;
+pub mod laws;
+
+pub use date::{Date, DateError, Season};
+pub use duration::{Duration, DurationError, DurationRange};

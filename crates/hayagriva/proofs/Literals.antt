@@ -1,0 +1,52 @@
+-- What the hits of a query are by the computed reading of its text, in words of entries.
+use Rattle.std.proofs.Common.{◌≡◌, ℕ, List, [], ◌∷◌, Option, Some, None, refl, sym, ap, ◌∙◌}
+use Rattle.std.specs.Prelude.{All, IfSome, filter, map, Result, Ok, Err}
+use Rattle.std.specs.List.{AllZip}
+use Rattle.std.proofs.lemmas.List.Elements.{All-nil, All-cons}
+use Rattle.haya_entry.specs.Tree.{Tree}
+use Rattle.hayagriva.specs.declared.query.Hit.{Hit}
+use Rattle.hayagriva.specs.declared.selectors.Selector.{Selector}
+use Rattle.hayagriva.specs.declared.selectors.SelectorError.{SelectorError}
+use Rattle.hayagriva.specs.Binds.{bound_to}
+use Rattle.hayagriva.specs.Descent.{selector_read}
+use Rattle.hayagriva.specs.Fault.{Fault, fault}
+use Rattle.hayagriva.specs.Holds.{holds}
+use Rattle.hayagriva.specs.InWords.{picks, named_entry}
+use Rattle.hayagriva.specs.Query.{hit_entry, hit_bound, IsHit, AreHits}
+use Rattle.hayagriva.specs.Reading.{IfReads, IsRead, TextFails, TextGives}
+use Rattle.hayagriva.specs.Syntax.{Syntax, syntax}
+use Rattle.hayagriva.proofs.InWords.{bound_to-named_entry, holds-picks, filter-same}
+use Rattle.hayagriva.proofs.OneOutcome.{is_computed}
+
+module _ (s : Syntax) where
+  entries-hits : (ys : List Tree) (hits : List Hit) → AllZip (IsHit s) ys hits → map hit_entry hits ≡ ys
+  entries-hits [] [] h = refl
+  entries-hits (y ∷ ys) (hit ∷ hits) h = rw (h.0.entry, entries-hits ys hits h.1) refl
+  entries-hits [] (hit ∷ hits) h = absurd h
+  entries-hits (y ∷ ys) [] h = absurd h
+
+  module _ (name : List ℕ) (f : Tree → Option Tree) (same : (x : Tree) → bound_to s x name ≡ f x) where
+    bound-hits : (ys : List Tree) (hits : List Hit) → AllZip (IsHit s) ys hits → All (λ hit. hit_bound hit name ≡ f (hit_entry hit)) hits
+    bound-hits [] [] h = All-nil (λ hit. hit_bound hit name ≡ f (hit_entry hit))
+    bound-hits (y ∷ ys) (hit ∷ hits) h =
+        All-cons (λ hit. hit_bound hit name ≡ f (hit_entry hit)) hit hits
+        (h.0.bindings.entries name ∙ ap (λ x. bound_to s x name) (sym h.0.entry) ∙ same (hit_entry hit)) (bound-hits ys hits h.1)
+    bound-hits [] (hit ∷ hits) h = absurd h
+    bound-hits (y ∷ ys) [] h = absurd h
+
+module _ (text : List ℕ) where
+  -- what a reader answers for the text is its computed reading
+  pub is_read : (result : Result Selector SelectorError) → TextGives text result → IsRead text result
+  is_read (Ok s) h = (is_computed text (Ok (syntax s))).1 h
+  is_read (Err e) h = by (fault e) h
+    where
+      by : (o : Option Fault) → IfSome o (TextFails text) → IfSome o (λ f. selector_read text ≡ Err f)
+      by None h = tt
+      by (Some f) h = (is_computed text (Err f)).1 h
+
+  pub hits_are : (s : Syntax) (xs : List Tree) (hits : List Hit) → selector_read text ≡ Ok s → AreHits s xs hits → IfReads text (λ s. map hit_entry hits ≡ filter (picks s) xs)
+  hits_are s xs hits e are = rw e (entries-hits s (filter (holds s) xs) hits are ∙ filter-same (holds-picks s) xs)
+
+  pub name_is : (s : Syntax) (xs : List Tree) (hits : List Hit) → selector_read text ≡ Ok s → AreHits s xs hits
+      → (name : List ℕ) → IfReads text (λ s. All (λ hit. hit_bound hit name ≡ named_entry s name (hit_entry hit)) hits)
+  name_is s xs hits e are name = rw e (bound-hits s name (named_entry s name) (bound_to-named_entry s name) (filter (holds s) xs) hits are)

@@ -1,0 +1,33 @@
+//! The arguments of the process, as words.
+ghost use Rattle.std.specs.Prelude.{◌≡◌, ◌≢◌, ◌⊎◌, IfErr};
+ghost use Rattle.std.specs.IoError.{error_kind};
+ghost use Rattle.std.specs.declared.io.ErrorKind.TheVariants.{OutOfMemory as NoMemory};
+ghost use Rattle.hayagriva_query.specs.declared.fault.Fault.TheVariants.{OutOfMemory, Usage};
+
+use crate::fault::Fault;
+use std::{env, io};
+
+/// The arguments without the program's own name. Where one isn't UTF-8, they are wrong as a whole:
+/// `Usage`. The only other fault is that an allocation fails.
+pub fn words(rt: &(impl env::Env + AllocGlobal)) -> Result<Vec<String>, Fault>
+    ensures { IfErr result (λ e. (e ≡ Usage) ⊎ (e ≡ OutOfMemory)) }
+{
+    match env::args(rt) {
+        Ok(all) => Ok(all.skip(1).collect(rt.alloc())?),
+        Err(error) => Err(fault_of(&error)),
+    }
+}
+
+// What it says of the arguments that they can't be had.
+fn fault_of(error: &io::Error) -> Fault
+    ensures memory { error_kind error.now ≡ NoMemory → result ≡ OutOfMemory }
+    ensures other { error_kind error.now ≢ NoMemory → result ≡ Usage }
+{
+    match error.kind() {
+        io::ErrorKind::OutOfMemory => Fault::OutOfMemory,
+        _ => Fault::Usage,
+    }
+}
+
+#[cfg(test)]
+mod tests;

@@ -1,0 +1,106 @@
+//! A proved call for each form of selector. What each ensures speaks of entries alone: their types, names and parents.
+ghost use Rattle.std.specs.Prelude.{◌≡◌, ◌&&◌, ◌||◌, All, IfOk, IsOkUnless, Some, codes, filter, find, map, not, true};
+ghost use Rattle.std.specs.List.{list_any};
+ghost use Rattle.haya_entry.specs.declared.types.EntryType.TheVariants.{Article, Book, Periodical};
+ghost use Rattle.haya_entry.specs.Names.{has_name};
+ghost use Rattle.haya_entry.specs.Tree.{parents};
+ghost use Rattle.hayagriva.specs.declared.selectors.SelectorError.TheVariants.{OutOfMemory};
+ghost use Rattle.hayagriva.specs.Holds.{is_type};
+ghost use Rattle.hayagriva.specs.InWords.{without_first};
+ghost use Rattle.hayagriva.specs.Query.{hit_bound, hit_entry};
+
+use hayagriva::{Hit, Library, SelectorError, Steps};
+use std::alloc::Global;
+
+/// A type: the articles, in order.
+pub fn articles<'s>(alloc: Global, library: &'s Library) -> Result<Vec<Hit<'s>>, SelectorError>
+    ensures hits { IfOk result (λ hits. map hit_entry hits.items ≡
+        filter (λ x. is_type Article x) library.now) }
+    ensures error { IsOkUnless result OutOfMemory }
+{
+    library.query(alloc, "article", &mut Steps::new())
+}
+
+/// `*`: all entries, in order.
+pub fn all<'s>(alloc: Global, library: &'s Library) -> Result<Vec<Hit<'s>>, SelectorError>
+    ensures hits { IfOk result (λ hits. map hit_entry hits.items ≡
+        filter (λ x. true) library.now) }
+    ensures error { IsOkUnless result OutOfMemory }
+{
+    library.query(alloc, "*", &mut Steps::new())
+}
+
+/// `!`: the entries that aren't books.
+pub fn no_books<'s>(alloc: Global, library: &'s Library) -> Result<Vec<Hit<'s>>, SelectorError>
+    ensures hits { IfOk result (λ hits. map hit_entry hits.items ≡
+        filter (λ x. not (is_type Book x)) library.now) }
+    ensures error { IsOkUnless result OutOfMemory }
+{
+    library.query(alloc, "!book", &mut Steps::new())
+}
+
+/// A name: the entries with a DOI, each called `a`.
+pub fn works_with_doi<'s>(
+    alloc: Global,
+    library: &'s Library,
+) -> Result<Vec<Hit<'s>>, SelectorError>
+    ensures hits { IfOk result (λ hits. map hit_entry hits.items ≡
+        filter (λ x. has_name x (codes "doi")) library.now) }
+    ensures named { IfOk result (λ hits.
+        All (λ hit. hit_bound hit (codes "a") ≡ Some (hit_entry hit)) hits.items) }
+    ensures error { IsOkUnless result OutOfMemory }
+{
+    library.query(alloc, "a:*[doi]", &mut Steps::new())
+}
+
+/// A list, and `>`: the articles with a DOI that have a periodical among their parents, each with
+/// the first of these as `p`.
+pub fn articles_with_doi<'s>(
+    alloc: Global,
+    library: &'s Library,
+) -> Result<Vec<Hit<'s>>, SelectorError>
+    ensures hits { IfOk result (λ hits. map hit_entry hits.items ≡
+        filter (λ x. is_type Article x && has_name x (codes "doi")
+        && list_any (is_type Periodical) (parents x)) library.now) }
+    ensures named { IfOk result (λ hits.
+        All (λ hit. hit_bound hit (codes "p")
+        ≡ find (is_type Periodical) (parents (hit_entry hit))) hits.items) }
+    ensures error { IsOkUnless result OutOfMemory }
+{
+    library.query(alloc, "article[doi] > p:periodical", &mut Steps::new())
+}
+
+/// `|`: the articles and the books.
+pub fn articles_and_books<'s>(
+    alloc: Global,
+    library: &'s Library,
+) -> Result<Vec<Hit<'s>>, SelectorError>
+    ensures hits { IfOk result (λ hits. map hit_entry hits.items ≡
+        filter (λ x. is_type Article x || is_type Book x) library.now) }
+    ensures error { IsOkUnless result OutOfMemory }
+{
+    library.query(alloc, "article | book", &mut Steps::new())
+}
+
+/// `&`: the entries with a periodical among their parents, and a book among the others.
+pub fn in_both<'s>(alloc: Global, library: &'s Library) -> Result<Vec<Hit<'s>>, SelectorError>
+    ensures hits { IfOk result (λ hits. map hit_entry hits.items ≡
+        filter (λ x. list_any (is_type Periodical) (parents x)
+        && list_any (is_type Book) (without_first (is_type Periodical) (parents x)))
+        library.now) }
+    ensures error { IsOkUnless result OutOfMemory }
+{
+    library.query(alloc, "* > (periodical & book)", &mut Steps::new())
+}
+
+/// A longer chain: the entries with a periodical among their parents that has a parent with a
+/// language.
+pub fn in_languages<'s>(alloc: Global, library: &'s Library) -> Result<Vec<Hit<'s>>, SelectorError>
+    ensures hits { IfOk result (λ hits. map hit_entry hits.items ≡
+        filter (λ x. list_any (λ y. is_type Periodical y
+        && list_any (λ z. has_name z (codes "language")) (parents y)) (parents x))
+        library.now) }
+    ensures error { IsOkUnless result OutOfMemory }
+{
+    library.query(alloc, "* > (periodical > *[language])", &mut Steps::new())
+}
