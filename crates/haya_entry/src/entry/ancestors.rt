@@ -56,7 +56,7 @@ fn ask<E: Node, T, F: FnMut(E) -> Option<T>>(
     ensures callable { F.IsAlwaysCallable f.new }
     ensures asks { let paths = level (E.tree node) (further depth.now) in
         AsksWithin E.tree F.step (E.tree node) f.old paths (answer_of result)
-            f.new steps.old steps.new }
+        f.new steps.old steps.new }
     ensures reached { IsReached result (level (E.tree node) (further depth.now)) }
     ensures most { steps.new ≤ steps.old + size (E.tree node) }
 {
@@ -82,7 +82,7 @@ fn walk<E: Node, T, F: FnMut(E) -> Option<T>>(
     ensures callable { F.IsAlwaysCallable f.new }
     ensures asks { let paths = level (E.tree node) (suc (further depth.now)) in
         AsksWithin E.tree F.step (E.tree node) f.old paths (answer_of result)
-            f.new steps.old steps.new }
+        f.new steps.old steps.new }
     ensures reached { IsReached result (level (E.tree node) (suc (further depth.now))) }
     ensures most { steps.new + 1 ≤ steps.old + size (E.tree node) }
 {

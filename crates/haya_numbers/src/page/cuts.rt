@@ -22,7 +22,7 @@ pub(super) fn split_escaped(text: &str) -> Option<(&str, &str)>
     ensures { MatchOption result
         (escaped_split (chars text.now) ≡ chars text.now ∷ [])
         (λ cut. escaped_split (chars text.now)
-            ≡ chars cut.0.now ∷ escaped_split (chars cut.1.now)) }
+        ≡ chars cut.0.now ∷ escaped_split (chars cut.1.now)) }
 {
     text.split_once("\\-")
 }

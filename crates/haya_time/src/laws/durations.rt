@@ -24,7 +24,7 @@ pub fn reads_durations()
         (duration_read text ≡ Err error.TooLarge) ↔ ReadsTooLarge text }
     ensures malformed { (text : List ℕ) →
         (duration_read text ≡ Err error.Malformed) ↔ ¬ ((d : duration.Duration)
-            × IsDuration text d) }
+        × IsDuration text d) }
 {}
 
 /// A text reads as a range exactly where its parts are that range's. It is too large exactly where its

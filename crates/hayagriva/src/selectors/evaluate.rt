@@ -224,7 +224,7 @@ fn first_alone<'s, 'e>(
         else [])) }
     ensures ticks { Ticks result steps.old steps.new
         (sum_by (calls (syntax selector.now)) (items_up_to (holds (syntax selector.now))
-            (views parents.now))) }
+        (views parents.now))) }
 {
     match first_free(selector, alloc, parents, &[], found, steps)? {
         Some(place) => Ok(Some(vec![in alloc; place]?)),
