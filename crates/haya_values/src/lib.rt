@@ -11,3 +11,6 @@ pub use maybe_typed::MaybeTyped;
 pub use one_or_many::{OneOrMany, OneOrManyIter};
 pub use publisher::Publisher;
 pub use url::QualifiedUrl;
+
+#[cfg(test)]
+mod tests;
