@@ -6,7 +6,8 @@ use Rattle.std.specs.declared.cmp.Ordering.TheVariants.{Less, Equal, Greater}
 use Rattle.haya_values.specs.MaybeTyped.{TypedOrText, Typed, Text}
 
 -- typed values before texts, typed values by their own order and texts by their bytes
-abbrev pub typed_first : {V : Type 0} → (V → V → Ordering) → TypedOrText V → TypedOrText V → Ordering
+abbrev pub typed_first : {V : Type 0} → (V → V → Ordering)
+    → TypedOrText V → TypedOrText V → Ordering
 typed_first order (Typed a) (Typed b) = order a b
 typed_first order (Typed a) (Text b) = Less
 typed_first order (Text a) (Typed b) = Greater

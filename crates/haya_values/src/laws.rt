@@ -15,8 +15,8 @@ use haya_numbers::{Numeric, PageRanges};
 use haya_text::TryClone;
 use haya_time::{Duration, DurationRange};
 
-/// `==` of values that are typed or a text, and of one or many values, holds exactly where both are equal
-/// by value, at each type whose own `==` does.
+/// `==` of values that are typed or a text, and of one or many values, holds exactly where both are
+/// equal by value, at each type whose own `==` does.
 pub fn equal_by_value_of_the_type<T: PartialEq + TryClone>()
     ensures typed { EqualsByView T.eq T.view
         → EqualsByView ⟦<MaybeTyped<T> as PartialEq>⟧.eq (maybe_typed_view T.view) }
@@ -38,8 +38,8 @@ pub fn equal_by_value()
     ensures publisher { EqualsByView ⟦<Publisher as PartialEq>⟧.eq publisher_view }
 {}
 
-/// `csl_cmp` of numbers and pages that may be texts is a total preorder: of any two one is first or they
-/// tie, and it goes on along chains.
+/// `csl_cmp` of numbers and pages that may be texts is a total preorder: of any two one is first or
+/// they tie, and it goes on along chains.
 pub fn order()
     ensures number { IsTotalOrder (typed_first csl_order) }
     ensures pages { IsTotalOrder (typed_first pages_order) }

@@ -33,7 +33,8 @@ impl<T> MaybeTyped<T> {
         }
     }
 
-    /// The same with the typed value borrowed, which takes no memory. A text is copied.
+    /// The same with the typed value borrowed, which takes no memory. A text is copied. The answer
+    /// is `OutOfMemory` where an allocation for the copy fails.
     pub fn to_cow(&self, alloc: Global) -> Result<MaybeTyped<&T>, OutOfMemory>
         ensures same { IfOk result (λ cow.
             maybe_typed_view (λ v. v.now) cow ≡ maybe_typed_view (λ v. v) self.now) }
@@ -47,8 +48,8 @@ impl<T> MaybeTyped<T> {
 }
 
 impl<T: fmt::Display> MaybeTyped<T> {
-    /// What Display prints: the print of the typed value, owned, or the text, borrowed, which takes no
-    /// memory.
+    /// What Display prints: the print of the typed value, owned, or the text, borrowed, which takes
+    /// no memory.
     pub fn to_str(&self, alloc: Global) -> Result<CowStr<'_>, OutOfMemory>
         ensures text { IfOk result (λ s.
             IfSome (shown T.output self.now) (λ text. cow_str_bytes s ≡ text)) }
@@ -77,6 +78,7 @@ impl<T: fmt::Display> fmt::Display for MaybeTyped<T> {
 impl<T> From<T> for MaybeTyped<T> {
     ghost from_gives = { λ value typed. typed ≡ Typed value };
 
+    /// The value as a typed one.
     fn from(value: T) -> MaybeTyped<T> {
         MaybeTyped::Typed(value)
     }

@@ -24,8 +24,8 @@ impl<T> OneOrMany<T> {
         OneOrMany::Vec(Vec::new(alloc))
     }
 
-    /// The values in order. A list is given as it is and takes no memory; for a value alone an allocation
-    /// may fail, and then it is handed back.
+    /// The values in order. A list is given as it is and takes no memory; for a value alone an
+    /// allocation may fail, and then the value is handed back.
     pub fn into_vec(self, alloc: Global) -> Result<Vec<T>, OneOrMany<T>>
         ensures items { MatchResult result
             (λ items. items.items ≡ items_of (one_or_many_view (λ v. v) self))
@@ -58,7 +58,8 @@ impl<T: Drop> IntoIterator for OneOrMany<T> {
 
     type IntoIter = OneOrManyIter<T>;
 
-    ghost into_iter_gives = { λ values it. items_left it ≡ items_of (one_or_many_view (λ v. v) values) };
+    ghost into_iter_gives = { λ values it.
+        items_left it ≡ items_of (one_or_many_view (λ v. v) values) };
 
     /// The values in order. It takes no memory.
     fn into_iter(self) -> OneOrManyIter<T> {

@@ -69,7 +69,8 @@ impl ReadText for Publisher {
 
     ghost reads = { publisher_read };
 
-    /// The publisher of the name that the text reads as, as `FormatString` reads it. No place is known.
+    /// The publisher of the name that the text reads as, as `FormatString` reads it. No place is
+    /// known. A text that is refused has a closing brace where no group is open.
     fn from_str(alloc: Global, text: &str) -> Result<Publisher, ChunkedReadError>
         ensures ok { IfOk result (λ p. publisher_read text.now ≡ Some (publisher_view p)) }
         ensures fault { IfErr result

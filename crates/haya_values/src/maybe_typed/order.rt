@@ -31,7 +31,7 @@ impl MaybeTyped<&Numeric> {
             (maybe_typed_view (λ n. numeric_view n.now) other.now) }
     {
         match (self, other) {
-            (MaybeTyped::Typed(a), MaybeTyped::Typed(b)) => a.csl_cmp(b),
+            (MaybeTyped::Typed(number), MaybeTyped::Typed(second)) => number.csl_cmp(second),
             _ => self.cmp_typed_first(other),
         }
     }
@@ -44,7 +44,7 @@ impl MaybeTyped<PageRanges> {
             (maybe_typed_view parts self.now) (maybe_typed_view parts other.now) }
     {
         match (self, other) {
-            (MaybeTyped::Typed(a), MaybeTyped::Typed(b)) => a.csl_cmp(b),
+            (MaybeTyped::Typed(pages), MaybeTyped::Typed(others)) => pages.csl_cmp(others),
             _ => self.cmp_typed_first(other),
         }
     }

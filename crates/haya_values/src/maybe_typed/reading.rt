@@ -15,8 +15,8 @@ impl<T: ReadText> ReadText for MaybeTyped<T> {
 
     ghost reads = { λ text. Some (typed_or_text (T.reads text) text) };
 
-    /// The value of the type that the text writes, and else the text itself. Where an allocation fails
-    /// the text may still write a value, so that it isn't answered in its place.
+    /// The value of the type that the text writes, and else the text itself. A failed allocation
+    /// says nothing of the text, which is then not answered in place of a value.
     fn from_str(alloc: Global, text: &str) -> Result<MaybeTyped<T>, OutOfMemory>
         ensures { IfOk result (λ read.
             maybe_typed_view T.value read ≡ typed_or_text (T.reads text.now) text.now) }
