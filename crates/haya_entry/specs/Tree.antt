@@ -165,29 +165,6 @@ no_fields key kind = record {
 abbrev pub new_entry : List ℕ → EntryType → Tree
 new_entry key kind = node (no_fields key kind) no_trees
 
--- these fields with the texts of others
-abbrev pub with_texts_of : Fields → Fields → Fields
-with_texts_of from f = record f {
-  title = from.title;
-  location = from.location;
-  organization = from.organization;
-  archive = from.archive;
-  archive_location = from.archive_location;
-  call_number = from.call_number;
-  note = from.note;
-  abstract_ = from.abstract_;
-  genre = from.genre;
-}
-
--- these fields with the others of another entry
-abbrev pub with_rest_of : Fields → Fields → Fields
-with_rest_of from f = record f {
-  authors = from.authors;
-  editors = from.editors;
-  affiliated = from.affiliated;
-  date = from.date;
-  volume_total = from.volume_total;
-  page_total = from.page_total;
-  language = from.language;
-  serial_number = from.serial_number;
-}
+-- the fields of another entry under the key and the type of these
+abbrev pub under_key_of : Fields → Fields → Fields
+under_key_of from f = record from { key = f.key; entry_type = f.entry_type }
