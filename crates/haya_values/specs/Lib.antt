@@ -1,0 +1,3 @@
+pub mod MaybeTyped
+pub mod Publisher
+pub mod Url

@@ -1,0 +1,11 @@
+//! Values that are typed or a text, addresses on the web, publishers, and one or many of a value.
+#![tactic(auto)]
+
+pub mod laws;
+mod maybe_typed;
+mod publisher;
+mod url;
+
+pub use maybe_typed::MaybeTyped;
+pub use publisher::Publisher;
+pub use url::QualifiedUrl;
