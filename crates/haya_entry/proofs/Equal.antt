@@ -16,6 +16,7 @@ use Rattle.haya_entry.specs.Tree.{Fields, Tree, Trees, node, trees, tree_list, f
 use Rattle.haya_entry.proofs.Trees.{tree_list-trees, view_is}
 use Rattle.haya_text.proofs.Tells.{Same, Tells, Same-both, Same-along, and-both, both-and, lists-tell, options-tell, strings-tell}
 use Rattle.haya_text.proofs.Equal.{texts-tell}
+use Rattle.haya_values.proofs.Equal.{numbers_or_texts-tell, pages_or_texts-tell, ranges_or_texts-tell, durations_or_texts-tell, urls-tell, publishers-tell}
 
 pub serials-tell : Tells serial.ghosts.eq serial_view
 serials-tell a b = lists-tell _ serial_entry (λ p q. Same-both _ _ _ _ _ _ (strings-tell p.0 q.0) (strings-tell p.1 q.1)) a.0.entries b.0.entries
@@ -67,10 +68,19 @@ levels-tell x y h = rw (entry_laws.is x y, view_is x, view_is y) (by-parts (λ e
     (and-field (λ f. f.editors) (options-tell _ _ (vectors-tell _ _ persons-tell) _ _)
     (and-field (λ f. f.affiliated) (options-tell _ _ (vectors-tell _ _ persons_with_roles-tell) _ _)
     (and-field (λ f. f.date) (option-same _ dates-tell _ _)
+    (and-field (λ f. f.publisher) (options-tell _ _ publishers-tell _ _)
+    (and-field (λ f. f.url) (options-tell _ _ urls-tell _ _)
+    (and-field (λ f. f.issue) (options-tell _ _ numbers_or_texts-tell _ _)
+    (and-field (λ f. f.chapter) (options-tell _ _ numbers_or_texts-tell _ _)
+    (and-field (λ f. f.volume) (options-tell _ _ numbers_or_texts-tell _ _)
+    (and-field (λ f. f.edition) (options-tell _ _ numbers_or_texts-tell _ _)
     (and-field (λ f. f.volume_total) (options-tell _ _ numeric-tells _ _)
     (and-field (λ f. f.page_total) (options-tell _ _ numeric-tells _ _)
-    (and-field (λ f. f.language) (options-tell _ _ strings-tell _ _)
-    (last-field (λ f. f.serial_number) (options-tell _ _ serials-tell _ _))))))))))))))))))))))
+    (and-field (λ f. f.page_range) (options-tell _ _ pages_or_texts-tell _ _)
+    (and-field (λ f. f.time_range) (options-tell _ _ ranges_or_texts-tell _ _)
+    (and-field (λ f. f.runtime) (options-tell _ _ durations_or_texts-tell _ _)
+    (and-field (λ f. f.serial_number) (options-tell _ _ serials-tell _ _)
+    (last-field (λ f. f.language) (options-tell _ _ strings-tell _ _)))))))))))))))))))))))))))))))
 
 -- the same for lists of trees of at most n entries
 lists-tell-below : (n : ℕ) → ((x y : Entry) → size (view x) ≤ n → Same (entry.ghosts.eq x y) (view x) (view y))

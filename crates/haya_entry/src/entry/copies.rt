@@ -45,10 +45,19 @@ impl Entry {
         clone_from(alloc, &mut self.editors, &from.editors)?;
         clone_from(alloc, &mut self.affiliated, &from.affiliated)?;
         self.date = from.date;
+        clone_from(alloc, &mut self.publisher, &from.publisher)?;
+        clone_from(alloc, &mut self.url, &from.url)?;
+        clone_from(alloc, &mut self.issue, &from.issue)?;
+        clone_from(alloc, &mut self.chapter, &from.chapter)?;
+        clone_from(alloc, &mut self.volume, &from.volume)?;
+        clone_from(alloc, &mut self.edition, &from.edition)?;
         clone_from(alloc, &mut self.volume_total, &from.volume_total)?;
         clone_from(alloc, &mut self.page_total, &from.page_total)?;
-        clone_from(alloc, &mut self.language, &from.language)?;
+        clone_from(alloc, &mut self.page_range, &from.page_range)?;
+        clone_from(alloc, &mut self.time_range, &from.time_range)?;
+        clone_from(alloc, &mut self.runtime, &from.runtime)?;
         clone_from(alloc, &mut self.serial_number, &from.serial_number)?;
+        clone_from(alloc, &mut self.language, &from.language)?;
         Ok(())
     }
 }
