@@ -201,6 +201,10 @@ no_fields key kind = record {
 abbrev pub new_entry : List ℕ → EntryType → Tree
 new_entry key kind = node (no_fields key kind) no_trees
 
--- the fields of another entry under the key and the type of these
-abbrev pub under_key_of : Fields → Fields → Fields
-under_key_of from f = record from { key = f.key; entry_type = f.entry_type }
+-- these fields with the people of others
+abbrev pub with_people_of : Fields → Fields → Fields
+with_people_of from f = record f { authors = from.authors; editors = from.editors; affiliated = from.affiliated }
+
+-- these fields with all that others have but their key, type and people
+abbrev pub with_rest_of : Fields → Fields → Fields
+with_rest_of from f = record (with_people_of f from) { key = f.key; entry_type = f.entry_type }

@@ -1,6 +1,6 @@
 //! Copies of entries.
 ghost use Rattle.std.specs.Prelude.{◌≡◌, [], IfOk, OnOk};
-ghost use Rattle.haya_entry.specs.Tree.{Sets, view, fields, with_parents, under_key_of};
+ghost use Rattle.haya_entry.specs.Tree.{Sets, view, fields, with_parents, with_people_of, with_rest_of};
 
 use crate::Entry;
 use haya_text::{OutOfMemory, TryClone};
@@ -24,13 +24,24 @@ impl Entry {
         ensures { IfOk result (λ copy. view copy ≡ with_parents [] (view self.now)) }
     {
         let mut copy = Entry::new(alloc, self.key(), self.entry_type())?;
-        copy.copy_fields(alloc, self)?;
+        copy.copy_people(alloc, self)?;
+        copy.copy_rest(alloc, self)?;
         Ok(copy)
     }
 
-    // Takes all fields of another entry over, but for its key and its type.
-    fn copy_fields(&mut self, alloc: Global, from: &Entry) -> Result<(), OutOfMemory>
-        ensures { OnOk result (Sets self.old self.new (under_key_of (fields (view from.now)))) }
+    // Takes the people over from another entry.
+    fn copy_people(&mut self, alloc: Global, from: &Entry) -> Result<(), OutOfMemory>
+        ensures { OnOk result (Sets self.old self.new (with_people_of (fields (view from.now)))) }
+    {
+        clone_from(alloc, &mut self.authors, &from.authors)?;
+        clone_from(alloc, &mut self.editors, &from.editors)?;
+        clone_from(alloc, &mut self.affiliated, &from.affiliated)?;
+        Ok(())
+    }
+
+    // Takes the other fields over.
+    fn copy_rest(&mut self, alloc: Global, from: &Entry) -> Result<(), OutOfMemory>
+        ensures { OnOk result (Sets self.old self.new (with_rest_of (fields (view from.now)))) }
     {
         clone_from(alloc, &mut self.title, &from.title)?;
         clone_from(alloc, &mut self.location, &from.location)?;
@@ -41,9 +52,6 @@ impl Entry {
         clone_from(alloc, &mut self.note, &from.note)?;
         clone_from(alloc, &mut self.abstract_, &from.abstract_)?;
         clone_from(alloc, &mut self.genre, &from.genre)?;
-        clone_from(alloc, &mut self.authors, &from.authors)?;
-        clone_from(alloc, &mut self.editors, &from.editors)?;
-        clone_from(alloc, &mut self.affiliated, &from.affiliated)?;
         self.date = from.date;
         clone_from(alloc, &mut self.publisher, &from.publisher)?;
         clone_from(alloc, &mut self.url, &from.url)?;
