@@ -1,5 +1,5 @@
 -- Addresses by value.
-use Rattle.std.specs.Prelude.{ℕ, List, Option, string_bytes}
+use Rattle.std.specs.Prelude.{ℕ, List, Option, None, string_bytes}
 use Rattle.haya_time.specs.declared.date.Date.{Date}
 use Rattle.haya_values.specs.declared.url.QualifiedUrl.{QualifiedUrl}
 
@@ -10,3 +10,7 @@ pub record UrlView : Type 0 where
 
 abbrev pub url_view : QualifiedUrl → UrlView
 url_view url = record { value = string_bytes url.value; visit_date = url.visit_date }
+
+-- the address that a text reads as: its bytes, without a date
+abbrev pub undated : List ℕ → UrlView
+undated text = record { value = text; visit_date = None }

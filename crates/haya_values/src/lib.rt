@@ -3,9 +3,14 @@
 
 pub mod laws;
 mod maybe_typed;
+mod one_or_many;
 mod publisher;
 mod url;
 
 pub use maybe_typed::MaybeTyped;
+pub use one_or_many::{OneOrMany, OneOrManyIter};
 pub use publisher::Publisher;
 pub use url::QualifiedUrl;
+
+#[cfg(test)]
+mod tests;

@@ -1,9 +1,10 @@
 //! Publishers.
-ghost use Rattle.std.specs.Prelude.{◌≡◌, IfOk, option_map};
+ghost use Rattle.std.specs.Prelude.{◌≡◌, false, None, Some, option_map, IfErr, IfOk};
+ghost use Rattle.haya_text.specs.Reading.{is_out_of_memory, IsRefusal};
 ghost use Rattle.haya_text.specs.Texts.{text_view};
-ghost use Rattle.haya_values.specs.Publisher.{PublisherView, publisher_view};
+ghost use Rattle.haya_values.specs.Publisher.{PublisherView, publisher_read, publisher_view};
 
-use haya_text::{FormatString, OutOfMemory, TryClone};
+use haya_text::{ChunkedReadError, FormatString, OutOfMemory, ReadText, TryClone};
 use std::alloc::Global;
 
 /// A publisher: its name and where it is, as far as they are known.
@@ -56,5 +57,26 @@ impl TryClone for Publisher {
 
     fn try_clone(&self, alloc: Global) -> Result<Publisher, OutOfMemory> {
         self.try_clone(alloc)
+    }
+}
+
+impl ReadText for Publisher {
+    type Fault = ChunkedReadError;
+
+    ghost Value = { PublisherView };
+
+    ghost value = { publisher_view };
+
+    ghost reads = { publisher_read };
+
+    /// The publisher of the name that the text reads as, as `FormatString` reads it. No place is known.
+    fn from_str(alloc: Global, text: &str) -> Result<Publisher, ChunkedReadError>
+        ensures ok { IfOk result (λ p. publisher_read text.now ≡ Some (publisher_view p)) }
+        ensures fault { IfErr result
+            (λ e. is_out_of_memory e ≡ false → publisher_read text.now ≡ None) }
+        ensures refused { IfErr result (IsRefusal text.now) }
+    {
+        let name = FormatString::from_str(alloc, text)?;
+        Ok(Publisher::new(Some(name), None))
     }
 }

@@ -1,10 +1,11 @@
 //! Addresses on the web.
-ghost use Rattle.std.specs.Prelude.{◌≡◌, IfOk, string_bytes};
-ghost use Rattle.haya_values.specs.Url.{UrlView, url_view};
+ghost use Rattle.std.specs.Prelude.{◌≡◌, Some, IfOk, string_bytes};
+ghost use Rattle.haya_values.specs.Url.{UrlView, undated, url_view};
 
-use haya_text::{OutOfMemory, TryClone};
+use haya_text::{OutOfMemory, ReadText, TryClone};
 use haya_time::Date;
 use std::alloc::Global;
+use std::fmt;
 
 /// An address on the web, and perhaps the date of a visit there.
 #[derive(Debug, Drop, PartialEq, Eq, Hash)]
@@ -42,5 +43,31 @@ impl TryClone for QualifiedUrl {
 
     fn try_clone(&self, alloc: Global) -> Result<QualifiedUrl, OutOfMemory> {
         self.try_clone(alloc)
+    }
+}
+
+impl ReadText for QualifiedUrl {
+    type Fault = OutOfMemory;
+
+    ghost Value = { UrlView };
+
+    ghost value = { url_view };
+
+    ghost reads = { λ text. Some (undated text) };
+
+    /// The text as the address, whatever it is, without a date.
+    fn from_str(alloc: Global, text: &str) -> Result<QualifiedUrl, OutOfMemory>
+        ensures { IfOk result (λ url. url_view url ≡ undated text.now) }
+    {
+        Ok(QualifiedUrl::new(String::from_str(alloc, text)?, None))
+    }
+}
+
+impl fmt::Display for QualifiedUrl {
+    ghost output = { λ url. Some (url_view url).value };
+
+    /// The address.
+    fn fmt<W: fmt::Write>(&self, f: &mut fmt::Formatter<W>) -> fmt::Result {
+        write!(f, "{}", self.value)
     }
 }
