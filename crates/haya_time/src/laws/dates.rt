@@ -3,6 +3,7 @@ ghost use Rattle.std.specs.Prelude.{◌≡◌, ◌↔◌, ℕ, List, None, Some,
 ghost use Rattle.std.specs.Cmp.{IsTotalOrder};
 ghost use Rattle.std.specs.declared.cmp.Ordering.TheVariants.{Equal};
 ghost use Rattle.std.specs.Str.{chars};
+ghost use Rattle.haya_text.specs.Equality.{EqualsByValue};
 ghost use Rattle.haya_time.specs.declared.date.Date as date;
 ghost use Rattle.haya_time.specs.declared.date.DateError as error;
 ghost use Rattle.haya_time.specs.DateForms.{IsRefusedAs, ReadsAs};
@@ -11,7 +12,7 @@ ghost use Rattle.haya_time.specs.DatePrinted.{date_text};
 ghost use Rattle.haya_time.specs.DateReadBack.{ReadsBack};
 ghost use Rattle.haya_time.specs.DateReading.{date_read};
 
-use crate::Date;
+use crate::{Date, DateError, Season};
 
 /// The order is equal exactly where the dates are, and has no answer exactly where one side alone tells the month
 /// of the same year, or the day of the same month.
@@ -30,6 +31,12 @@ pub fn csl_order_of_dates()
 /// `==` holds exactly where all fields are equal.
 pub fn dates_equal_by_value()
     ensures { (a b : date.Date) → (⟦<Date as PartialEq>⟧.eq a b ≡ true) ↔ (a ≡ b) }
+{}
+
+/// `==` of seasons and of faults of dates holds exactly where both are the same, with the same day.
+pub fn kinds_equal_by_value()
+    ensures season { EqualsByValue ⟦<Season as PartialEq>⟧.eq }
+    ensures fault { EqualsByValue ⟦<DateError as PartialEq>⟧.eq }
 {}
 
 /// A text has one value or one fault, and the forms of dates say which: each text reads as exactly one of them.

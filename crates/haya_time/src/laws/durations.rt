@@ -2,6 +2,7 @@
 ghost use Rattle.std.specs.Prelude.{◌≡◌, ◌↔◌, ◌⊎◌, ◌<◌, ◌^◌, ℕ, List, true, Ok, Err};
 ghost use Rattle.std.specs.Cmp.{IsTotalOrder};
 ghost use Rattle.std.specs.Str.{chars};
+ghost use Rattle.haya_text.specs.Equality.{EqualsByValue};
 ghost use Rattle.haya_time.specs.DurationBack.{reads_back, range_reads_back};
 ghost use Rattle.haya_time.specs.DurationGrammar.{IsDuration, RangeTooLarge, ReadsAs, ReadsAsRange, ReadsTooLarge};
 ghost use Rattle.haya_time.specs.DurationOrder.{duration_cmp};
@@ -11,7 +12,7 @@ ghost use Rattle.haya_time.specs.declared.duration.Duration as duration;
 ghost use Rattle.haya_time.specs.declared.duration.range.DurationRange as range;
 ghost use Rattle.haya_time.specs.declared.duration.reading.DurationError.TheVariants as error;
 
-use crate::{Duration, DurationRange};
+use crate::{Duration, DurationError, DurationRange};
 use std::cmp::Ordering;
 
 /// A text reads as a duration exactly where its parts are that duration's and it isn't too large. It is
@@ -51,6 +52,11 @@ pub fn order_of_durations()
         (⟦<Duration as PartialEq>⟧.eq a b ≡ true) ↔ (a ≡ b) }
     ensures range_eq { (a b : range.DurationRange) →
         (⟦<DurationRange as PartialEq>⟧.eq a b ≡ true) ↔ (a ≡ b) }
+{}
+
+/// `==` of faults of durations holds exactly where both are the same.
+pub fn faults_equal_by_value()
+    ensures { EqualsByValue ⟦<DurationError as PartialEq>⟧.eq }
 {}
 
 /// What `Duration::reads_back` and `DurationRange::reads_back` accept is read back from its printed text
