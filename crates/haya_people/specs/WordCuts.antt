@@ -13,8 +13,9 @@ AreApart [] = Unit {0}
 AreApart (w ∷ []) = w.0 ++ w.1 ≢ []
 AreApart (w ∷ v ∷ ws) = (w.1 ≢ []) × (v.0 ≢ []) × AreApart (v ∷ ws)
 
--- words and gaps joined they are the list, each is a word or a gap, and words and gaps are the longest
-pub record AreWords {X : Type 0} (is_gap : X → Bool) (xs : List X) (ws : List (Word X)) : Type 0 where
+-- words and gaps joined are the list, each is what it is to be, and none could be longer
+pub record AreWords {X : Type 0} (is_gap : X → Bool) (xs : List X) (ws : List (Word X))
+    : Type 0 where
   pub joined : joined_words ws ≡ xs
   pub each : All (IsWord is_gap) ws
   pub longest : AreApart ws

@@ -25,11 +25,11 @@ pub fn faults_equal_by_value()
     ensures { EqualsByValue ⟦<PersonError as PartialEq>⟧.eq }
 {}
 
-/// The words of a text, and those of a given name's graphemes, are its one cut into longest words and
-/// longest gaps: joined they are the text, and words and gaps take turns.
+/// The words of a text, and those of a given name's graphemes, are its one cut into longest words
+/// and longest gaps: joined they are the text, and words and gaps take turns.
 pub fn words_are_the_only_cut()
     ensures characters { (is_gap : ℕ → Bool) (text : List ℕ) (ws : List (Word ℕ)) →
         AreWords is_gap text ws ↔ (ws ≡ words is_gap text) }
-    ensures graphemes { (is_gap : Grapheme → Bool) (name : List Grapheme) (ws : List (Word Grapheme)) →
-        AreWords is_gap name ws ↔ (ws ≡ words is_gap name) }
+    ensures graphemes { (is_gap : Grapheme → Bool) (name : List Grapheme)
+        (ws : List (Word Grapheme)) → AreWords is_gap name ws ↔ (ws ≡ words is_gap name) }
 {}

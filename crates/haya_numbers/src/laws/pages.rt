@@ -22,8 +22,8 @@ pub fn pieces()
     ensures { (text : List ℕ) (ps : List (List ℕ)) → AreItsPieces text ps ↔ (ps ≡ pieces text) }
 {}
 
-/// The halves of a text at escaped hyphens, and those at dashes, are the one list that has such a mark
-/// between each two, makes up the text, and has none within a half.
+/// The halves of a text at escaped hyphens, and those at dashes, are the one list that has such a
+/// mark between each two, makes up the text, and has none within a half.
 pub fn halves()
     ensures escaped { (text : List ℕ) (hs : List (List ℕ)) →
         AreHalves IsEscapedHyphen text hs ↔ (hs ≡ escaped_split text) }
@@ -31,8 +31,8 @@ pub fn halves()
         AreHalves IsDash text hs ↔ (hs ≡ dash_split text) }
 {}
 
-/// A text reads as pages exactly where each of its pieces reads as a part, and else its fault is that of
-/// the first piece that has one.
+/// A text reads as pages exactly where each of its pieces reads as a part, and else its fault is
+/// that of the first piece that has one.
 pub fn reads_by_pieces()
     ensures read { (text : List ℕ) (ps : List PartView) →
         (pages_read text ≡ Ok ps) ↔ (map part_read (pieces text) ≡ map (λ p. Ok p) ps) }
@@ -60,8 +60,9 @@ pub fn order()
     ensures pages { IsTotalOrder pages_order }
 {}
 
-/// Pages and ranges of single numbers from 0 on without affixes, with one separator between two, read
-/// back from their print as themselves. `PageRanges::reads_back` tells whether pages are like that.
+/// Pages and ranges of single numbers from 0 on without affixes, with one separator
+/// between two, read back from their print as themselves. `PageRanges::reads_back` tells
+/// whether pages are like that.
 pub fn reads_back()
     ensures { (ps : List PartView) → are_readable ps ≡ true
         → pages_read (chars (shown_pages ps)) ≡ Ok ps }

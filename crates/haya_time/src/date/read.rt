@@ -14,7 +14,8 @@ use super::text::{behind, is_blank, is_numeric, skip_whitespace, split_char};
 use super::{Date, DateError};
 use std::str::FromStr;
 
-// What a date's text begins with: perhaps a tilde, then a year of two or four digits. The rest follows.
+// What a date's text begins with: perhaps a tilde, then a year of two or four
+// digits. The rest follows.
 #[derive(Clone, Copy)]
 pub(super) struct Opening<'a> {
     approximate: bool,
@@ -37,8 +38,9 @@ impl FromStr for Date {
 }
 
 impl Date {
-    /// Whether the date is read back from its printed text as itself: its year is -9999 to 9999, its month and
-    /// day are the calendar's where they are told, no day is told without its month, and no season is.
+    /// Whether the date is read back from its printed text as itself: its year is -9999 to 9999,
+    /// its month and day are the calendar's where they are told, no day is told without its
+    /// month, and no season is.
     pub fn reads_back(&self) -> bool
         ensures { IsTrue result ↔ ReadsBack self.now }
     {
@@ -181,7 +183,8 @@ fn take_part(text: &str) -> Option<(u8, &str)>
     }
 }
 
-// The number at the front, perhaps behind white space, and what follows its run of numeric characters.
+// The number at the front, perhaps behind white space, and what follows its
+// run of numeric characters.
 fn take_number(text: &str) -> Option<(Number, &str)>
     ensures none { IfNone result (number_at (chars text.now) ≡ None) }
     ensures some { IfSome result
@@ -211,7 +214,8 @@ fn take_run(text: &str) -> (Option<Number>, &str)
     (number, rest)
 }
 
-// The number with one more digit. There is none where the character is no digit, or would be the fifth.
+// The number with one more digit. There is none where the character is no
+// digit, or would be the fifth.
 fn with_digit(number: Option<Number>, c: char) -> Option<Number>
     ensures { number_view result ≡ with_digit (number_view number) c }
 {

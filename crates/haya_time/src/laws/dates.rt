@@ -14,8 +14,8 @@ ghost use Rattle.haya_time.specs.DateReading.{date_read};
 
 use crate::{Date, DateError, Season};
 
-/// The order is equal exactly where the dates are, and has no answer exactly where one side alone tells the month
-/// of the same year, or the day of the same month.
+/// The order is equal exactly where the dates are, and has no answer exactly where one side alone
+/// tells the month of the same year, or the day of the same month.
 pub fn order_of_dates()
     ensures equal { (a b : date.Date) →
         (⟦<Date as PartialOrd>⟧.partial_cmp a b ≡ Some Equal) ↔ (a ≡ b) }
@@ -39,14 +39,16 @@ pub fn kinds_equal_by_value()
     ensures fault { EqualsByValue ⟦<DateError as PartialEq>⟧.eq }
 {}
 
-/// A text has one value or one fault, and the forms of dates say which: each text reads as exactly one of them.
+/// A text has one value or one fault, and the forms of dates say which: each text
+/// reads as exactly one of them.
 pub fn reads_the_forms_of_dates()
     ensures value { (text : List ℕ) (d : date.Date) → (date_read text ≡ Ok d) ↔ ReadsAs text d }
     ensures fault { (text : List ℕ) (e : error.DateError) →
         (date_read text ≡ Err e) ↔ IsRefusedAs text e }
 {}
 
-/// A date of the years -9999 to 9999, on the calendar and with no season, is read back from its printed text.
+/// A date of the years -9999 to 9999, on the calendar and with no season, is read
+/// back from its printed text.
 pub fn dates_read_back()
     ensures { (d : date.Date) → ReadsBack d → date_read (chars (date_text d)) ≡ Ok d }
 {}
