@@ -34,7 +34,8 @@ pub persons_total : IsTotalOrder (on person_view person_cmp)
 persons_total = on_total person_view views_total
 
 parts_tie : {B : Type 0} (a b : Option (String B))
-    → option_eq string_eq a b ≡ is_eq (part_cmp (option_map string_bytes a) (option_map string_bytes b))
+    → option_eq string_eq a b
+    ≡ is_eq (part_cmp (option_map string_bytes a) (option_map string_bytes b))
 parts_tie None None = refl
 parts_tie None (Some b) = refl
 parts_tie (Some a) None = refl
