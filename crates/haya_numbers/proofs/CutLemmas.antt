@@ -16,7 +16,7 @@ use Rattle.haya_numbers.specs.Cuts.{escaped_split}
 abbrev pub HasNoEscape : List ℕ → Type 0
 HasNoEscape cs = (xs ys : List ℕ) → cs ≢ xs ++ 92 ∷ 45 ∷ ys
 
-escape-is : (c d : ℕ) → (eqb c 92 && eqb d 45) ≡ true → (c ≡ 92) × (d ≡ 45)
+pub escape-is : (c d : ℕ) → (eqb c 92 && eqb d 45) ≡ true → (c ≡ 92) × (d ≡ 45)
 escape-is c d h = let both = and-both (eqb c 92) (eqb d 45) h in (grind (arith, nat_tests, both.0), grind (arith, nat_tests, both.1))
 
 pub escaped_split-none : (cs : List ℕ) → HasNoEscape cs → escaped_split cs ≡ cs ∷ []

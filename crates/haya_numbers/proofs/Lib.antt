@@ -2,7 +2,9 @@ mod Affixes
 mod Backs
 mod CutLemmas
 mod Digits
+mod EnumsEqual
 mod Grammars
+mod HalfLaws
 mod Items
 mod Magnitudes
 pub mod PagesEqual

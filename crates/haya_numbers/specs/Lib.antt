@@ -1,6 +1,7 @@
 pub mod Characters
 pub mod Classes
 pub mod Cuts
+pub mod Halves
 pub mod Numbers
 pub mod Numeric
 pub mod NumericBack

@@ -43,8 +43,8 @@ abbrev pub numbers : ValueView → List ℤ
 numbers (Single n) = n ∷ []
 numbers (SetOf items) = numbers_of items
 
--- The order of two values: by the first numbers that differ; of two that begin alike the shorter is
--- first.
+-- The order of two values: by the first numbers that differ; of two that begin
+-- alike the shorter is first.
 abbrev pub value_order : ValueView → ValueView → Ordering
 value_order v w = slice_cmp int_cmp (numbers v) (numbers w)
 

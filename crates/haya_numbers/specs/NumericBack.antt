@@ -22,7 +22,8 @@ items_read_back [] = false
 items_read_back ((n, None) ∷ []) = is_readable n
 items_read_back ((n, None) ∷ j ∷ rest) = false
 items_read_back ((n, Some d) ∷ []) = false
-items_read_back ((n, Some d) ∷ j ∷ rest) = is_readable n && may_follow d j.0 && items_read_back (j ∷ rest)
+items_read_back ((n, Some d) ∷ j ∷ rest) =
+    is_readable n && may_follow d j.0 && items_read_back (j ∷ rest)
 
 -- one number, or two and more
 abbrev pub value_reads_back : ValueView → Bool

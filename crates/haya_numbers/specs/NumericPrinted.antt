@@ -42,8 +42,10 @@ formatted_delimiter false d = delimiter_text d
 
 -- what is written for a value, for a machine or not
 abbrev pub formatted_value : Bool → ValueView → List ℕ
-formatted_value machine_readable v = value_text signed_decimal (formatted_delimiter machine_readable) v
+formatted_value machine_readable v =
+    value_text signed_decimal (formatted_delimiter machine_readable) v
 
 -- a number with its affixes
 abbrev pub shown_numeric : NumericView → List ℕ
-shown_numeric n = text_or_nothing n.prefix ++ formatted_value false n.value ++ text_or_nothing n.suffix
+shown_numeric n =
+    text_or_nothing n.prefix ++ formatted_value false n.value ++ text_or_nothing n.suffix

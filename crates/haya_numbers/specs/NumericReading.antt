@@ -74,15 +74,18 @@ number_front cs =
 
 -- a number of a set with its delimiter: the run behind the number names it
 abbrev pub delimited : ℤ → List ℕ → Item × List ℕ
-delimited n rest = ((n, result_ok (delimiter_read (run is_delimiter rest))), past_run is_delimiter rest)
+delimited n rest =
+    ((n, result_ok (delimiter_read (run is_delimiter rest))), past_run is_delimiter rest)
 
 -- the next number of a set, with its delimiter, and what stands behind both
 abbrev pub item_front : List ℕ → Option (Item × List ℕ)
 item_front cs =
-    option_map (λ p. delimited p.0 (skip_leading_whitespace p.1)) (number_front (skip_leading_whitespace cs))
+    option_map (λ p. delimited p.0 (skip_leading_whitespace p.1))
+    (number_front (skip_leading_whitespace cs))
 
 -- a number without a delimiter ends its set
-abbrev pub items_on : Option (Item × List ℕ) → (List ℕ → Option (List Item × List ℕ)) → Option (List Item × List ℕ)
+abbrev pub items_on : Option (Item × List ℕ) → (List ℕ → Option (List Item × List ℕ))
+    → Option (List Item × List ℕ)
 items_on None more = None
 items_on (Some ((n, None), rest)) more = Some ((n, None) ∷ [], rest)
 items_on (Some ((n, Some d), rest)) more = option_map (λ p. ((n, Some d) ∷ p.0, p.1)) (more rest)
@@ -121,10 +124,15 @@ abbrev pub ended : NumericView → List ℕ → Result NumericView NumericError
 ended v [] = Ok v
 ended v (c ∷ cs) = Err UnexpectedCharactersAfterPostfix
 
-abbrev pub suffixed : List ℕ → List ℕ → Option (ValueView × List ℕ) → Result NumericView NumericError
+abbrev pub suffixed : List ℕ → List ℕ → Option (ValueView × List ℕ)
+    → Result NumericView NumericError
 suffixed before white None = Err NoNumber
 suffixed before white (Some (v, rest)) =
-    ended (record { value = v; prefix = affix (encode_utf8_all before); suffix = suffix_with white (run is_suffix (skip_leading_whitespace rest)) })
+    ended (record {
+      value = v;
+      prefix = affix (encode_utf8_all before);
+      suffix = suffix_with white (run is_suffix (skip_leading_whitespace rest));
+    })
     (past_run is_suffix (skip_leading_whitespace rest))
 
 abbrev pub valued : List ℕ → Option (ℤ × List ℕ) → Result NumericView NumericError

@@ -30,8 +30,8 @@ half_read cs =
 abbrev pub both_read : List ℕ → List ℕ → Result (NumericView × NumericView) PageRangesPartErr
 both_read start end = result_zip (half_read start) (half_read end)
 
--- One half is a page, two are a range of that kind. More are malformed, where the first two are
--- numbers.
+-- One half is a page, two are a range of that kind. More are malformed, where
+-- the first two are numbers.
 abbrev pub halves_read : (NumericView → NumericView → PartView) → List (List ℕ)
     → Result PartView PageRangesPartErr
 halves_read range [] = Err Empty
@@ -65,7 +65,8 @@ collect [] = Ok []
 collect (Err e ∷ rs) = Err e
 collect (Ok v ∷ rs) = result_map_both (λ vs. v ∷ vs) (λ e. e) (collect rs)
 
--- what the characters of a text read as: a part for each piece, or the fault of the first faulty one
+-- what the characters of a text read as: a part for each piece, or the
+-- fault of the first faulty one
 abbrev pub pages_read : List ℕ → Result (List PartView) PageRangesPartErr
 pages_read cs = collect (map part_read (pieces cs))
 
@@ -83,5 +84,6 @@ pub record IsFirstFault {V E : Type 0} (rs : List (Result V E)) (e : E) : Type 0
   pub is : rs ≡ map (λ v. Ok v) before ++ Err e ∷ behind
 
 -- the value by this view, or the fault
-abbrev pub Reads : {A V : Type 0} → (A → V) → Result V PageRangesPartErr → Result A PageRangesPartErr → Type 0
+abbrev pub Reads : {A V : Type 0} → (A → V) → Result V PageRangesPartErr
+    → Result A PageRangesPartErr → Type 0
 Reads view read result = MatchResult result (λ v. read ≡ Ok (view v)) (IsFaultIn read)

@@ -2,6 +2,7 @@
 ghost use Rattle.std.specs.Prelude.{◌≡◌, ◌↔◌, ℕ, List, true, Ok, Err};
 ghost use Rattle.std.specs.Str.{chars};
 ghost use Rattle.std.specs.Cmp.{IsTotalOrder};
+ghost use Rattle.haya_text.specs.Equality.{EqualsByValue};
 ghost use Rattle.haya_numbers.specs.Numeric.{NumericView, value_view, numeric_view, csl_order};
 ghost use Rattle.haya_numbers.specs.NumericBack.{reads_back as is_back};
 ghost use Rattle.haya_numbers.specs.NumericGrammar.{IsFault, ReadsAs};
@@ -13,7 +14,7 @@ ghost use Rattle.haya_numbers.specs.declared.numeric.NumericValue as numeric_val
 
 pub mod pages;
 
-use crate::{Numeric, NumericValue};
+use crate::{GrammarGender, NumberForm, Numeric, NumericDelimiter, NumericError, NumericValue};
 
 /// `==` of numbers and of their values holds exactly where both are equal by value.
 pub fn equal_by_value()
@@ -21,6 +22,14 @@ pub fn equal_by_value()
         → (⟦<Numeric as PartialEq>⟧.eq a b ≡ true) ↔ (numeric_view a ≡ numeric_view b) }
     ensures value { (a b : numeric_value.NumericValue)
         → (⟦<NumericValue as PartialEq>⟧.eq a b ≡ true) ↔ (value_view a ≡ value_view b) }
+{}
+
+/// `==` of delimiters, forms, genders and faults of numbers holds exactly where both are the same.
+pub fn kinds_equal_by_value()
+    ensures delimiter { EqualsByValue ⟦<NumericDelimiter as PartialEq>⟧.eq }
+    ensures form { EqualsByValue ⟦<NumberForm as PartialEq>⟧.eq }
+    ensures gender { EqualsByValue ⟦<GrammarGender as PartialEq>⟧.eq }
+    ensures fault { EqualsByValue ⟦<NumericError as PartialEq>⟧.eq }
 {}
 
 /// The order of numbers is total: of any two one is first or they tie, and it goes on along chains.

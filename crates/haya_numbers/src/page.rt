@@ -88,8 +88,8 @@ impl PageRanges {
         None
     }
 
-    /// Whether there is more than one page: some range has an end that differs from its start, or there
-    /// are two pages or ranges.
+    /// Whether there is more than one page: some range has an end that differs from its start, or
+    /// there are two pages or ranges.
     pub fn is_plural(&self) -> bool
         ensures { IsTrue result ↔ ArePlural (parts self.now) }
     {

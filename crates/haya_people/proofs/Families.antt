@@ -8,38 +8,13 @@ use Rattle.std.specs.Str.Pattern.{HasPassingCharAt}
 use Rattle.unicode.specs.Binary.{is_lowercase}
 use Rattle.haya_people.specs.Words.{Word, onto_word, onto_gap, words, joined_words, first_passes}
 use Rattle.std.specs.List.{list_any}
+use Rattle.haya_people.proofs.WordLemmas.{Inner, joined_words-words, word-before, word-last}
 use Rattle.haya_people.specs.Reading.{words_of, is_lower, last_word, words_behind_lower, name_words, name_of, IsEnd, IsFirstWord}
 
-joined-onto_word : {X : Type 0} (x : X) (ws : List (Word X)) → joined_words (onto_word x ws) ≡ x ∷ joined_words ws
-joined-onto_word x [] = refl
-joined-onto_word x ((w, g) ∷ ws) = refl
-
-joined-onto_gap : {X : Type 0} (x : X) (ws : List (Word X)) → joined_words (onto_gap x ws) ≡ x ∷ joined_words ws
-joined-onto_gap x [] = refl
-joined-onto_gap x (([], g) ∷ ws) = refl
-joined-onto_gap x ((c ∷ w, g) ∷ ws) = refl
-
--- the words and gaps of a list make it up
-pub joined_words-words : {X : Type 0} (is_gap : X → Bool) (xs : List X) → joined_words (words is_gap xs) ≡ xs
-unfolding words
-joined_words-words is_gap [] = refl
-joined_words-words is_gap (x ∷ xs) = onto (is_gap x) ∙ ap (λ ys. x ∷ ys) (joined_words-words is_gap xs)
-  where
-    onto : (b : Bool) → joined_words (cond b (onto_gap x (words is_gap xs)) (onto_word x (words is_gap xs))) ≡ x ∷ joined_words (words is_gap xs)
-    onto true = joined-onto_gap x (words is_gap xs)
-    onto false = joined-onto_word x (words is_gap xs)
-
--- a word before a gap
-word_before : (p : ℕ → Bool) (word cs gap : List ℕ) (ws : List (Word ℕ)) → NonePass p word → words p cs ≡ ([], gap) ∷ ws → words p (word ++ cs) ≡ (word, gap) ∷ ws
-unfolding words
-word_before p [] cs gap ws h e = e
-word_before p (c ∷ word) cs gap ws h e = rw (h.0, word_before p word cs gap ws h.1 e) refl
-
--- a word alone
-word_alone : (p : ℕ → Bool) (c : ℕ) (word : List ℕ) → NonePass p (c ∷ word) → words p (c ∷ word) ≡ (c ∷ word, []) ∷ []
-unfolding words
-word_alone p c [] h = rw h.0 refl
-word_alone p c (d ∷ word) h = rw (h.0, word_alone p d word h.1) refl
+-- no character of a word is in a gap
+inner : (p : ℕ → Bool) (cs : List ℕ) → NonePass p cs → Inner p cs
+inner p [] h = tt
+inner p (c ∷ cs) h = (h.0, inner p cs h.1)
 
 onto_gap-onto_word : (c d : ℕ) (ws : List (Word ℕ)) → onto_gap c (onto_word d ws) ≡ ([], c ∷ []) ∷ onto_word d ws
 onto_gap-onto_word c d [] = refl
@@ -68,7 +43,7 @@ word_to_gap text front back behind c rest e u v w h k b t (mid, m) =
     record {
       gap = g.0;
       words = ap words_of e ∙ ap (words is_whitespace) (chars-append front back u ∙ ap (λ l. chars front ++ l) cs)
-          ∙ word_before is_whitespace (chars front) (c ∷ chars rest) g.0 _ h g.1 ∙ ap (λ l. (chars front, g.0) ∷ words is_whitespace l) (sym left);
+          ∙ word-before is_whitespace (chars front) (c ∷ chars rest) g.0 _ (inner is_whitespace (chars front) h) g.1 ∙ ap (λ l. (chars front, g.0) ∷ words is_whitespace l) (sym left);
       valid = w;
       end = (front ++ mid, e ∙ ap (λ l. front ++ l) m ∙ sym (append_assoc front mid behind));
     }
@@ -79,7 +54,7 @@ unfolding words
 word_to_end text behind c cs e h b = record {
   gap = [];
   valid = rw b IsUtf8-nil;
-  words = rw (b, chars-nil, e) (word_alone is_whitespace c cs (rw e at h));
+  words = rw (b, chars-nil, e) (word-last is_whitespace c cs (inner is_whitespace (c ∷ cs) (rw e at h)));
   end = (text, ap (λ l. l) (sym (append-nil text)) ∙ ap (λ l. text ++ l) (sym b));
 }
 

@@ -10,3 +10,5 @@ mod Parts
 mod Rows
 mod Steps
 mod Items
+mod WordLaws
+mod WordLemmas

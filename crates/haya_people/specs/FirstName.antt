@@ -13,7 +13,8 @@ delimiter_behind delimiter item = if length (graphemes true item) == 1 then deli
 unfoldable pub delimited : List ℕ → List ℕ → List ℕ
 delimited delimiter given_name =
     join_with_byte blank
-    (map (λ item. item ++ delimiter_behind delimiter item) (slice_split (λ b. b == blank) given_name))
+    (map (λ item. item ++ delimiter_behind delimiter item)
+    (slice_split (λ b. b == blank) given_name))
 
 -- nothing is written where there is no given name
 abbrev pub first_name_with_delimiter : List ℕ → Option (List ℕ) → List ℕ

@@ -16,13 +16,15 @@ given_form by_initials given_name =
     then initials_of (record { delimiter = full_stop ∷ blank ∷ []; with_hyphen = true }) given_name
     else given_name
 
--- the family name first: the prefix stands before it, or else behind the given name; the suffix stands last
+-- the family name first: the prefix stands before it, or else behind the given
+-- name; the suffix stands last
 unfoldable pub name_first : Bool → Bool → PersonView → List ℕ
 name_first by_initials prefix_given_name v =
     (if prefix_given_name then [] else between [] (blank ∷ []) v.prefix)
     ++ (v.name
     ++ (between (comma ∷ blank ∷ []) [] (option_map (given_form by_initials) v.given_name)
-    ++ ((if prefix_given_name then between (if is_some v.given_name then blank ∷ [] else []) [] v.prefix else [])
+    ++ ((if prefix_given_name
+    then between (if is_some v.given_name then blank ∷ [] else []) [] v.prefix else [])
     ++ between (comma ∷ blank ∷ []) [] v.suffix)))
 
 -- the given name first, then the prefix, the family name and the suffix

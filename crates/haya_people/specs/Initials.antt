@@ -41,7 +41,8 @@ stem (g ∷ word) = if is_upper g then g ∷ [] else g ∷ stem word
 abbrev pub is_plain : List Grapheme → Bool
 is_plain word = not (list_any is_upper word)
 
--- what initials are put together with: the delimiter (empty where there is none), and whether hyphens are kept
+-- what initials are put together with: the delimiter (empty where there is none), and
+-- whether hyphens are kept
 pub record Style : Type 0 where
   pub delimiter : List ℕ
   pub with_hyphen : Bool
@@ -53,10 +54,12 @@ style_with delimiter with_hyphen = record {
   with_hyphen = with_hyphen;
 }
 
--- the blank before a word: none where its first grapheme is upper, or the delimiter ends in white space
+-- the blank before a word: none where its first grapheme is upper, or the
+-- delimiter ends in white space
 abbrev pub lead : Style → Grapheme → List ℕ
 lead style g =
-    if is_upper g || nat_lt (length (trim_end style.delimiter)) (length style.delimiter) then [] else blank ∷ []
+    if is_upper g || nat_lt (length (trim_end style.delimiter)) (length style.delimiter) then []
+    else blank ∷ []
 
 -- whether a separator is written as a hyphen
 abbrev pub is_hyphened : Style → Grapheme → Bool
@@ -66,7 +69,8 @@ is_hyphened style sep = style.with_hyphen && begins_with_hyphen sep
 abbrev pub plain_separator : Style → Grapheme → List ℕ
 plain_separator style sep = if is_hyphened style sep then hyphen ∷ [] else blank ∷ []
 
--- what the separators behind any other word write: the first alone does; with no separator the name ends
+-- what the separators behind any other word write: the first alone does; with
+-- no separator the name ends
 abbrev pub delimiter_for : Style → List Grapheme → List ℕ
 delimiter_for style [] = trim_end style.delimiter
 delimiter_for style (sep ∷ seps) =
@@ -74,7 +78,8 @@ delimiter_for style (sep ∷ seps) =
 
 -- what is written behind a word
 abbrev pub gap_bytes : Style → Bool → List Grapheme → List ℕ
-gap_bytes style is_plain seps = if is_plain then flat_map (plain_separator style) seps else delimiter_for style seps
+gap_bytes style is_plain seps =
+    if is_plain then flat_map (plain_separator style) seps else delimiter_for style seps
 
 -- what a word and the separators behind it write; those before the first word write nothing
 abbrev pub word_bytes : Style → Word Grapheme → List ℕ
@@ -84,7 +89,8 @@ word_bytes style (g ∷ word, seps) =
 
 -- the initials of a given name
 unfoldable pub initials_of : Style → List ℕ → List ℕ
-initials_of style given_name = flat_map (word_bytes style) (words is_separator (graphemes true given_name))
+initials_of style given_name =
+    flat_map (word_bytes style) (words is_separator (graphemes true given_name))
 
 -- nothing is written where there is no given name
 abbrev pub initials : Style → Option (List ℕ) → List ℕ

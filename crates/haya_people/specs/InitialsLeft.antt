@@ -15,7 +15,8 @@ style_of s = record { delimiter = s.delimiter.now; with_hyphen = s.with_hyphen }
 abbrev pub words_bytes : Style → List (Word Grapheme) → List ℕ
 words_bytes style ws = flat_map (word_bytes style) ws
 
--- what is to be written at a place: these words are left, the first being the rest of the word or gap there
+-- what is to be written at a place: these words are left, the first being the rest
+-- of the word or gap there
 abbrev pub initials_left : Style → Place → List (Word Grapheme) → List ℕ
 initials_left style Apart ws = words_bytes style ws
 initials_left style Plain [] = []
@@ -24,7 +25,8 @@ initials_left style Plain ((word, seps) ∷ ws) =
 initials_left style Initial [] = trim_end style.delimiter
 initials_left style Initial ((word, seps) ∷ ws) = delimiter_for style seps ++ words_bytes style ws
 initials_left style BehindPlain [] = []
-initials_left style BehindPlain (([], seps) ∷ ws) = flat_map (plain_separator style) seps ++ words_bytes style ws
+initials_left style BehindPlain (([], seps) ∷ ws) =
+    flat_map (plain_separator style) seps ++ words_bytes style ws
 initials_left style BehindPlain ((g ∷ word, seps) ∷ ws) = words_bytes style ((g ∷ word, seps) ∷ ws)
 
 -- the words with one more grapheme before the first
@@ -33,4 +35,5 @@ one_more g left = if is_separator g then onto_gap g left else onto_word g left
 
 -- what a step writes, and then what these words write at the place behind it
 abbrev pub written_with : Style → Step → List (Word Grapheme) → List ℕ
-written_with style step left = step.front.now ++ (step.back.now ++ initials_left style step.next left)
+written_with style step left =
+    step.front.now ++ (step.back.now ++ initials_left style step.next left)

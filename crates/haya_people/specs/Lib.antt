@@ -12,3 +12,4 @@ pub mod InitialsLeft
 pub mod Pieces
 pub mod Reading
 pub mod Words
+pub mod WordCuts

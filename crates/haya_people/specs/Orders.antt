@@ -80,8 +80,8 @@ abbrev pub pair_cmp : Option (Bor (List ℕ)) × Option (Bor (List ℕ)) → Ord
 pair_cmp pair =
     part_cmp (option_map folded (option_copied pair.0)) (option_map folded (option_copied pair.1))
 
--- the order of a style's lists, for two names of which it is told whether they are CJK: those that are
--- not come first, and else their parts decide
+-- the order of a style's lists, for two names of which it is told whether they are CJK: those that
+-- are not come first, and else their parts decide
 abbrev pub csl_cmp : LongShortForm → Bool → List (List ℕ) → Bool × PersonView → Bool × PersonView
     → Ordering
 csl_cmp form demoted table p q =

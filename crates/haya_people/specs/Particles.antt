@@ -50,7 +50,8 @@ joined None back = back
 abbrev pub name_particles : List (List ℕ) → PersonView → Option (List ℕ)
 name_particles table p = joined p.prefix (name_particle table p.name)
 
--- the name behind its first blank, where something stands there and what stands before is in the table
+-- the name behind its first blank, where something stands there and what
+-- stands before is in the table
 abbrev pub name_without_article : List (List ℕ) → List ℕ → List ℕ
 name_without_article table name =
     let article = before_first (λ b. b == blank) name in

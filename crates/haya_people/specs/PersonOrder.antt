@@ -33,7 +33,9 @@ views_total =
 pub persons_total : IsTotalOrder (on person_view person_cmp)
 persons_total = on_total person_view views_total
 
-parts_tie : {B : Type 0} (a b : Option (String B)) → option_eq string_eq a b ≡ is_eq (part_cmp (option_map string_bytes a) (option_map string_bytes b))
+parts_tie : {B : Type 0} (a b : Option (String B))
+    → option_eq string_eq a b
+    ≡ is_eq (part_cmp (option_map string_bytes a) (option_map string_bytes b))
 parts_tie None None = refl
 parts_tie None (Some b) = refl
 parts_tie (Some a) None = refl
@@ -63,4 +65,5 @@ persons_tie a b =
     (swapped (option_eq string_eq a.prefix b.prefix) _ _
     ∙ both_tied _ _ _ _ (parts_tie a.suffix b.suffix)
     (both_tied _ _ _ _ (parts_tie a.prefix b.prefix)
-    (both_tied _ _ _ _ (bools_tie a.comma_suffix b.comma_suffix) (parts_tie a.alias b.alias ∙ last_tied _)))))
+    (both_tied _ _ _ _ (bools_tie a.comma_suffix b.comma_suffix)
+    (parts_tie a.alias b.alias ∙ last_tied _)))))

@@ -65,8 +65,8 @@ person_with family given_name suffix = record {
   alias = None;
 }
 
--- a person of one to three parts: the family part is the first, the given name the last, the suffix that
--- between
+-- a person of one to three parts: the family part is the first, the given name the
+-- last, the suffix that between
 unfoldable pub person_of : List (List ℕ) → Result PersonView PersonError
 person_of [] = Err Empty
 person_of (family ∷ []) = Ok (person_with (trim family) None None)

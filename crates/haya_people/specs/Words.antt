@@ -21,11 +21,12 @@ onto_gap x [] = ([], x ∷ []) ∷ []
 onto_gap x (([], gap) ∷ ws) = ([], x ∷ gap) ∷ ws
 onto_gap x ((c ∷ word, gap) ∷ ws) = ([], x ∷ []) ∷ (c ∷ word, gap) ∷ ws
 
--- the longest runs of items that are in no gap, each with the longest run of items of a gap behind it; the
--- first word has no item where the list begins with a gap
+-- the longest runs of items that are in no gap, each with the longest run of items of a gap behind
+-- it; the first word has no item where the list begins with a gap
 unfoldable pub words : {X : Type 0} → (X → Bool) → List X → List (Word X)
 words is_gap [] = []
-words is_gap (x ∷ xs) = if is_gap x then onto_gap x (words is_gap xs) else onto_word x (words is_gap xs)
+words is_gap (x ∷ xs) =
+    if is_gap x then onto_gap x (words is_gap xs) else onto_word x (words is_gap xs)
 
 -- the words and gaps, joined
 abbrev pub joined_words : {X : Type 0} → List (Word X) → List X

@@ -1,11 +1,15 @@
 //! Laws of the definitions. No program calls them.
-ghost use Rattle.std.specs.Prelude.{◌≡◌, ◌↔◌, true};
+ghost use Rattle.std.specs.Prelude.{◌≡◌, ◌↔◌, ℕ, Bool, List, true};
+ghost use Rattle.haya_text.specs.Equality.{EqualsByValue};
+ghost use Rattle.haya_people.specs.Initials.{Grapheme};
 ghost use Rattle.haya_people.specs.Person.{person_view};
+ghost use Rattle.haya_people.specs.WordCuts.{AreWords};
+ghost use Rattle.haya_people.specs.Words.{Word, words};
 ghost use Rattle.haya_people.specs.declared.person.Person as person;
 
 mod orders;
 
-use crate::Person;
+use crate::{Person, PersonError};
 pub use orders::{
     particles_are_longest, persons_in_order, roles_equal_by_value, styles_in_order, tables_in_order,
 };
@@ -14,4 +18,18 @@ pub use orders::{
 pub fn equal_by_value()
     ensures { (a b : person.Person)
         → (⟦<Person as PartialEq>⟧.eq a b ≡ true) ↔ (person_view a ≡ person_view b) }
+{}
+
+/// `==` of faults holds exactly where both are the same.
+pub fn faults_equal_by_value()
+    ensures { EqualsByValue ⟦<PersonError as PartialEq>⟧.eq }
+{}
+
+/// The words of a text, and those of a given name's graphemes, are its one cut into longest words
+/// and longest gaps: joined they are the text, and words and gaps take turns.
+pub fn words_are_the_only_cut()
+    ensures characters { (is_gap : ℕ → Bool) (text : List ℕ) (ws : List (Word ℕ)) →
+        AreWords is_gap text ws ↔ (ws ≡ words is_gap text) }
+    ensures graphemes { (is_gap : Grapheme → Bool) (name : List Grapheme)
+        (ws : List (Word Grapheme)) → AreWords is_gap name ws ↔ (ws ≡ words is_gap name) }
 {}

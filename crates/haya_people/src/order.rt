@@ -57,8 +57,8 @@ impl PartialOrd for Person {
 }
 
 impl Person {
-    /// Whether the predicate says yes to some character of the name or of the given name. It is asked in
-    /// order, up to the first yes.
+    /// Whether the predicate says yes to some character of the name or of the given name. It is
+    /// asked in order, up to the first yes.
     pub fn is_cjk<P: Fn(char) -> bool>(&self, pred: P) -> bool
         requires { P.IsAlwaysCallable pred }
         ensures answer { IsAnyAnswer (P.post pred) (name_characters (person_view self.now)) result }
@@ -68,10 +68,11 @@ impl Person {
         is_cjk(self, &pred)
     }
 
-    /// The order of the lists of a style (CSL). Names that are CJK, by the predicate, come last. Two CJK
-    /// names go by name and, in the long form, then by given name. Two other names go by name, prefix,
-    /// given name and suffix; with a demoted particle by the name without it, prefix and particle, given
-    /// name and suffix. Parts are compared in default case fold, by their bytes, a missing one first.
+    /// The order of the lists of a style (CSL). Names that are CJK, by the predicate, come last.
+    /// Two CJK names go by name and, in the long form, then by given name. Two other names go by
+    /// name, prefix, given name and suffix; with a demoted particle by the name without it, prefix
+    /// and particle, given name and suffix. Parts are compared in default case fold, by their
+    /// bytes, a missing one first.
     pub fn csl_cmp<P: Fn(char) -> bool>(
         &self,
         alloc: Global,

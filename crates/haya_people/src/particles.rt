@@ -31,7 +31,8 @@ impl Person {
         Ok(None)
     }
 
-    /// The name without its particle and the white space behind that. The whole name where it has none.
+    /// The name without its particle and the white space behind that. The
+    /// whole name where it has none.
     pub fn name_without_particle(&self, alloc: Global, table: &[&str]) -> Result<&str, OutOfMemory>
         requires { IsTrue (is_sorted_table (texts table.now)) }
         ensures { IfOk result (λ rest.
@@ -66,8 +67,9 @@ impl Person {
         }
     }
 
-    /// The name without the article that it begins with, as `The`: what stands behind the first blank,
-    /// where something does and what stands before it is in the table as written. Else the whole name.
+    /// The name without the article that it begins with, as `The`: what stands behind the
+    /// first blank, where something does and what stands before it is in the table as
+    /// written. Else the whole name.
     pub fn name_without_article(&self, table: &[&str]) -> &str
         requires { IsTrue (is_sorted_table (texts table.now)) }
         ensures { result.now ≡ name_without_article (texts table.now) (string_bytes self.now.name) }

@@ -101,8 +101,8 @@ impl FromStr for PersonRole {
 
     ghost from_str_gives = { IsRoleRead };
 
-    /// The role of this name: its name here in lower case, words joined by hyphens, as `cast-member`.
-    /// Any other text is an `UnknownRole`, also `unknown`; the text isn't trimmed.
+    /// The role of this name: its name here in lower case, words joined by hyphens, as
+    /// `cast-member`. Any other text is an `UnknownRole`, also `unknown`; the text isn't trimmed.
     fn from_str(name: &str) -> Result<PersonRole, PersonError> {
         match name {
             "translator" => Ok(PersonRole::Translator),

@@ -1,9 +1,11 @@
--- The proleptic Gregorian calendar of ISO 8601: its rule holds for every year, and the year before 1 is 0.
+-- The proleptic Gregorian calendar of ISO 8601: its rule holds for every year,
+-- and the year before 1 is 0.
 use Rattle.std.specs.Prelude.{ℕ, ◌%◌, Bool, not, ◌&&◌, ◌||◌, ◌==◌, if◌then◌else◌, ℤ, nat_le, unsigned_abs}
 
 -- every fourth year is a leap year, but of the years that close a century every fourth alone
 abbrev pub is_leap_year : ℤ → Bool
-is_leap_year y = unsigned_abs y % 4 == 0 && (not (unsigned_abs y % 100 == 0) || unsigned_abs y % 400 == 0)
+is_leap_year y =
+    unsigned_abs y % 4 == 0 && (not (unsigned_abs y % 100 == 0) || unsigned_abs y % 400 == 0)
 
 -- April, June, September and November have 30 days, February 28 or 29, the others 31
 abbrev pub days_of_month : ℤ → ℕ → ℕ

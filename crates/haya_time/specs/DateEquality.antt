@@ -12,11 +12,13 @@ use Rattle.haya_time.specs.contracts.date.SeasonPartialEq.TheImpl as season
 use Rattle.haya_time.specs.contracts.date.DatePartialEq.TheImpl as date
 
 -- the test of the values, if there are any
-pub option-same : {X : Type 0} (E : X → X → Bool) → ((x y : X) → Same (E x y) x y) → (a b : Option X) → Same (option_eq E a b) a b
+pub option-same : {X : Type 0} (E : X → X → Bool) → ((x y : X) → Same (E x y) x y)
+    → (a b : Option X) → Same (option_eq E a b) a b
 option-same E t None None = (λ _. refl, λ _. refl)
 option-same E t None (Some y) = (λ h. cc, λ h. cc)
 option-same E t (Some x) None = (λ h. cc, λ h. cc)
-option-same E t (Some x) (Some y) = (λ h. ap (λ v. Some v) ((t x y).0 h), λ h. let e : x ≡ y = cc in (t x y).1 e)
+option-same E t (Some x) (Some y) =
+    (λ h. ap (λ v. Some v) ((t x y).0 h), λ h. let e : x ≡ y = cc in (t x y).1 e)
 
 pub bool-same : (a b : Bool) → Same (beq a b) a b
 bool-same true true = (λ _. refl, λ _. refl)
@@ -32,8 +34,16 @@ Parts = ℤ × (Option ℕ × (Option ℕ × (Bool × Option Season)))
 
 pub dates-tell : (a b : Date) → Same (date.ghosts.eq a b) a b
 dates-tell a b =
-    Same-along _ (λ (p : Parts). record { year = p.0; month = p.1.0; day = p.1.1.0; approximate = p.1.1.1.0; season = p.1.1.1.1 }) (λ (d : Date). (d.year, (d.month, (d.day, (d.approximate, d.season))))) _ _ refl refl
+    Same-along _ (λ (p : Parts). record {
+      year = p.0;
+      month = p.1.0;
+      day = p.1.1.0;
+      approximate = p.1.1.1.0;
+      season = p.1.1.1.1;
+    })
+    (λ (d : Date). (d.year, (d.month, (d.day, (d.approximate, d.season))))) _ _ refl refl
     (Same-both _ _ _ _ _ _ (signed_Decides a.year b.year)
     (Same-both _ _ _ _ _ _ (option-same nat_eq unsigned_Decides a.month b.month)
     (Same-both _ _ _ _ _ _ (option-same nat_eq unsigned_Decides a.day b.day)
-    (Same-both _ _ _ _ _ _ (bool-same a.approximate b.approximate) (option-same _ season-same a.season b.season)))))
+    (Same-both _ _ _ _ _ _ (bool-same a.approximate b.approximate)
+    (option-same _ season-same a.season b.season)))))

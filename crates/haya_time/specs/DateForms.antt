@@ -31,8 +31,8 @@ pub data HasSign : List ℕ → Bool → List ℕ → Type 0 where
   plus : {text rest : List ℕ} → BeginsWith (plus_sign ∷ []) text rest → HasSign text false rest
   unsigned : {text : List ℕ} → HasSign text false text
 
--- The text begins with a number of so many digits, and goes on with the rest. The digits are ASCII, and no
--- other numeric character stands among them or follows them.
+-- The text begins with a number of so many digits, and goes on with the rest. The digits are ASCII,
+-- and no other numeric character stands among them or follows them.
 pub record BeginsWithNumber (text : List ℕ) (count value : ℕ) (rest : List ℕ) : Type 0 where
   pub digits : List ℕ
   pub stands : BeginsWith digits text rest
@@ -41,11 +41,13 @@ pub record BeginsWithNumber (text : List ℕ) (count value : ℕ) (rest : List �
   pub counted : length digits ≡ count
   pub valued : digits_value 10 digits ≡ value
 
--- the calendar year that a number of four digits names, or of two: from 1950 to 2049 where no sign is
+-- the calendar year that a number of four digits names, or of two: from 1950
+-- to 2049 where no sign is
 abbrev pub calendar_year : ℕ → ℤ → Option ℤ
 calendar_year count n =
     if count == 4 then Some n
-    else if count == 2 then (if int_lt n (pos 50) then Some (n +ℤ pos 2000) else Some (n +ℤ pos 1900))
+    else if count == 2 then
+    (if int_lt n (pos 50) then Some (n +ℤ pos 2000) else Some (n +ℤ pos 1900))
     else None
 
 abbrev pub with_sign : Bool → ℕ → ℤ
@@ -79,15 +81,25 @@ pub record BeginsWithPart (text : List ℕ) (n : ℕ) (rest : List ℕ) : Type 0
 
 -- the date with this year, and perhaps this month and day, which are kept less one
 abbrev pub date_with : Opening → Option ℕ → Option ℕ → Date
-date_with o month day = record { year = o.year; month = month; day = day; approximate = o.approximate; season = None }
+date_with o month day = record {
+  year = o.year;
+  month = month;
+  day = day;
+  approximate = o.approximate;
+  season = None;
+}
 
 -- what a whole text reads as: a year of four digits, with a month or without, or a full date
 pub data ReadsAs : List ℕ → Date → Type 0 where
-  year : {text : List ℕ} {o : Opening} → OpensWith text o → o.count ≡ 4 → IsBlank o.rest → ReadsAs text (date_with o None None)
-  month : {text rest : List ℕ} {o : Opening} {m : ℕ} → OpensWith text o → o.count ≡ 4 → BeginsWithPart o.rest m rest → is_month m ≡ true
+  year : {text : List ℕ} {o : Opening} → OpensWith text o → o.count ≡ 4 → IsBlank o.rest
+      → ReadsAs text (date_with o None None)
+  month : {text rest : List ℕ} {o : Opening} {m : ℕ} → OpensWith text o → o.count ≡ 4
+      → BeginsWithPart o.rest m rest → is_month m ≡ true
       → IsBlank rest → ReadsAs text (date_with o (Some (m - 1)) None)
-  day : {text between rest : List ℕ} {o : Opening} {m d : ℕ} → OpensWith text o → BeginsWithPart o.rest m between → is_month m ≡ true
-      → BeginsWithPart between d rest → has_day o.year m d ≡ true → IsBlank rest → ReadsAs text (date_with o (Some (m - 1)) (Some (d - 1)))
+  day : {text between rest : List ℕ} {o : Opening} {m d : ℕ} → OpensWith text o
+      → BeginsWithPart o.rest m between → is_month m ≡ true
+      → BeginsWithPart between d rest → has_day o.year m d ≡ true → IsBlank rest
+      → ReadsAs text (date_with o (Some (m - 1)) (Some (d - 1)))
 
 -- the text begins with a year and a month that no year has, whatever follows
 pub record HasBadMonth (text : List ℕ) : Type 0 where
@@ -114,4 +126,5 @@ pub record HasBadDay (text : List ℕ) (d : ℕ) : Type 0 where
 abbrev pub IsRefusedAs : List ℕ → DateError → Type 0
 IsRefusedAs text MonthOutOfBounds = HasBadMonth text
 IsRefusedAs text (DayOutOfBounds d) = HasBadDay text d
-IsRefusedAs text UnknownFormat = ((d : Date) → ¬ (ReadsAs text d)) × ¬ (HasBadMonth text) × ((d : ℕ) → ¬ (HasBadDay text d))
+IsRefusedAs text UnknownFormat =
+    ((d : Date) → ¬ (ReadsAs text d)) × ¬ (HasBadMonth text) × ((d : ℕ) → ¬ (HasBadDay text d))

@@ -34,12 +34,15 @@ abbrev pub day_of_month : Date → Option ℕ
 day_of_month d = if is_some d.month then d.day else None
 
 -- one partial order, and then another
-abbrev pub then_partial : (Date → Date → Option Ordering) → (Date → Date → Option Ordering) → Date → Date → Option Ordering
+abbrev pub then_partial : (Date → Date → Option Ordering) → (Date → Date → Option Ordering)
+    → Date → Date → Option Ordering
 then_partial C D x y = partial_ordering_then (C x y) (D x y)
 
 -- how dates that tell the same day, month or year are ordered: exact ones first
 abbrev pub tie_cmp : Date → Date → Ordering
-tie_cmp = then_cmp (on (λ d. d.approximate) bool_cmp) (then_cmp (on (λ d. d.day) missing_first_cmp) (on (λ d. d.season) season_cmp))
+tie_cmp =
+    then_cmp (on (λ d. d.approximate) bool_cmp)
+    (then_cmp (on (λ d. d.day) missing_first_cmp) (on (λ d. d.season) season_cmp))
 
 -- By year, then by month, then by the day of the month, then by what breaks ties.
 abbrev pub date_partial_cmp : Date → Date → Option Ordering
@@ -52,19 +55,22 @@ date_partial_cmp =
 abbrev pub approximate_without : Option ℕ → Date → Bool
 approximate_without part d = if is_none part then d.approximate else false
 
--- By year, then by month, where a missing one stands first and two missing ones go by approximate; then by day in the same way.
+-- By year, then by month, where a missing one stands first and two missing ones go by approximate;
+-- then by day in the same way.
 abbrev pub date_csl_cmp : Date → Date → Ordering
 date_csl_cmp =
     then_cmp (on (λ d. d.year) int_cmp)
     (then_cmp (on (λ d. d.month) missing_first_cmp)
     (then_cmp (on (λ d. approximate_without d.month d) bool_cmp)
-    (then_cmp (on (λ d. d.day) missing_first_cmp) (on (λ d. approximate_without d.day d) bool_cmp))))
+    (then_cmp (on (λ d. d.day) missing_first_cmp)
+    (on (λ d. approximate_without d.day d) bool_cmp))))
 
 -- one side alone has it
 abbrev pub OneAlone : Option ℕ → Option ℕ → Type 0
 OneAlone p q = is_some p ≢ is_some q
 
--- Two dates of one year of which one side alone has a month, or of one month of which one side alone has a day.
+-- Two dates of one year of which one side alone has a month, or of one month of which
+-- one side alone has a day.
 abbrev pub HasNoOrder : Date → Date → Type 0
 HasNoOrder x y =
     (x.year ≡ y.year)

@@ -57,9 +57,11 @@ designated_year periods in_front year =
     if in_front then era_in_front periods ++ codes " " ++ signed_decimal year
     else signed_decimal year ++ codes " " ++ era_behind periods
 
--- The year with its era, as readers count: the year before 1 is 1 BCE. A year from 1 on has its era where that is wanted.
+-- The year with its era, as readers count: the year before 1 is 1 BCE. A year from 1 on has its
+-- era where that is wanted.
 abbrev pub year_text : Bool → Bool → Bool → Bool → ℤ → List ℕ
 year_text secular periods designate_positive ad_prefix year =
-    if int_le year (pos 0) then signed_decimal (pos 1 -ℤ year) ++ codes " " ++ era_before secular periods
+    if int_le year (pos 0) then
+    signed_decimal (pos 1 -ℤ year) ++ codes " " ++ era_before secular periods
     else if designate_positive then designated_year periods ad_prefix year
     else signed_decimal year

@@ -3,7 +3,8 @@ use Rattle.std.specs.Prelude.{◌≡◌, ℕ, ◌+◌, ◌≤◌, Bool, true, �
 use Rattle.haya_time.specs.declared.date.Date.{Date}
 use Rattle.haya_time.specs.DateCalendar.{is_month, has_day}
 
--- the calendar has this month and day of the year, if they are told, each kept less one; no day is told without its month
+-- the calendar has this month and day of the year, if they are told, each kept less one; no day
+-- is told without its month
 abbrev pub is_on_calendar : ℤ → Option ℕ → Option ℕ → Bool
 is_on_calendar y None day = is_none day
 is_on_calendar y (Some m) None = is_month (m + 1)

@@ -23,7 +23,9 @@ behind c text = behind_first c (skip_leading_whitespace text)
 
 -- how many digits a run has, at most four, and their value
 abbrev pub number_of : List ℕ → Option (ℕ × ℕ)
-number_of cs = if all_ascii_digits cs && nat_le (length cs) 4 then Some (length cs, digits_value 10 cs) else None
+number_of cs =
+    if all_ascii_digits cs && nat_le (length cs) 4 then Some (length cs, digits_value 10 cs)
+    else None
 
 -- a number at the front of a text, perhaps behind white space, and what follows
 pub record Number : Type 0 where
@@ -36,7 +38,9 @@ number_before None rest = None
 number_before (Some n) rest = Some (record { count = n.0; value = n.1; rest = rest })
 
 abbrev pub number_at : List ℕ → Option Number
-number_at text = let front = skip_leading_whitespace text in number_before (number_of (run front)) (behind_run front)
+number_at text =
+    let front = skip_leading_whitespace text in
+    number_before (number_of (run front)) (behind_run front)
 
 -- whether a mark or a minus stands there, and what follows
 abbrev pub mark_of : List ℕ → Option (List ℕ) → Bool × List ℕ
@@ -56,11 +60,13 @@ sign_at text = sign_by text (behind hyphen text) (behind plus_sign text)
 
 abbrev pub opening_with : Bool → ℕ → List ℕ → Option ℤ → Option Opening
 opening_with approximate count rest None = None
-opening_with approximate count rest (Some year) = Some (record { approximate = approximate; count = count; year = year; rest = rest })
+opening_with approximate count rest (Some year) =
+    Some (record { approximate = approximate; count = count; year = year; rest = rest })
 
 abbrev pub opening_by : Bool → Bool → Option Number → Option Opening
 opening_by approximate negative None = None
-opening_by approximate negative (Some n) = opening_with approximate n.count n.rest (calendar_year n.count (with_sign negative n.value))
+opening_by approximate negative (Some n) =
+    opening_with approximate n.count n.rest (calendar_year n.count (with_sign negative n.value))
 
 abbrev pub opening_after_sign : Bool → Bool × List ℕ → Option Opening
 opening_after_sign approximate s = opening_by approximate s.0 (number_at s.1)
@@ -85,7 +91,8 @@ part_at text = part_behind (behind hyphen text)
 
 -- the date, if nothing but white space is left
 abbrev pub date_at_end : Bool → Date → List ℕ → Result Date DateError
-date_at_end complete date rest = if complete && list_all is_whitespace rest then Ok date else Err UnknownFormat
+date_at_end complete date rest =
+    if complete && list_all is_whitespace rest then Ok date else Err UnknownFormat
 
 abbrev pub with_day : Opening → ℕ → List ℕ → Option (ℕ × List ℕ) → Result Date DateError
 with_day o m rest None = date_at_end (o.count == 4) (date_with o (Some (m - 1)) None) rest
@@ -95,7 +102,8 @@ with_day o m rest (Some p) =
 
 abbrev pub with_month : Opening → Option (ℕ × List ℕ) → Result Date DateError
 with_month o None = date_at_end (o.count == 4) (date_with o None None) o.rest
-with_month o (Some p) = if is_month p.0 then with_day o p.0 p.1 (part_at p.1) else Err MonthOutOfBounds
+with_month o (Some p) =
+    if is_month p.0 then with_day o p.0 p.1 (part_at p.1) else Err MonthOutOfBounds
 
 abbrev pub with_opening : Option Opening → Result Date DateError
 with_opening None = Err UnknownFormat

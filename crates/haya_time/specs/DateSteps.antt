@@ -16,12 +16,18 @@ abbrev pub number_with_rest : Number → List ℕ → reading.Number
 number_with_rest n rest = record { count = n.count; value = n.value; rest = chars rest }
 
 abbrev pub opening_view : reader.Opening → Opening
-opening_view o = record { approximate = o.approximate; count = o.count; year = o.year; rest = chars o.rest.now }
+opening_view o = record {
+  approximate = o.approximate;
+  count = o.count;
+  year = o.year;
+  rest = chars o.rest.now;
+}
 
 -- a number with one more digit, of four at most
 abbrev pub with_digit : Option (ℕ × ℕ) → ℕ → Option (ℕ × ℕ)
 with_digit None c = None
-with_digit (Some n) c = if is_ascii_digit c && nat_lt n.0 4 then Some (n.0 + 1, n.1 * 10 + digit_value c) else None
+with_digit (Some n) c =
+    if is_ascii_digit c && nat_lt n.0 4 then Some (n.0 + 1, n.1 * 10 + digit_value c) else None
 
 -- the same with each of these characters in turn
 abbrev pub with_digits : Option (ℕ × ℕ) → List ℕ → Option (ℕ × ℕ)

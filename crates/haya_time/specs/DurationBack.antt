@@ -5,7 +5,8 @@ use Rattle.haya_time.specs.declared.duration.range.DurationRange.{DurationRange}
 
 -- no value is more than the next greater unit leaves
 abbrev pub reads_back : Duration → Bool
-reads_back d = nat_lt d.hours 24 && nat_lt d.minutes 60 && nat_lt d.seconds 60 && nat_lt d.milliseconds 1000
+reads_back d =
+    nat_lt d.hours 24 && nat_lt d.minutes 60 && nat_lt d.seconds 60 && nat_lt d.milliseconds 1000
 
 abbrev pub range_reads_back : DurationRange → Bool
 range_reads_back r = reads_back r.start && reads_back r.end

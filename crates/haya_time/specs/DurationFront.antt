@@ -10,4 +10,8 @@ abbrev pub Takes : {A : Type 0} → Option (A × Bor (List ℕ)) → Option (A �
 Takes result read = MatchOption result (read ≡ None) (λ p. read ≡ Some (p.0, chars p.1.now))
 
 abbrev pub front_view : Front → reading.Front
-front_view f = record { duration = f.duration; has_fraction = f.has_fraction; rest = chars f.rest.now }
+front_view f = record {
+  duration = f.duration;
+  has_fraction = f.has_fraction;
+  rest = chars f.rest.now;
+}

@@ -106,15 +106,16 @@ ReadsAs text d = IsDuration text d × (is_too_large d ≡ false)
 abbrev pub ReadsTooLarge : List ℕ → Type 0
 ReadsTooLarge text = (d : Duration) × IsDuration text d × (is_too_large d ≡ true)
 
--- A range's start as far as it is looked at before its bounds: with a fraction, whatever follows; without,
--- the end or a hyphen follows.
+-- A range's start as far as it is looked at before its bounds: with a fraction, whatever follows;
+-- without, the end or a hyphen follows.
 pub record EndsBeforeHyphen (text : List ℕ) (d : Duration) (rest : List ℕ) : Type 0 where
   pub values : IsClock text d rest
   pub tail : List ℕ
   pub sign : IsSign hyphen rest tail
 
 abbrev pub IsStart : List ℕ → Duration → List ℕ → Type 0
-IsStart text d rest = (IsClock text d rest × (rest ≡ [])) ⊎ EndsBeforeHyphen text d rest ⊎ IsFraction text d rest
+IsStart text d rest =
+    (IsClock text d rest × (rest ≡ [])) ⊎ EndsBeforeHyphen text d rest ⊎ IsFraction text d rest
 
 -- the text is a start, white space, one or more hyphens, and the text of the end
 pub record HasTwoTexts (text : List ℕ) (start : Duration) (end_text : List ℕ) : Type 0 where
@@ -151,7 +152,8 @@ pub record HasLargeEnd (text : List ℕ) : Type 0 where
   pub large : ReadsTooLarge end_text
 
 abbrev pub HasLargeStart : List ℕ → Type 0
-HasLargeStart text = (d : Duration) × (rest : List ℕ) × IsStart text d rest × (is_too_large d ≡ true)
+HasLargeStart text =
+    (d : Duration) × (rest : List ℕ) × IsStart text d rest × (is_too_large d ≡ true)
 
 abbrev pub RangeTooLarge : List ℕ → Type 0
 RangeTooLarge text = HasLargeStart text ⊎ HasLargeEnd text

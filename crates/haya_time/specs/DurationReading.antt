@@ -13,7 +13,8 @@ use Rattle.haya_time.specs.DurationText.{colon, comma, hyphen, is_numeric, begin
 abbrev pub ReadAt : Type 0 → Type 0
 ReadAt A = Option (A × List ℕ)
 
--- the digits of the number at the front, behind white space, if no other numeric character follows them
+-- the digits of the number at the front, behind white space, if no other
+-- numeric character follows them
 abbrev pub digits_at : List ℕ → ReadAt (List ℕ)
 digits_at text = let front = skip_leading_whitespace text in
     if begins_with is_numeric (behind_run is_ascii_digit front) then None
@@ -30,7 +31,8 @@ with_colon p = option_map (λ rest. (p.0, rest)) (sign_tail colon p.1)
 -- the number of digits that are at least so many and fit 32 bits
 abbrev pub long_number : ℕ → List ℕ × List ℕ → ReadAt ℕ
 long_number least p =
-    if nat_le least (length p.0) && nat_lt (number p.0) (2 ^ 32) then Some (number p.0, p.1) else None
+    if nat_le least (length p.0) && nat_lt (number p.0) (2 ^ 32) then Some (number p.0, p.1)
+    else None
 
 -- the number of exactly two digits
 abbrev pub two_number : List ℕ × List ℕ → ReadAt ℕ
@@ -38,7 +40,8 @@ two_number p = if length p.0 == 2 then Some (number p.0, p.1) else None
 
 -- the first value, which has at least so many digits, and what stands behind its colon
 abbrev pub long_at : ℕ → List ℕ → ReadAt ℕ
-long_at least text = option_and_then with_colon (option_and_then (long_number least) (digits_at text))
+long_at least text =
+    option_and_then with_colon (option_and_then (long_number least) (digits_at text))
 
 -- a number of two digits
 abbrev pub two_at : List ℕ → ReadAt ℕ
@@ -83,7 +86,11 @@ pub record Front : Type 0 where
 -- with the fraction that is read behind its comma
 abbrev pub fraction_front : Duration → List ℕ × List ℕ → Option Front
 fraction_front d p = if is_empty p.0 then None
-    else Some (record { duration = record d { milliseconds = milliseconds p.0 }; has_fraction = true; rest = p.1 })
+    else Some (record {
+      duration = record d { milliseconds = milliseconds p.0 };
+      has_fraction = true;
+      rest = p.1;
+    })
 
 -- with the fraction, where a comma follows the seconds
 abbrev pub with_fraction : Duration → List ℕ → Option (List ℕ) → Option Front
@@ -110,7 +117,8 @@ whole_duration (Some f) = if is_ended f then check_bounds f.duration else Err Ma
 abbrev pub duration_read : List ℕ → Result Duration DurationError
 duration_read text = whole_duration (front_at text)
 
--- the seconds of a range's start are followed by the end or a hyphen; what follows a fraction is looked at later
+-- the seconds of a range's start are followed by the end or a hyphen; what follows a
+-- fraction is looked at later
 abbrev pub is_start : Front → Bool
 is_start f = f.has_fraction || is_empty f.rest || is_some (sign_tail hyphen f.rest)
 
@@ -127,12 +135,14 @@ longer_range start (Some tail) = range_to start (duration_read (behind_run (λ c
 -- the range from a start with this rest
 abbrev pub range_from : Result Duration DurationError → List ℕ → Result DurationRange DurationError
 range_from (Err fault) rest = Err fault
-range_from (Ok start) rest = if is_empty (skip_leading_whitespace rest) then Ok (record { start = start; end = start })
+range_from (Ok start) rest =
+    if is_empty (skip_leading_whitespace rest) then Ok (record { start = start; end = start })
     else longer_range start (sign_tail hyphen rest)
 
 abbrev pub whole_range : Option Front → Result DurationRange DurationError
 whole_range None = Err Malformed
-whole_range (Some f) = if is_start f then range_from (check_bounds f.duration) f.rest else Err Malformed
+whole_range (Some f) =
+    if is_start f then range_from (check_bounds f.duration) f.rest else Err Malformed
 
 -- the range that a text reads as, or its fault
 abbrev pub range_read : List ℕ → Result DurationRange DurationError

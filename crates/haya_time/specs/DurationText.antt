@@ -1,4 +1,5 @@
--- The characters of which durations are written, and the runs that they form at the front of a text.
+-- The characters of which durations are written, and the runs that they
+-- form at the front of a text.
 use Rattle.std.specs.Prelude.{ℕ, ◌==◌, Bool, true, false, not, List, [], ◌∷◌, if◌then◌else◌, Option, Some, None, count_by}
 use Rattle.std.specs.Str.Parse.{digits_value}
 use Rattle.ucd_category.specs.GeneralCategory.{general_category}

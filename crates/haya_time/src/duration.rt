@@ -13,8 +13,8 @@ pub use range::DurationRange;
 pub use reading::DurationError;
 use std::alloc::Global;
 
-/// A length of time, in days down to milliseconds. A hand-made value may have more of a unit than make up
-/// the next one.
+/// A length of time, in days down to milliseconds. A hand-made value may have more of a unit
+/// than make up the next one.
 #[derive(Clone, Copy, Debug, Default, PartialEq, Eq, Hash)]
 pub struct Duration {
     pub days: u32,
@@ -28,8 +28,8 @@ impl Duration {
     ghost use Rattle.std.specs.Prelude.{◌≡◌};
     ghost use Rattle.haya_time.specs.DurationBack.{reads_back};
 
-    /// Whether the printed text reads as this duration again: hours are below 24, minutes and seconds
-    /// below 60, milliseconds below 1000.
+    /// Whether the printed text reads as this duration again: hours are below 24, minutes and
+    /// seconds below 60, milliseconds below 1000.
     pub fn reads_back(&self) -> bool
         ensures { result ≡ reads_back self.now }
     {

@@ -2,6 +2,9 @@
 ghost use Rattle.std.specs.Prelude.{◌≡◌, ◌↔◌, ℕ, List, true, map, Ok, Err};
 ghost use Rattle.std.specs.Cmp.{IsTotalOrder};
 ghost use Rattle.std.specs.Str.{chars};
+ghost use Rattle.haya_text.specs.Equality.{EqualsByValue};
+ghost use Rattle.haya_numbers.specs.Cuts.{dash_split, escaped_split};
+ghost use Rattle.haya_numbers.specs.Halves.{AreHalves, IsDash, IsEscapedHyphen};
 ghost use Rattle.haya_numbers.specs.Pages.{PartView, part_view, parts};
 ghost use Rattle.haya_numbers.specs.PagesBack.{are_readable};
 ghost use Rattle.haya_numbers.specs.PagesOrder.{pages_order, part_order};
@@ -12,15 +15,24 @@ ghost use Rattle.haya_numbers.specs.declared.page.PageRanges as pages;
 ghost use Rattle.haya_numbers.specs.declared.page.PageRangesPart as part;
 ghost use Rattle.haya_numbers.specs.declared.page.PageRangesPartErr as fault;
 
-use crate::{PageRanges, PageRangesPart};
+use crate::{PageNumberError, PageRanges, PageRangesPart, PageRangesPartErr};
 
 /// The pieces of a text are the one list of separators and longest runs that makes up the text.
 pub fn pieces()
     ensures { (text : List ℕ) (ps : List (List ℕ)) → AreItsPieces text ps ↔ (ps ≡ pieces text) }
 {}
 
-/// A text reads as pages exactly where each of its pieces reads as a part, and else its fault is that of
-/// the first piece that has one.
+/// The halves of a text at escaped hyphens, and those at dashes, are the one list that has such a
+/// mark between each two, makes up the text, and has none within a half.
+pub fn halves()
+    ensures escaped { (text : List ℕ) (hs : List (List ℕ)) →
+        AreHalves IsEscapedHyphen text hs ↔ (hs ≡ escaped_split text) }
+    ensures plain { (text : List ℕ) (hs : List (List ℕ)) →
+        AreHalves IsDash text hs ↔ (hs ≡ dash_split text) }
+{}
+
+/// A text reads as pages exactly where each of its pieces reads as a part, and else its fault is
+/// that of the first piece that has one.
 pub fn reads_by_pieces()
     ensures read { (text : List ℕ) (ps : List PartView) →
         (pages_read text ≡ Ok ps) ↔ (map part_read (pieces text) ≡ map (λ p. Ok p) ps) }
@@ -36,14 +48,21 @@ pub fn equal_by_value()
         (⟦<PageRanges as PartialEq>⟧.eq a b ≡ true) ↔ (parts a ≡ parts b) }
 {}
 
+/// `==` of faults of pages holds exactly where both are the same, a number's fault included.
+pub fn faults_equal_by_value()
+    ensures part { EqualsByValue ⟦<PageRangesPartErr as PartialEq>⟧.eq }
+    ensures number { EqualsByValue ⟦<PageNumberError as PartialEq>⟧.eq }
+{}
+
 /// `csl_cmp` of parts and of lists of pages is a total preorder.
 pub fn order()
     ensures part { IsTotalOrder part_order }
     ensures pages { IsTotalOrder pages_order }
 {}
 
-/// Pages and ranges of single numbers from 0 on without affixes, with one separator between two, read
-/// back from their print as themselves. `PageRanges::reads_back` tells whether pages are like that.
+/// Pages and ranges of single numbers from 0 on without affixes, with one separator
+/// between two, read back from their print as themselves. `PageRanges::reads_back` tells
+/// whether pages are like that.
 pub fn reads_back()
     ensures { (ps : List PartView) → are_readable ps ≡ true
         → pages_read (chars (shown_pages ps)) ≡ Ok ps }

@@ -7,8 +7,8 @@ use crate::{Numeric, NumericDelimiter, NumericValue};
 
 impl Numeric {
     /// Whether what is shown of the number reads back as the number itself: it has no affixes, its
-    /// numbers are above the least `i32`, and it is one number, or a set of two or more, all but the
-    /// last with a delimiter, and no negative number behind a hyphen.
+    /// numbers are above the least `i32`, and it is one number, or a set of two or more, all but
+    /// the last with a delimiter, and no negative number behind a hyphen.
     pub fn reads_back(&self) -> bool
         ensures { result ≡ reads_back (numeric_view self.now) }
     {

@@ -96,8 +96,8 @@ impl Numeric {
         }
     }
 
-    /// The order of the numbers, by the first that differ; of two that begin alike the shorter is
-    /// first.
+    /// The order of the numbers, by the first that differ; of two that begin
+    /// alike the shorter is first.
     pub fn csl_cmp(&self, other: &Self) -> Ordering
         ensures { result ≡ csl_order (numeric_view self.now) (numeric_view other.now) }
     {

@@ -225,8 +225,8 @@ impl ReadText for Numeric {
 
     ghost reads = { λ text. result_ok (numeric_read text) };
 
-    /// A prefix, a number or a set of numbers, and a suffix. A fault other than out of memory is the
-    /// one that the text has.
+    /// A prefix, a number or a set of numbers, and a suffix. A fault other than out of memory is
+    /// the one that the text has.
     fn from_str(alloc: Global, text: &str) -> Result<Numeric, NumericError>
         ensures ok { IfOk result (λ v. result_ok (numeric_read text.now) ≡ Some (numeric_view v)) }
         ensures fault { IfErr result (λ e. is_memory e ≡ false

@@ -7,8 +7,9 @@ ghost use Rattle.haya_numbers.specs.PagesBack.{are_readable, fits, is_plain_numb
 use crate::{Numeric, PageRanges, PageRangesPart};
 
 impl PageRanges {
-    /// Whether these are pages and ranges with one separator between two, of single numbers from 0 on
-    /// without affixes, where no hyphen is escaped. Such pages read back from their print as themselves.
+    /// Whether these are pages and ranges with one separator between two, of single numbers
+    /// from 0 on without affixes, where no hyphen is escaped. Such pages read back from
+    /// their print as themselves.
     pub fn reads_back(&self) -> bool
         ensures { result ≡ are_readable (parts self.now) }
     {

@@ -31,8 +31,8 @@ impl PageRanges {
 }
 
 impl PageRangesPart {
-    /// The order of kinds: `Ampersand`, `Comma`, `SinglePage`, `EscapedRange`, `Range`. Two of one kind
-    /// go by their starts, and then by their ends.
+    /// The order of kinds: `Ampersand`, `Comma`, `SinglePage`, `EscapedRange`, `Range`. Two of one
+    /// kind go by their starts, and then by their ends.
     pub fn csl_cmp(&self, other: &PageRangesPart) -> Ordering
         ensures { result ≡ part_order (part_view self.now) (part_view other.now) }
     {

@@ -37,8 +37,8 @@ impl<'a> Iterator for PagePieces<'a> {
     }
 }
 
-/// The pieces of a text, in order: each comma and each ampersand is a piece of its own, and so is each
-/// longest run of other characters. Takes no memory.
+/// The pieces of a text, in order: each comma and each ampersand is a piece of its own, and so is
+/// each longest run of other characters. Takes no memory.
 pub fn split_pages(text: &str) -> PagePieces<'_>
     ensures { result ≡ pieces (chars text.now) }
 {

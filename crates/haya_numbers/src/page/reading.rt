@@ -29,9 +29,10 @@ impl ReadText for PageRangesPart {
 
     ghost reads = { λ text. result_ok (part_read (chars text)) };
 
-    /// A separator, a page, or a range with a hyphen, an en dash or an escaped hyphen. A fault other
-    /// than out of memory is the one that the text has: `Empty` is nothing but white space,
-    /// `NumericErr` is the first half that is no number, `Malformed` is a third half behind two numbers.
+    /// A separator, a page, or a range with a hyphen, an en dash or an escaped hyphen. A fault
+    /// other than out of memory is the one that the text has: `Empty` is nothing but white space,
+    /// `NumericErr` is the first half that is no number, `Malformed` is a third
+    /// half behind two numbers.
     fn from_str(alloc: Global, text: &str) -> Result<PageRangesPart, PageRangesPartErr>
         ensures ok { IfOk result (λ v. result_ok (part_read (chars text.now))
             ≡ Some (part_view v)) }

@@ -1,5 +1,6 @@
 //! Worked rows of pages, and what each call gives where there is memory. A failed allocation ends a
-//! test, and what is owned is let go by a call: so no test has a path on which it has to drop pages.
+//! test, and what is owned is let go by a call: so no test has a path on
+//! which it has to drop pages.
 use super::*;
 use haya_text::{ReadText, TryClone};
 use std::cmp::Ordering;

@@ -28,15 +28,15 @@ pub fn persons_in_order()
         (⟦<Person as Ord>⟧.cmp a b ≡ Ordering.Equal) ↔ (⟦<Person as PartialEq>⟧.eq a b ≡ true) }
 {}
 
-/// The order of a style's lists is a total preorder, for one form, flag, table and test of characters:
-/// total, transitive, and what ties stands alike to all others.
+/// The order of a style's lists is a total preorder, for one form, flag, table and test of
+/// characters: total, transitive, and what ties stands alike to all others.
 pub fn styles_in_order()
     ensures { (test : ℕ → Bool) (form : LongShortForm) (demoted : Bool) (table : List (List ℕ)) →
         IsTotalOrder (csl_cmp_by test form demoted table) }
 {}
 
-/// The particle of a name is the longest of all beginnings that are one, and there is none only where
-/// no beginning is.
+/// The particle of a name is the longest of all beginnings that are one, and there is none
+/// only where no beginning is.
 pub fn particles_are_longest()
     ensures one { (table : List (List ℕ)) (name particle : List ℕ) →
         name_particle table name ≡ Some particle → IsParticleOf table name particle }

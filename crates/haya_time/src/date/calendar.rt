@@ -21,8 +21,8 @@ pub(super) fn has_day(year: i16, month: u8, day: u8) -> bool
     jiff::civil::Date::new(year, month as i8, day as i8).is_ok()
 }
 
-// Whether the calendar has this month and day of the year, if they are told, each less one. No day is told
-// without its month.
+// Whether the calendar has this month and day of the year, if they are told, each less one. No day
+// is told without its month.
 pub(super) fn is_on_calendar(year: i16, month: Option<u8>, day: Option<u8>) -> bool
     requires year_low { negsuc 9998 ≤ℤ year }
     requires year_high { year ≤ℤ pos 9999 }

@@ -12,8 +12,8 @@ impl PartialOrd for Date {
 
     ghost laws = { date_laws };
 
-    /// By year, month and day. A date that tells less has no answer beside one that tells more; two that
-    /// tell as much tie by `approximate`, where exact dates stand first, and then by the rest.
+    /// By year, month and day. A date that tells less has no answer beside one that tells more; two
+    /// that tell as much tie by `approximate`, where exact dates stand first, and then by the rest.
     fn partial_cmp(&self, other: &Date) -> Option<Ordering> {
         let by_year = self.year.cmp(&other.year);
         if by_year.is_ne() {
@@ -32,8 +32,8 @@ impl PartialOrd for Date {
 }
 
 impl Date {
-    /// The order of citation styles (CSL): by year, month and day, where a missing month or day stands first.
-    /// Two that are missing go by `approximate`, exact dates first.
+    /// The order of citation styles (CSL): by year, month and day, where a missing month or day
+    /// stands first. Two that are missing go by `approximate`, exact dates first.
     pub fn csl_cmp(&self, other: &Date) -> Ordering
         ensures { result ≡ date_csl_cmp self.now other.now }
     {

@@ -14,7 +14,8 @@ use super::text::{behind, is_blank, is_numeric, skip_whitespace, split_char};
 use super::{Date, DateError};
 use std::str::FromStr;
 
-// What a date's text begins with: perhaps a tilde, then a year of two or four digits. The rest follows.
+// What a date's text begins with: perhaps a tilde, then a year of two or four
+// digits. The rest follows.
 #[derive(Clone, Copy)]
 pub(super) struct Opening<'a> {
     approximate: bool,
@@ -28,6 +29,11 @@ impl FromStr for Date {
 
     ghost from_str_gives = { λ text result. result ≡ date_read (chars text) };
 
+    /// The date that the text writes, as ISO 8601 does: a year of four digits, with its month or
+    /// without, or a full date, whose year may have two digits for 1950 to 2049. White space may
+    /// stand before each part, and a tilde before a date that is approximate. `MonthOutOfBounds`
+    /// and `DayOutOfBounds` tell of a month or a day that isn't there, whatever follows; any other
+    /// text without a date has an `UnknownFormat`.
     fn from_str(text: &str) -> Result<Date, DateError> {
         let Some(opening) = take_opening(text) else {
             return Err(DateError::UnknownFormat);
@@ -37,8 +43,9 @@ impl FromStr for Date {
 }
 
 impl Date {
-    /// Whether the date is read back from its printed text as itself: its year is -9999 to 9999, its month and
-    /// day are the calendar's where they are told, no day is told without its month, and no season is.
+    /// Whether the date is read back from its printed text as itself: its year is -9999 to 9999,
+    /// its month and day are the calendar's where they are told, no day is told without its
+    /// month, and no season is.
     pub fn reads_back(&self) -> bool
         ensures { IsTrue result ↔ ReadsBack self.now }
     {
@@ -181,7 +188,8 @@ fn take_part(text: &str) -> Option<(u8, &str)>
     }
 }
 
-// The number at the front, perhaps behind white space, and what follows its run of numeric characters.
+// The number at the front, perhaps behind white space, and what follows its
+// run of numeric characters.
 fn take_number(text: &str) -> Option<(Number, &str)>
     ensures none { IfNone result (number_at (chars text.now) ≡ None) }
     ensures some { IfSome result
@@ -211,7 +219,8 @@ fn take_run(text: &str) -> (Option<Number>, &str)
     (number, rest)
 }
 
-// The number with one more digit. There is none where the character is no digit, or would be the fifth.
+// The number with one more digit. There is none where the character is no
+// digit, or would be the fifth.
 fn with_digit(number: Option<Number>, c: char) -> Option<Number>
     ensures { number_view result ≡ with_digit (number_view number) c }
 {

@@ -167,7 +167,8 @@ fn shows_years(rt: HostRuntime) {
     }
 }
 
-// All sixteen choices, before the year 1 and from it on: secular, periods, designate_positive, ad_prefix.
+// All sixteen choices, before the year 1 and from it on: secular, periods,
+// designate_positive, ad_prefix.
 const ERAS: &[(bool, bool, bool, bool, &str, &str)] = &[
     (false, false, false, false, "1 BC", "2020"),
     (false, false, false, true, "1 BC", "2020"),

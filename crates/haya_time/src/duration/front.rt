@@ -11,8 +11,8 @@ ghost use Rattle.haya_time.specs.DurationValues.{is_too_large, milliseconds};
 use super::scan::{count_colons, is_at_end, skip_space, take_digits, take_sign};
 use super::{Duration, DurationError};
 
-// A duration at the front of a text: its values, carried, whether it has a fraction of a second, and what
-// follows it.
+// A duration at the front of a text: its values, carried, whether it has a fraction of a
+// second, and what follows it.
 #[derive(Clone, Copy)]
 pub(crate) struct Front<'a> {
     pub duration: Duration,
@@ -130,8 +130,8 @@ fn take_clock(text: &str) -> Option<(Duration, &str)>
     }
 }
 
-// The fraction of a second that these digits write, in milliseconds, rounded half up: the fifth digit and
-// those behind it don't tell.
+// The fraction of a second that these digits write, in milliseconds, rounded half up: the fifth
+// digit and those behind it don't tell.
 fn milliseconds(fraction: &str) -> u16
     requires { list_all is_ascii_digit fraction.now ≡ true }
     ensures { result ≡ milliseconds fraction.now }

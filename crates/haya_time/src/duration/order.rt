@@ -51,7 +51,9 @@ impl PartialOrd for Duration {
 
     ghost partial_cmp = { as_partial_cmp duration_cmp };
 
-    ghost laws = { partial_order_from_own_ties (partial_order_from_total IsTotalOrder-duration_cmp) (Prim.search (comparing, rules)) };
+    ghost laws = { partial_order_from_own_ties
+        (partial_order_from_total IsTotalOrder-duration_cmp)
+        (Prim.search (comparing, rules)) };
 
     fn partial_cmp(&self, other: &Duration) -> Option<Ordering> {
         Some(self.cmp(other))

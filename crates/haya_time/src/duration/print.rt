@@ -65,8 +65,8 @@ impl fmt::Display for Milliseconds {
     }
 }
 
-/// Days and hours only where there are days, or hours; then minutes and seconds, in two digits or more;
-/// milliseconds in three digits or more where there are some.
+/// Days and hours only where there are days, or hours; then minutes and seconds, in two digits or
+/// more; milliseconds in three digits or more where there are some.
 impl fmt::Display for Duration {
     ghost use Rattle.std.specs.Prelude.{Some};
     ghost use Rattle.haya_time.specs.DurationPrint.{duration_text};

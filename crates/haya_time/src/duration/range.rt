@@ -58,9 +58,10 @@ impl FromStr for DurationRange {
 
     ghost from_str_gives = { λ text result. result ≡ range_read (chars text) };
 
-    /// The range that the text writes: a duration, or two with one or more hyphens between. `Malformed` if
-    /// the text hasn't this form, `TooLarge` if a duration is. A start that is too large is answered before
-    /// what follows its fraction, or the hyphen behind its seconds, is looked at.
+    /// The range that the text writes: a duration, or two with one or more hyphens
+    /// between. `Malformed` if the text hasn't this form, `TooLarge` if a duration is. A
+    /// start that is too large is answered before what follows its fraction, or the hyphen
+    /// behind its seconds, is looked at.
     fn from_str(text: &str) -> Result<DurationRange, DurationError> {
         let Some(front) = Front::take(text) else {
             return Err(DurationError::Malformed);

@@ -16,7 +16,8 @@ pub enum DurationError {
     /// The text hasn't the form.
     #[error("duration string malformed")]
     Malformed,
-    /// A value is more than the next greater unit leaves, or the fraction rounds up to a whole second.
+    /// A value is more than the next greater unit leaves, or the fraction
+    /// rounds up to a whole second.
     #[error("duration value too large")]
     TooLarge,
 }
@@ -40,11 +41,11 @@ impl FromStr for Duration {
 
     ghost from_str_gives = { λ text result. result ≡ duration_read (chars text) };
 
-    /// The duration that the text writes: days, hours, minutes and seconds with colons between, where days
-    /// and hours may be absent, and after a comma a fraction of a second, which is rounded half up to
-    /// milliseconds. First minutes carry into hours, and first hours into days. `Malformed` if the text
-    /// hasn't this form, `TooLarge` if it has and hours are above 23, minutes or seconds above 59, or the
-    /// fraction rounds up to a second.
+    /// The duration that the text writes: days, hours, minutes and seconds with colons between,
+    /// where days and hours may be absent, and after a comma a fraction of a second, which is
+    /// rounded half up to milliseconds. First minutes carry into hours, and first hours into days.
+    /// `Malformed` if the text hasn't this form, `TooLarge` if it has and hours are above 23,
+    /// minutes or seconds above 59, or the fraction rounds up to a second.
     fn from_str(text: &str) -> Result<Duration, DurationError> {
         match Front::take(text) {
             Some(front) if front.is_ended() => front.duration.check_bounds(),

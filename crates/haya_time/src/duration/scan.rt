@@ -71,8 +71,8 @@ fn starts_numeric(text: &str) -> bool
     }
 }
 
-// The digits of the number at the front, which white space may precede, and what follows them. `None` if
-// a numeric character follows that is no ASCII digit.
+// The digits of the number at the front, which white space may precede, and what follows them.
+// `None` if a numeric character follows that is no ASCII digit.
 pub(crate) fn take_digits(text: &str) -> Option<(&str, &str)>
     ensures cases { let read = digits_at (chars text.now) in
         MatchOption result (read ≡ None) (λ p. read ≡ Some (p.0.now, chars p.1.now)) }

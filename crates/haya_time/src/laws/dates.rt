@@ -3,6 +3,7 @@ ghost use Rattle.std.specs.Prelude.{◌≡◌, ◌↔◌, ℕ, List, None, Some,
 ghost use Rattle.std.specs.Cmp.{IsTotalOrder};
 ghost use Rattle.std.specs.declared.cmp.Ordering.TheVariants.{Equal};
 ghost use Rattle.std.specs.Str.{chars};
+ghost use Rattle.haya_text.specs.Equality.{EqualsByValue};
 ghost use Rattle.haya_time.specs.declared.date.Date as date;
 ghost use Rattle.haya_time.specs.declared.date.DateError as error;
 ghost use Rattle.haya_time.specs.DateForms.{IsRefusedAs, ReadsAs};
@@ -11,10 +12,10 @@ ghost use Rattle.haya_time.specs.DatePrinted.{date_text};
 ghost use Rattle.haya_time.specs.DateReadBack.{ReadsBack};
 ghost use Rattle.haya_time.specs.DateReading.{date_read};
 
-use crate::Date;
+use crate::{Date, DateError, Season};
 
-/// The order is equal exactly where the dates are, and has no answer exactly where one side alone tells the month
-/// of the same year, or the day of the same month.
+/// The order is equal exactly where the dates are, and has no answer exactly where one side alone
+/// tells the month of the same year, or the day of the same month.
 pub fn order_of_dates()
     ensures equal { (a b : date.Date) →
         (⟦<Date as PartialOrd>⟧.partial_cmp a b ≡ Some Equal) ↔ (a ≡ b) }
@@ -32,14 +33,22 @@ pub fn dates_equal_by_value()
     ensures { (a b : date.Date) → (⟦<Date as PartialEq>⟧.eq a b ≡ true) ↔ (a ≡ b) }
 {}
 
-/// A text has one value or one fault, and the forms of dates say which: each text reads as exactly one of them.
+/// `==` of seasons and of faults of dates holds exactly where both are the same, with the same day.
+pub fn kinds_equal_by_value()
+    ensures season { EqualsByValue ⟦<Season as PartialEq>⟧.eq }
+    ensures fault { EqualsByValue ⟦<DateError as PartialEq>⟧.eq }
+{}
+
+/// A text has one value or one fault, and the forms of dates say which: each text
+/// reads as exactly one of them.
 pub fn reads_the_forms_of_dates()
     ensures value { (text : List ℕ) (d : date.Date) → (date_read text ≡ Ok d) ↔ ReadsAs text d }
     ensures fault { (text : List ℕ) (e : error.DateError) →
         (date_read text ≡ Err e) ↔ IsRefusedAs text e }
 {}
 
-/// A date of the years -9999 to 9999, on the calendar and with no season, is read back from its printed text.
+/// A date of the years -9999 to 9999, on the calendar and with no season, is read
+/// back from its printed text.
 pub fn dates_read_back()
     ensures { (d : date.Date) → ReadsBack d → date_read (chars (date_text d)) ≡ Ok d }
 {}

@@ -2,6 +2,7 @@
 ghost use Rattle.std.specs.Prelude.{◌≡◌, ◌↔◌, ◌⊎◌, ◌<◌, ◌^◌, ℕ, List, true, Ok, Err};
 ghost use Rattle.std.specs.Cmp.{IsTotalOrder};
 ghost use Rattle.std.specs.Str.{chars};
+ghost use Rattle.haya_text.specs.Equality.{EqualsByValue};
 ghost use Rattle.haya_time.specs.DurationBack.{reads_back, range_reads_back};
 ghost use Rattle.haya_time.specs.DurationGrammar.{IsDuration, RangeTooLarge, ReadsAs, ReadsAsRange, ReadsTooLarge};
 ghost use Rattle.haya_time.specs.DurationOrder.{duration_cmp};
@@ -11,12 +12,12 @@ ghost use Rattle.haya_time.specs.declared.duration.Duration as duration;
 ghost use Rattle.haya_time.specs.declared.duration.range.DurationRange as range;
 ghost use Rattle.haya_time.specs.declared.duration.reading.DurationError.TheVariants as error;
 
-use crate::{Duration, DurationRange};
+use crate::{Duration, DurationError, DurationRange};
 use std::cmp::Ordering;
 
-/// A text reads as a duration exactly where its parts are that duration's and it isn't too large. It is
-/// too large exactly where its parts are those of a duration that is, and malformed exactly where it has
-/// no such parts.
+/// A text reads as a duration exactly where its parts are that duration's and it isn't too large.
+/// It is too large exactly where its parts are those of a duration that is, and malformed exactly
+/// where it has no such parts.
 pub fn reads_durations()
     ensures read { (text : List ℕ) (d : duration.Duration) →
         (duration_read text ≡ Ok d) ↔ ReadsAs text d }
@@ -27,8 +28,8 @@ pub fn reads_durations()
         × IsDuration text d) }
 {}
 
-/// A text reads as a range exactly where its parts are that range's. It is too large exactly where its
-/// start is, whatever follows it, or its end is, and malformed everywhere else.
+/// A text reads as a range exactly where its parts are that range's. It is too large exactly where
+/// its start is, whatever follows it, or its end is, and malformed everywhere else.
 pub fn reads_ranges()
     ensures read { (text : List ℕ) (r : range.DurationRange) →
         (range_read text ≡ Ok r) ↔ ReadsAsRange text r }
@@ -39,8 +40,8 @@ pub fn reads_ranges()
         ↔ ¬ (((r : range.DurationRange) × ReadsAsRange text r) ⊎ RangeTooLarge text) }
 {}
 
-/// The order of durations is total, and says equal exactly where `==` does, which is where all values are
-/// the same.
+/// The order of durations is total, and says equal exactly where `==` does, which is where
+/// all values are the same.
 pub fn order_of_durations()
     ensures same { (a b : duration.Duration) →
         ⟦<Duration as Ord>⟧.cmp a b ≡ duration_cmp a b }
@@ -53,8 +54,13 @@ pub fn order_of_durations()
         (⟦<DurationRange as PartialEq>⟧.eq a b ≡ true) ↔ (a ≡ b) }
 {}
 
-/// What `Duration::reads_back` and `DurationRange::reads_back` accept is read back from its printed text
-/// as itself. The days of a duration fit 32 bits.
+/// `==` of faults of durations holds exactly where both are the same.
+pub fn faults_equal_by_value()
+    ensures { EqualsByValue ⟦<DurationError as PartialEq>⟧.eq }
+{}
+
+/// What `Duration::reads_back` and `DurationRange::reads_back` accept is read back from its printed
+/// text as itself. The days of a duration fit 32 bits.
 pub fn reads_back()
     ensures duration { (d : duration.Duration) → d.days < 2 ^ 32 → reads_back d ≡ true →
         duration_read (chars (duration_text d)) ≡ Ok d }
