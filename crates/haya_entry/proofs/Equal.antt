@@ -48,6 +48,7 @@ by-parts f h = (λ e. f (h.0 e), h.1)
 abbrev above : Tree → Trees
 above (node f ps) = ps
 
+-- one level, the tests in the order of the struct's fields
 levels-tell : (x y : Entry)
     → Same (pointwise entry.ghosts.eq (out-Entry x).parents.items (out-Entry y).parents.items) (map view (out-Entry x).parents.items) (map view (out-Entry y).parents.items)
     → Same (entry.ghosts.eq x y) (view x) (view y)
