@@ -4,3 +4,4 @@ mod SerialLemmas
 pub mod LevelLemmas
 mod LevelsApart
 mod Rows
+pub mod LookupLemmas

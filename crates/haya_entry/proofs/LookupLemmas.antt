@@ -1,0 +1,82 @@
+-- Laws of the look-ups' lists of paths.
+use Rattle.std.proofs.Common.{◌≡◌, ℕ, suc, ◌+◌, ◌<◌, ◌≤◌, Bool, true, false, cond, List, [], ◌∷◌, ◌++◌, length, get_or, drop, map, Option, None, Some, refl, sym, ap, ◌∙◌, add-one, arith}
+use Rattle.std.specs.Prelude.{option_and_then, option_map, slice_get, filter, find}
+use Rattle.std.specs.Borrow.{Bor}
+use Rattle.std.specs.Option.{option_map_or}
+use Rattle.std.proofs.Math.ListN.{drop_of_length-le}
+use Rattle.std.proofs.lemmas.List.{length-map}
+use Rattle.std.proofs.lemmas.List.Elements.{filter-append}
+use Rattle.std.proofs.lemmas.Option.{slice_get_read, slice_get-map}
+use Rattle.haya_entry.specs.declared.entry.Entry.{Entry, out-Entry}
+use Rattle.haya_entry.specs.declared.types.EntryType.{EntryType}
+use Rattle.haya_entry.specs.Lookups.{IsAt, collections, depth_first, each_collections, each_depth_first, entries_of_type, first, is_of_type, led, parents_passing, passes_at}
+use Rattle.haya_entry.specs.Tree.{Fields, Tree, Trees, node, no_trees, one_more, at, parents, tree_list, view}
+use Rattle.haya_entry.proofs.LevelLemmas.{from_place, places_from}
+use Rattle.haya_entry.proofs.Trees.{parents_is}
+
+-- no answer: no path
+path-none : (x : Tree) (path : Option (List ℕ)) → IsAt x path None → path ≡ None
+path-none x None h = refl
+path-none x (Some p) h = cc
+
+-- where an entry gives no path, the next are asked
+led-none : (i : ℕ) (paths : List (List ℕ)) (rest : List (List (List ℕ))) → first paths ≡ None → first (led i (paths ∷ rest)) ≡ first (led (suc i) rest)
+led-none i [] rest h = refl
+led-none i (p ∷ ps) rest h = cc
+
+-- where it gives one, that is the answer
+led-some : (x t : Tree) (i : ℕ) (paths : List (List ℕ)) (rest : List (List (List ℕ))) (answer : Bor Entry)
+    → slice_get (parents x) i ≡ Some t → IsAt t (first paths) (Some answer) → IsAt x (first (led i (paths ∷ rest))) (Some answer)
+led-some x t i [] rest answer s h = cc
+led-some x t i (p ∷ ps) rest answer s h = h ∙ ap (λ o. Some (option_and_then (λ q. at q p) o)) (sym s)
+
+-- the entries of a loop over parents are the parents by value
+pub parent_at : (x : Entry) (es : List Entry) (i : ℕ) (e : Entry) → es ≡ (out-Entry x).parents.items → i < length es → e ≡ get_or es i e → slice_get (parents (view x)) i ≡ Some (view e)
+parent_at x es i e s h r =
+    ap (λ ts. slice_get ts i) (parents_is x ∙ ap (map view) (sym s)) ∙ slice_get-map view es i ∙ ap (option_map view) (slice_get_read es (length es) i e refl h r)
+
+-- A search over parents: none of those before place i has an answer.
+abbrev pub Searched : (Tree → List (List ℕ)) → List (List ℕ) → Tree → ℕ → Type 0
+Searched answers paths x i = first paths ≡ first (led i (map answers (drop i (parents x))))
+
+module _ (answers : Tree → List (List ℕ)) (paths : List (List ℕ)) (x : Entry) (es : List Entry) (s : es ≡ (out-Entry x).parents.items) (i : ℕ) (searched : Searched answers paths (view x) i) where
+  module _ (e : Entry) (within : i < length es) (r : e ≡ get_or es i e) where
+    here : first paths ≡ first (led i (answers (view e) ∷ map answers (drop (suc i) (parents (view x)))))
+    here = searched ∙ ap (λ ts. first (led i (map answers ts))) (from_place (parents (view x)) i (view e) (parent_at x es i e s within r))
+
+    pub searched-next : IsAt (view e) (first (answers (view e))) None → Searched answers paths (view x) (i + 1)
+    searched-next none = rw add-one (here ∙ led-none i (answers (view e)) (map answers (drop (suc i) (parents (view x)))) (path-none (view e) (first (answers (view e))) none))
+
+    pub searched-found : (answer : Bor Entry) → IsAt (view e) (first (answers (view e))) (Some answer) → IsAt (view x) (first paths) (Some answer)
+    searched-found answer some =
+        led-some (view x) (view e) i (answers (view e)) (map answers (drop (suc i) (parents (view x)))) answer (parent_at x es i e s within r) some ∙ ap (option_map (at (view x))) (sym here)
+
+  pub searched-all : length es ≤ i → IsAt (view x) (first paths) None
+  searched-all past =
+      let many = ap length (parents_is x ∙ ap (map view) (sym s)) ∙ length-map es view in
+      let none : drop i (parents (view x)) ≡ [] = drop_of_length-le (parents (view x)) (omega (arith, many)) in
+      ap (option_map (at (view x))) (sym (searched ∙ ap (λ ts. first (led i (map answers ts))) none))
+
+led-kept : (b : Bool) (p : List ℕ) (i : ℕ) (ps : List (List ℕ)) → cond b ((i ∷ p) ∷ map (λ path. i ∷ path) ps) (map (λ path. i ∷ path) ps) ≡ map (λ path. i ∷ path) (cond b (p ∷ ps) ps)
+led-kept true p i ps = refl
+led-kept false p i ps = refl
+
+-- a test at paths that lead over a parent is the test at the rest of them from this parent
+passes-led : (test : Tree → Bool) (x t : Tree) (i : ℕ) → slice_get (parents x) i ≡ Some t → (paths : List (List ℕ))
+    → filter (passes_at test x) (map (λ path. i ∷ path) paths) ≡ map (λ path. i ∷ path) (filter (passes_at test t) paths)
+passes-led test x t i s [] = refl
+passes-led test x t i s (p ∷ ps) =
+    rw (s, passes-led test x t i s ps) (led-kept (passes_at test t p) p i (filter (passes_at test t) ps))
+
+-- the entries above of a type are those of the parents
+types-above : (kind : EntryType) (x : Tree) (i : ℕ) (ts : Trees) → drop i (parents x) ≡ tree_list ts
+    → filter (passes_at (is_of_type kind) x) (led i (each_depth_first ts)) ≡ led i (map (entries_of_type kind) (tree_list ts))
+types-above kind x i no_trees s = refl
+types-above kind x i (one_more t ts) s =
+    let test = is_of_type kind in
+    let there = places_from (parents x) i t (tree_list ts) s in
+    filter-append (passes_at test x) (map (λ path. i ∷ path) (depth_first t)) (led (suc i) (each_depth_first ts))
+    ∙ rw (passes-led test x t i there.0 (depth_first t), types-above kind x (suc i) ts there.1) refl
+
+pub types-searched : (kind : EntryType) (x : Tree) → is_of_type kind x ≡ false → Searched (entries_of_type kind) (entries_of_type kind x) x 0
+types-searched kind (node f ts) h = ap first (rw h (types-above kind (node f ts) 0 ts refl))
