@@ -1,5 +1,5 @@
 -- Laws of the look-ups' lists of paths.
-use Rattle.std.proofs.Common.{◌≡◌, ℕ, suc, ◌+◌, ◌<◌, ◌≤◌, Bool, true, false, cond, List, [], ◌∷◌, ◌++◌, length, get_or, drop, map, Option, None, Some, refl, sym, ap, ◌∙◌, add-one, arith}
+use Rattle.std.proofs.Common.{◌≡◌, ℕ, suc, ◌+◌, ◌<◌, ◌≤◌, Bool, true, false, cond, ◌||◌, List, [], ◌∷◌, ◌++◌, length, get_or, drop, map, Option, None, Some, refl, sym, ap, ◌∙◌, add-one, arith}
 use Rattle.std.specs.Prelude.{option_and_then, option_map, slice_get, filter, find}
 use Rattle.std.specs.Borrow.{Bor}
 use Rattle.std.specs.Option.{option_map_or}
@@ -8,11 +8,15 @@ use Rattle.std.proofs.lemmas.List.{length-map}
 use Rattle.std.proofs.lemmas.List.Elements.{filter-append}
 use Rattle.std.proofs.lemmas.Option.{slice_get_read, slice_get-map}
 use Rattle.haya_entry.specs.declared.entry.Entry.{Entry, out-Entry}
+use denote.Enum.Bare.{sameb}
+use Rattle.haya_entry.specs.contracts.types.EntryType.{the_type}
 use Rattle.haya_entry.specs.declared.types.EntryType.{EntryType}
-use Rattle.haya_entry.specs.Lookups.{IsAt, collections, depth_first, each_collections, each_depth_first, entries_of_type, first, is_of_type, led, parents_passing, passes_at}
-use Rattle.haya_entry.specs.Tree.{Fields, Tree, Trees, node, no_trees, one_more, at, parents, tree_list, view}
+use Rattle.haya_entry.specs.declared.types.EntryType.TheVariants.{Anthology}
+use Rattle.haya_entry.specs.Lookups.{IsAt, collections, depth_first, each_collections, each_depth_first, entries_of_type, first, is_collection_of, is_of_type, led, parents_passing, passes_at}
+use Rattle.haya_entry.specs.ParentTypes.{is_collected}
+use Rattle.haya_entry.specs.Tree.{Tree, Trees, node, no_trees, one_more, at, fields_of, parents, tree_list, trees, view}
 use Rattle.haya_entry.proofs.LevelLemmas.{from_place, places_from}
-use Rattle.haya_entry.proofs.Trees.{parents_is}
+use Rattle.haya_entry.proofs.Trees.{parents_is, view_is}
 
 -- no answer: no path
 path-none : (x : Tree) (path : Option (List ℕ)) → IsAt x path None → path ≡ None
@@ -34,6 +38,10 @@ led-some x t i (p ∷ ps) rest answer s h = h ∙ ap (λ o. Some (option_and_the
 pub parent_at : (x : Entry) (es : List Entry) (i : ℕ) (e : Entry) → es ≡ (out-Entry x).parents.items → i < length es → e ≡ get_or es i e → slice_get (parents (view x)) i ≡ Some (view e)
 parent_at x es i e s h r =
     ap (λ ts. slice_get ts i) (parents_is x ∙ ap (map view) (sym s)) ∙ slice_get-map view es i ∙ ap (option_map view) (slice_get_read es (length es) i e refl h r)
+
+-- the parents by value
+abbrev above : Entry → Trees
+above x = trees (map view (out-Entry x).parents.items)
 
 -- A search over parents: none of those before place i has an answer.
 abbrev pub Searched : (Tree → List (List ℕ)) → List (List ℕ) → Tree → ℕ → Type 0
@@ -78,5 +86,50 @@ types-above kind x i (one_more t ts) s =
     filter-append (passes_at test x) (map (λ path. i ∷ path) (depth_first t)) (led (suc i) (each_depth_first ts))
     ∙ rw (passes-led test x t i there.0 (depth_first t), types-above kind x (suc i) ts there.1) refl
 
-pub types-searched : (kind : EntryType) (x : Tree) → is_of_type kind x ≡ false → Searched (entries_of_type kind) (entries_of_type kind x) x 0
-types-searched kind (node f ts) h = ap first (rw h (types-above kind (node f ts) 0 ts refl))
+pub types-searched : (kind : EntryType) (x : Entry) → sameb the_type (out-Entry x).entry_type kind ≡ false → Searched (entries_of_type kind) (entries_of_type kind (view x)) (view x) 0
+types-searched kind x h = rw (view_is x, h) (ap first (types-above kind (node (fields_of (out-Entry x)) (above x)) 0 (above x) refl))
+
+-- the first parent that passes a test, found among the entries
+passing-from : (test : Tree → Bool) (x : Tree) (i : ℕ) (es : List Entry) → drop i (parents x) ≡ map view es
+    → option_map (λ e. Some (view e)) (find (λ e. test (view e)) es) ≡ option_map (at x) (first (led i (map (λ p. cond (test p) ([] ∷ []) []) (map view es))))
+passing-from test x i [] s = refl
+passing-from test x i (e ∷ es) s =
+    let there = places_from (parents x) i (view e) (map view es) s in
+    passes (test (view e)) there.0 (passing-from test x (suc i) es there.1)
+  where
+    passes : (b : Bool) → slice_get (parents x) i ≡ Some (view e)
+        → option_map (λ e. Some (view e)) (find (λ e. test (view e)) es) ≡ option_map (at x) (first (led (suc i) (map (λ p. cond (test p) ([] ∷ []) []) (map view es))))
+        → option_map (λ e. Some (view e)) (cond b (Some e) (find (λ e. test (view e)) es))
+        ≡ option_map (at x) (first (led i (cond b ([] ∷ []) [] ∷ map (λ p. cond (test p) ([] ∷ []) []) (map view es))))
+    passes true place rest = rw place refl
+    passes false place rest = rest
+
+pub passing-found : (test : Tree → Bool) (tested : Entry → Bool) → ((e : Entry) → tested e ≡ test (view e)) → (x : Entry) (es : List Entry) (answer : Option (Bor Entry))
+    → es ≡ (out-Entry x).parents.items → option_map (λ e. e.now) answer ≡ find tested es → IsAt (view x) (first (parents_passing test (view x))) answer
+passing-found test tested same x es answer s h =
+    let ps : parents (view x) ≡ map view es = parents_is x ∙ ap (map view) (sym s) in
+    option_map-map answer ∙ ap (option_map (λ e. Some (view e))) (h ∙ (λ i. find (λ e. same e i) es)) ∙ passing-from test (view x) 0 es ps
+    ∙ ap (λ ts. option_map (at (view x)) (first (led 0 (map (λ p. cond (test p) ([] ∷ []) []) ts)))) (sym ps)
+  where
+    option_map-map : (o : Option (Bor Entry)) → option_map (λ e. Some (view e.now)) o ≡ option_map (λ e. Some (view e)) (option_map (λ e. e.now) o)
+    option_map-map None = refl
+    option_map-map (Some e) = refl
+
+-- the type of an entry is the type of its value
+pub is_of_type-view : (kind : EntryType) (e : Entry) → sameb the_type (out-Entry e).entry_type kind ≡ is_of_type kind (view e)
+is_of_type-view kind e = rw (view_is e) refl
+
+pub is_collection_of-view : (kind : EntryType) (e : Entry) → (sameb the_type (out-Entry e).entry_type kind || sameb the_type (out-Entry e).entry_type Anthology) ≡ is_collection_of kind (view e)
+is_collection_of-view kind e = rw (view_is e) refl
+
+-- the collections of an entry whose parents may be these
+pub collections-passing : (x : Entry) → is_collected (out-Entry x).entry_type ≡ true → collections (view x) ≡ parents_passing (is_collection_of (out-Entry x).entry_type) (view x)
+collections-passing x h = rw (view_is x, h) refl
+
+-- and of any other, those of the parents
+collections-each : (ts : Trees) → each_collections ts ≡ map collections (tree_list ts)
+collections-each no_trees = refl
+collections-each (one_more t ts) = ap (λ rest. collections t ∷ rest) (collections-each ts)
+
+pub collections-searched : (x : Entry) → is_collected (out-Entry x).entry_type ≡ false → Searched collections (collections (view x)) (view x) 0
+collections-searched x h = rw (view_is x, h) (ap (λ paths. first (led 0 paths)) (collections-each (above x)))

@@ -1,6 +1,7 @@
 -- The look-ups from an entry: for each, the paths to all that it may answer, in order.
-use Rattle.std.specs.Prelude.{◌≡◌, ℕ, suc, ◌+◌, ◌-◌, Bool, false, not, ◌&&◌, ◌||◌, if◌then◌else◌, List, [], ◌∷◌, ◌++◌, length, map, filter, flat_map, Option, None, Some, is_none, option_and_then, option_map, slice_get, unwrap_or}
+use Rattle.std.specs.Prelude.{◌≡◌, ℕ, suc, ◌+◌, ◌-◌, Bool, false, not, ◌&&◌, ◌||◌, if◌then◌else◌, List, [], ◌∷◌, ◌++◌, length, map, filter, flat_map, Option, None, Some, is_none, option_and_then, option_map, slice_get, unwrap_or, Vec}
 use Rattle.std.specs.Borrow.{Bor}
+use Rattle.std.specs.Global.{Global}
 use Rattle.std.specs.List.{filter_map}
 use Rattle.std.specs.Option.{option_map_or, option_or}
 use Rattle.std.specs.Str.{bytes_eq}
@@ -12,8 +13,10 @@ use Rattle.haya_entry.specs.declared.entry.Entry.{Entry}
 use Rattle.haya_entry.specs.Levels.{ancestors}
 use Rattle.haya_entry.specs.ParentTypes.{container_types, is_collected, is_part}
 use Rattle.haya_entry.specs.Tree.{Tree, Trees, node, no_trees, one_more, at, fields, parents, tree_list, view, with_fields, with_parents}
-use Rattle.haya_people.specs.Person.{PersonView}
-use Rattle.haya_people.specs.Roles.{RoleView, role_named, role_in_words, RolesView}
+use Rattle.haya_people.specs.declared.person.Person.{Person}
+use Rattle.haya_people.specs.declared.role.PersonRole.{PersonRole}
+use Rattle.haya_people.specs.Person.{PersonView, person_view}
+use Rattle.haya_people.specs.Roles.{RoleView, role_named, role_in_words, role_view, RolesView}
 
 -- the first and the last of a list
 abbrev pub first : {A : Type 0} → List A → Option A
@@ -111,6 +114,10 @@ affiliated_with_role role x = flat_map (λ l. l.names) (filter (λ l. is_same_ro
 -- the entry with one more parent, the last
 abbrev pub add_parent : Tree → Tree → Tree
 add_parent parent x = with_parents (parents x ++ parent ∷ []) x
+
+-- persons and their role, by value
+abbrev pub persons_with_role : Vec Person Global × PersonRole → RolesView
+persons_with_role p = record { names = map person_view p.0.items; role = role_view p.1 }
 
 -- the entry with more affiliated persons, the last
 abbrev pub add_affiliated_persons : RolesView → Tree → Tree

@@ -1,6 +1,6 @@
 //! Look-ups of other works from an entry: what contains it, what it is a part of, who had a part in it.
 ghost use Rattle.std.specs.Prelude.{◌≡◌, ◌∷◌, [], IfOk, IfErr, OnOk, Some, map};
-ghost use Rattle.haya_entry.specs.Lookups.{IsAt, add_affiliated_persons, add_parent, affiliated_with_role, collections, containers, entries_of_type, first, full_path, is_full, is_of_type, parents_passing};
+ghost use Rattle.haya_entry.specs.Lookups.{IsAt, add_affiliated_persons, add_parent, affiliated_with_role, collections, containers, entries_of_type, first, full_path, is_full, is_of_type, parents_passing, persons_with_role};
 ghost use Rattle.haya_entry.specs.ParentTypes.{container_types, is_collected};
 ghost use Rattle.haya_entry.specs.Tree.{view};
 ghost use Rattle.haya_people.specs.Person.{person_view};
@@ -99,6 +99,49 @@ impl Entry {
             .find(|parent| parent.entry_type == kind)
     }
 
+    /// The work that collects works as this one: an anthology, or for an issue of a newspaper the newspaper. For the
+    /// types Anthology, Newspaper, Performance, Periodical, Proceedings, Book, Reference and Exhibition it is the first
+    /// parent of the same type or of the type Anthology; for any other it is what the first parent that has one has.
+    /// `None` where there is none.
+    pub fn get_collection(&self) -> Option<&Entry>
+        ensures { IsAt (view self.now) (first (collections (view self.now))) result }
+    {
+        if is_collected(self.entry_type) {
+            return self.parents.iter().find(|parent| {
+                parent.entry_type == self.entry_type || parent.entry_type == EntryType::Anthology
+            });
+        }
+        for parent in &self.parents {
+            if let Some(collection) = parent.get_collection() {
+                return Some(collection);
+            }
+        }
+        None
+    }
+
+    /// The work that a part without a title of its own belongs to: while the entry is a Chapter or a Scene that has no
+    /// title and has a parent, its first parent stands for it. Any other entry stands for itself.
+    pub fn get_full(&self) -> &Entry
+        ensures { IsAt (view self.now) (full_path (view self.now)) (Some result) }
+    {
+        let mut full = self;
+        while !full.is_full() {
+            match full.parents.first() {
+                Some(parent) => full = parent,
+                None => break,
+            }
+        }
+        full
+    }
+
+    // Whether the entry stands for itself.
+    fn is_full(&self) -> bool
+        ensures { result ≡ is_full (view self.now) }
+    {
+        let is_part = matches!(self.entry_type, EntryType::Chapter | EntryType::Scene);
+        !(is_part && self.title.is_none())
+    }
+
     /// The entry itself if it has this type, or else the first that is found above it, depth first: each parent and
     /// all that is above it are asked before the next parent. `None` where there is none.
     pub fn dfs_parent(&self, kind: EntryType) -> Option<&Entry>
@@ -123,6 +166,26 @@ impl Entry {
         self.dfs_parent(EntryType::Original)
     }
 
+    /// All affiliated persons with a role, in order.
+    pub fn affiliated_with_role(
+        &self,
+        alloc: Global,
+        role: PersonRole,
+    ) -> Result<Vec<&Person>, OutOfMemory>
+        ensures { IfOk result (λ persons. map (λ p. person_view p.now) persons.items
+            ≡ affiliated_with_role (role_view role) (view self.now)) }
+    {
+        let mut persons = Vec::new(alloc);
+        if let Some(lists) = &self.affiliated {
+            for list in lists {
+                if list.role == role {
+                    persons.extend(list.names.iter())?;
+                }
+            }
+        }
+        Ok(persons)
+    }
+
     /// Puts a work behind the parents that are there. When out of memory the work is handed back, and nothing has
     /// changed.
     pub fn add_parent(&mut self, parent: Entry) -> Result<(), Entry>
@@ -133,6 +196,36 @@ impl Entry {
         match self.parents.push(parent) {
             Ok(()) => Ok(()),
             Err(refused) => Err(refused.value),
+        }
+    }
+
+    /// Puts persons with their role behind the affiliated persons that are there. When out of memory the persons and
+    /// the role are handed back, and nothing has changed.
+    pub fn add_affiliated_persons(
+        &mut self,
+        persons: (Vec<Person>, PersonRole),
+    ) -> Result<(), (Vec<Person>, PersonRole)>
+        ensures ok { OnOk result (view self.new
+            ≡ add_affiliated_persons (persons_with_role persons) (view self.old)) }
+        ensures same { IfErr result (λ _. view self.new ≡ view self.old) }
+        ensures back { IfErr result (λ back. persons_with_role back ≡ persons_with_role persons) }
+    {
+        let (names, role) = persons;
+        let item = PersonsWithRoles::new(names, role);
+        let refused = match &mut self.affiliated {
+            Some(lists) => lists.push(item),
+            None => {
+                let mut lists = Vec::new(*self.parents.allocator());
+                let pushed = lists.push(item);
+                if pushed.is_ok() {
+                    self.affiliated = Some(lists);
+                }
+                pushed
+            }
+        };
+        match refused {
+            Ok(()) => Ok(()),
+            Err(refused) => Err((refused.value.names, refused.value.role)),
         }
     }
 }

@@ -1,10 +1,9 @@
 use Rattle.haya_entry.specs.Lookups.{entries_of_type}
 use Rattle.haya_entry.proofs.LookupLemmas.{searched-next, searched-found, searched-all, types-searched}
-use Rattle.haya_entry.proofs.Trees.{view_is}
 use Rattle.haya_entry.proofs.entry.Entry.+dfs_parent.Goals as goal
 
 pub loop-parent-init : goal.loop-parent-init
-loop-parent-init t c = types-searched c.args.kind _ (rw (view_is c.args.self.now, ← c.eq.ensures) c.if-eq.false)
+loop-parent-init t c = types-searched c.args.kind c.args.self.now (rw (← c.eq.ensures) c.if-eq.false)
 
 pub loop-parent-preserved : goal.loop-parent-preserved
 loop-parent-preserved t c =
