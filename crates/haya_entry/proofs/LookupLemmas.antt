@@ -1,8 +1,8 @@
 -- Laws of the look-ups' lists of paths.
-use Rattle.std.proofs.Common.{◌≡◌, ℕ, suc, ◌+◌, ◌<◌, ◌≤◌, Bool, true, false, cond, ◌||◌, List, [], ◌∷◌, ◌++◌, length, get_or, drop, map, Option, None, Some, refl, sym, ap, ◌∙◌, add-one, arith}
-use Rattle.std.specs.Prelude.{option_and_then, option_map, slice_get, filter, find}
+use Rattle.std.proofs.Common.{◌≡◌, ℕ, suc, ◌+◌, ◌-◌, ◌<◌, ◌≤◌, Bool, true, false, cond, ◌||◌, List, [], ◌∷◌, ◌++◌, length, get_or, drop, drop-cons, map, Option, None, Some, refl, sym, ap, ◌∙◌, add-one, arith}
+use Rattle.std.specs.Prelude.{option_and_then, option_map, slice_get, filter, find, flat_map}
 use Rattle.std.specs.Borrow.{Bor}
-use Rattle.std.specs.Option.{option_map_or}
+use Rattle.std.specs.Option.{option_copied, option_or}
 use Rattle.std.proofs.Math.ListN.{drop_of_length-le}
 use Rattle.std.proofs.lemmas.List.{length-map}
 use Rattle.std.proofs.lemmas.List.Elements.{filter-append}
@@ -12,8 +12,8 @@ use denote.Enum.Bare.{sameb}
 use Rattle.haya_entry.specs.contracts.types.EntryType.{the_type}
 use Rattle.haya_entry.specs.declared.types.EntryType.{EntryType}
 use Rattle.haya_entry.specs.declared.types.EntryType.TheVariants.{Anthology}
-use Rattle.haya_entry.specs.Lookups.{IsAt, collections, depth_first, each_collections, each_depth_first, entries_of_type, first, is_collection_of, is_of_type, led, parents_passing, passes_at}
-use Rattle.haya_entry.specs.ParentTypes.{is_collected}
+use Rattle.haya_entry.specs.Lookups.{IsAt, collections, containers, depth_first, each_collections, each_depth_first, entries_of_type, first, first_line, first_line_above, full_path, is_collection_of, is_full, is_of_type, last, led, parents_passing, passes_at}
+use Rattle.haya_entry.specs.ParentTypes.{container_types, is_collected}
 use Rattle.haya_entry.specs.Tree.{Tree, Trees, node, no_trees, one_more, at, fields_of, parents, tree_list, trees, view}
 use Rattle.haya_entry.proofs.LevelLemmas.{from_place, places_from}
 use Rattle.haya_entry.proofs.Trees.{parents_is, view_is}
@@ -133,3 +133,88 @@ collections-each (one_more t ts) = ap (λ rest. collections t ∷ rest) (collect
 
 pub collections-searched : (x : Entry) → is_collected (out-Entry x).entry_type ≡ false → Searched collections (collections (view x)) (view x) 0
 collections-searched x h = rw (view_is x, h) (ap (λ paths. first (led 0 paths)) (collections-each (above x)))
+
+-- A search over types: none of those before place i is the type of a parent.
+abbrev pub Tried : Tree → List EntryType → ℕ → Type 0
+Tried x kinds i = first (containers x) ≡ first (flat_map (λ kind. parents_passing (is_of_type kind) x) (drop i kinds))
+
+first-after : (xs ys : List (List ℕ)) → first xs ≡ None → first (xs ++ ys) ≡ first ys
+first-after [] ys h = refl
+first-after (x ∷ xs) ys h = cc
+
+first-before : (x : Tree) (xs ys : List (List ℕ)) (answer : Bor Entry) → IsAt x (first xs) (Some answer) → first (xs ++ ys) ≡ first xs
+first-before x [] ys answer h = cc
+first-before x (p ∷ xs) ys answer h = refl
+
+pub tried-first : (x : Entry) (kinds : List EntryType) → kinds ≡ container_types (out-Entry x).entry_type → Tried (view x) kinds 0
+tried-first x kinds h = rw (h, view_is x) refl
+
+module _ (x : Tree) (kinds : List EntryType) (i : ℕ) (tried : Tried x kinds i) where
+  abbrev of_kinds : List EntryType → List (List ℕ)
+  of_kinds ks = flat_map (λ kind. parents_passing (is_of_type kind) x) ks
+
+  module _ (d : EntryType) (within : i < length kinds) where
+    abbrev of_kind : List (List ℕ)
+    of_kind = parents_passing (is_of_type (get_or kinds i d)) x
+
+    of_kind-first : first (containers x) ≡ first (of_kind ++ of_kinds (drop (suc i) kinds))
+    of_kind-first = tried ∙ ap (λ ks. first (of_kinds ks)) (drop-cons kinds i d within)
+
+    pub tried-next : IsAt x (first of_kind) None → Tried x kinds (i + 1)
+    tried-next none = rw add-one (of_kind-first ∙ first-after of_kind (of_kinds (drop (suc i) kinds)) (path-none x (first of_kind) none))
+
+    pub tried-found : (answer : Bor Entry) → IsAt x (first of_kind) (Some answer) → IsAt x (first (containers x)) (Some answer)
+    tried-found answer some = some ∙ ap (option_map (at x)) (sym (of_kind-first ∙ first-before x of_kind (of_kinds (drop (suc i) kinds)) answer some))
+
+  pub tried-all : length kinds ≤ i → IsAt x (first (containers x)) None
+  tried-all past =
+      let none : drop i kinds ≡ [] = drop_of_length-le kinds past in
+      ap (option_map (at x)) (sym (tried ∙ ap (λ ks. first (of_kinds ks)) none))
+
+-- an entry that stands for itself
+pub full-itself : (x : Tree) → is_full x ≡ true → full_path x ≡ Some []
+full-itself (node f ps) h = rw h refl
+
+-- an entry without parents
+pub full-alone : (x : Tree) → slice_get (parents x) 0 ≡ None → full_path x ≡ Some []
+full-alone (node f no_trees) h = alone (is_full (node f no_trees))
+  where
+    alone : (b : Bool) → option_or {T = List ℕ} (first (cond b ([] ∷ []) [])) (Some []) ≡ Some []
+    alone true = refl
+    alone false = refl
+full-alone (node f (one_more t ts)) h = cc
+
+last-cons : (p q : List ℕ) (ps : List (List ℕ)) → last (p ∷ q ∷ ps) ≡ last (q ∷ ps)
+last-cons p q ps = let e : length (p ∷ q ∷ ps) - 1 ≡ suc (length (q ∷ ps) - 1) = omega arith in rw e refl
+
+last-led : (i : ℕ) (ps : List (List ℕ)) → last (map (λ path. i ∷ path) ps) ≡ option_map (λ path. i ∷ path) (last ps)
+last-led i ps = rw (length-map ps (λ path. i ∷ path)) (slice_get-map (λ path. i ∷ path) ps (length ps - 1))
+
+last-line : (t : Tree) → last ([] ∷ map (λ path. 0 ∷ path) (first_line t)) ≡ option_map (λ path. 0 ∷ path) (last (first_line t))
+last-line (node f ps) = last-cons [] (0 ∷ []) (map (λ path. 0 ∷ path) (map (λ path. 0 ∷ path) (first_line_above ps))) ∙ last-led 0 (first_line (node f ps))
+
+first-led : (i : ℕ) (ps : List (List ℕ)) → first (map (λ path. i ∷ path) ps) ≡ option_map (λ path. i ∷ path) (first ps)
+first-led i ps = slice_get-map (λ path. i ∷ path) ps 0
+
+-- any other entry: its first parent stands for it
+pub full-above : (x t : Tree) → is_full x ≡ false → slice_get (parents x) 0 ≡ Some t → option_map (at x) (full_path x) ≡ option_map (at t) (full_path t)
+full-above (node f no_trees) t h s = cc
+full-above (node f (one_more u ts)) t h s =
+    let e : u ≡ t = cc in
+    let x = node f (one_more u ts) in
+    rw (← e, h, passes-led is_full x u 0 refl (first_line u), first-led 0 (filter (passes_at is_full u) (first_line u)), last-line u)
+    (either (first (filter (passes_at is_full u) (first_line u))) (last (first_line u)))
+  where
+    either : (a b : Option (List ℕ)) → option_map (at (node f (one_more u ts))) (option_or (option_map (λ path. 0 ∷ path) a) (option_map (λ path. 0 ∷ path) b)) ≡ option_map (at u) (option_or a b)
+    either (Some p) b = refl
+    either None (Some p) = refl
+    either None None = refl
+
+-- the first parent of an entry, by value
+pub first-parent : (x : Entry) (es : List Entry) (o : Option (Bor Entry)) → es ≡ (out-Entry x).parents.items → option_copied o ≡ slice_get es 0 → slice_get (parents (view x)) 0 ≡ option_map (λ e. view e.now) o
+first-parent x es o s h =
+    ap (λ ts. slice_get ts 0) (parents_is x ∙ ap (map view) (sym s)) ∙ slice_get-map view es 0 ∙ ap (option_map view) (sym h) ∙ copied o
+  where
+    copied : (o : Option (Bor Entry)) → option_map view (option_copied o) ≡ option_map (λ e. view e.now) o
+    copied None = refl
+    copied (Some e) = refl
