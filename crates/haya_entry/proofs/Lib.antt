@@ -5,3 +5,4 @@ pub mod LevelLemmas
 mod LevelsApart
 mod Rows
 pub mod LookupLemmas
+mod RoleLemmas

@@ -171,10 +171,6 @@ module _ (x : Tree) (kinds : List EntryType) (i : ℕ) (tried : Tried x kinds i)
       let none : drop i kinds ≡ [] = drop_of_length-le kinds past in
       ap (option_map (at x)) (sym (tried ∙ ap (λ ks. first (of_kinds ks)) none))
 
--- an entry that stands for itself
-pub full-itself : (x : Tree) → is_full x ≡ true → full_path x ≡ Some []
-full-itself (node f ps) h = rw h refl
-
 -- an entry without parents
 pub full-alone : (x : Tree) → slice_get (parents x) 0 ≡ None → full_path x ≡ Some []
 full-alone (node f no_trees) h = alone (is_full (node f no_trees))

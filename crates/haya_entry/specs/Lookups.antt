@@ -107,9 +107,12 @@ is_same_role _ _ = false
 abbrev pub affiliated_roles : Tree → List RolesView
 affiliated_roles x = unwrap_or (fields x).affiliated []
 
--- all affiliated persons with a role, in order
+-- of lists of persons with their role, all persons with this role, in order
+abbrev pub persons_of_role : RoleView → List RolesView → List PersonView
+persons_of_role role lists = flat_map (λ l. l.names) (filter (λ l. is_same_role l.role role) lists)
+
 abbrev pub affiliated_with_role : RoleView → Tree → List PersonView
-affiliated_with_role role x = flat_map (λ l. l.names) (filter (λ l. is_same_role l.role role) (affiliated_roles x))
+affiliated_with_role role x = persons_of_role role (affiliated_roles x)
 
 -- the entry with one more parent, the last
 abbrev pub add_parent : Tree → Tree → Tree

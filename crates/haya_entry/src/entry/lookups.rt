@@ -1,6 +1,6 @@
 //! Look-ups of other works from an entry: what contains it, what it is a part of, who had a part in it.
 ghost use Rattle.std.specs.Prelude.{◌≡◌, ◌∷◌, [], IfOk, IfErr, OnOk, Some, map};
-ghost use Rattle.haya_entry.specs.Lookups.{IsAt, add_affiliated_persons, add_parent, affiliated_with_role, collections, containers, entries_of_type, first, full_path, is_full, is_of_type, parents_passing, persons_with_role};
+ghost use Rattle.haya_entry.specs.Lookups.{IsAt, add_affiliated_persons, add_parent, affiliated_with_role, collections, containers, entries_of_type, first, full_path, is_full, is_of_type, parents_passing, persons_of_role, persons_with_role};
 ghost use Rattle.haya_entry.specs.ParentTypes.{container_types, is_collected};
 ghost use Rattle.haya_entry.specs.Tree.{view};
 ghost use Rattle.haya_people.specs.Person.{person_view};
@@ -61,6 +61,25 @@ fn is_collected(entry_type: EntryType) -> bool
             | EntryType::Reference
             | EntryType::Exhibition
     )
+}
+
+// Of lists of persons with their role, all persons with this role, in order.
+fn persons_of_role<'a>(
+    alloc: Global,
+    lists: &'a [PersonsWithRoles],
+    role: &PersonRole,
+) -> Result<Vec<&'a Person>, OutOfMemory>
+    ensures { IfOk result (λ persons. map (λ p. person_view p.now) persons.items
+        ≡ persons_of_role (role_view role.now) (map roles_view lists.now)) }
+{
+    let mut persons = Vec::new(alloc);
+    'lists: for list in lists {
+        if list.role != *role {
+            continue;
+        }
+        persons.extend(list.names.iter())?;
+    }
+    Ok(persons)
 }
 
 impl Entry {
@@ -175,15 +194,8 @@ impl Entry {
         ensures { IfOk result (λ persons. map (λ p. person_view p.now) persons.items
             ≡ affiliated_with_role (role_view role) (view self.now)) }
     {
-        let mut persons = Vec::new(alloc);
-        if let Some(lists) = &self.affiliated {
-            for list in lists {
-                if list.role == role {
-                    persons.extend(list.names.iter())?;
-                }
-            }
-        }
-        Ok(persons)
+        let lists = self.affiliated.as_deref().unwrap_or(&[]);
+        persons_of_role(alloc, lists, &role)
     }
 
     /// Puts a work behind the parents that are there. When out of memory the work is handed back, and nothing has
