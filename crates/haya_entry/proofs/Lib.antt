@@ -6,3 +6,4 @@ mod LevelsApart
 mod Rows
 pub mod LookupLemmas
 mod RoleLemmas
+mod FirstValues
