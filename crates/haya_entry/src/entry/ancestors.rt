@@ -4,9 +4,11 @@ ghost use Rattle.haya_entry.specs.Tree.{Tree, fields, parents, size, view};
 ghost use Rattle.haya_entry.specs.Levels.{AsksAll, AsksAllWithin, ancestors, height, level, levels_from};
 ghost use Rattle.haya_entry.specs.Lookups.{first_value};
 ghost use Rattle.haya_entry.specs.Walks.{AsksWithin, IsReached, answer_of, further};
+ghost use Rattle.haya_values.specs.Url.{url_view};
 
 use crate::{Entry, Steps};
 use haya_time::Date;
+use haya_values::QualifiedUrl;
 
 // What a walk goes over: an entry behind a reference.
 trait Node: Copy {
@@ -169,6 +171,15 @@ impl Entry {
         ensures { option_map (λ d. d.now) result ≡ first_value (λ t. (fields t).date) (view self.now) }
     {
         self.map(|entry| entry.date())
+    }
+
+    /// The address of the entry, or else of its first ancestor that has one, in the same order. `None` where none has
+    /// an address.
+    pub fn url_any(&self) -> Option<&QualifiedUrl>
+        ensures { option_map (λ u. url_view u.now) result
+            ≡ first_value (λ t. (fields t).url) (view self.now) }
+    {
+        self.map(|entry| entry.url())
     }
 }
 

@@ -113,9 +113,7 @@ impl Entry {
         ensures { IsAt (view self.now) (first (parents_passing (is_of_type kind) (view self.now)))
             result }
     {
-        self.parents
-            .iter()
-            .find(|parent| parent.entry_type == kind)
+        self.parents.iter().find(|parent| parent.entry_type == kind)
     }
 
     /// The work that collects works as this one: an anthology, or for an issue of a newspaper the newspaper. For the
@@ -241,3 +239,6 @@ impl Entry {
         }
     }
 }
+
+#[cfg(test)]
+mod tests;
