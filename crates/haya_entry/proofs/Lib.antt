@@ -4,6 +4,7 @@ mod SerialLemmas
 pub mod LevelLemmas
 mod LevelsApart
 mod Rows
-pub mod LookupLemmas
+mod LookupLemmas
 mod RoleLemmas
 mod FirstValues
+mod LookupRows

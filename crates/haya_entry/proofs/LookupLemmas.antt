@@ -12,7 +12,7 @@ use denote.Enum.Bare.{sameb}
 use Rattle.haya_entry.specs.contracts.types.EntryType.{the_type}
 use Rattle.haya_entry.specs.declared.types.EntryType.{EntryType}
 use Rattle.haya_entry.specs.declared.types.EntryType.TheVariants.{Anthology}
-use Rattle.haya_entry.specs.Lookups.{IsAt, collections, containers, depth_first, each_collections, each_depth_first, entries_of_type, first, first_line, first_line_above, full_path, is_collection_of, is_full, is_of_type, last, led, parents_passing, passes_at}
+use Rattle.haya_entry.specs.Lookups.{IsAt, collections, containers, depth_first_paths, collection_lists, depth_first_lists, entries_of_type, first, line_of_first_parents, line_above, full_path, is_collection_of, is_full, is_of_type, last, joined_paths, parents_passing, passes_at}
 use Rattle.haya_entry.specs.ParentTypes.{container_types, is_collected}
 use Rattle.haya_entry.specs.Tree.{Tree, Trees, node, no_trees, one_more, at, fields_of, parents, tree_list, trees, view}
 use Rattle.haya_entry.proofs.LevelLemmas.{from_place, places_from}
@@ -24,13 +24,13 @@ path-none x None h = refl
 path-none x (Some p) h = cc
 
 -- where an entry gives no path, the next are asked
-led-none : (i : ℕ) (paths : List (List ℕ)) (rest : List (List (List ℕ))) → first paths ≡ None → first (led i (paths ∷ rest)) ≡ first (led (suc i) rest)
+led-none : (i : ℕ) (paths : List (List ℕ)) (rest : List (List (List ℕ))) → first paths ≡ None → first (joined_paths i (paths ∷ rest)) ≡ first (joined_paths (suc i) rest)
 led-none i [] rest h = refl
 led-none i (p ∷ ps) rest h = cc
 
 -- where it gives one, that is the answer
 led-some : (x t : Tree) (i : ℕ) (paths : List (List ℕ)) (rest : List (List (List ℕ))) (answer : Bor Entry)
-    → slice_get (parents x) i ≡ Some t → IsAt t (first paths) (Some answer) → IsAt x (first (led i (paths ∷ rest))) (Some answer)
+    → slice_get (parents x) i ≡ Some t → IsAt t (first paths) (Some answer) → IsAt x (first (joined_paths i (paths ∷ rest))) (Some answer)
 led-some x t i [] rest answer s h = cc
 led-some x t i (p ∷ ps) rest answer s h = h ∙ ap (λ o. Some (option_and_then (λ q. at q p) o)) (sym s)
 
@@ -45,12 +45,12 @@ above x = trees (map view (out-Entry x).parents.items)
 
 -- A search over parents: none of those before place i has an answer.
 abbrev pub Searched : (Tree → List (List ℕ)) → List (List ℕ) → Tree → ℕ → Type 0
-Searched answers paths x i = first paths ≡ first (led i (map answers (drop i (parents x))))
+Searched answers paths x i = first paths ≡ first (joined_paths i (map answers (drop i (parents x))))
 
 module _ (answers : Tree → List (List ℕ)) (paths : List (List ℕ)) (x : Entry) (es : List Entry) (s : es ≡ (out-Entry x).parents.items) (i : ℕ) (searched : Searched answers paths (view x) i) where
   module _ (e : Entry) (within : i < length es) (r : e ≡ get_or es i e) where
-    here : first paths ≡ first (led i (answers (view e) ∷ map answers (drop (suc i) (parents (view x)))))
-    here = searched ∙ ap (λ ts. first (led i (map answers ts))) (from_place (parents (view x)) i (view e) (parent_at x es i e s within r))
+    here : first paths ≡ first (joined_paths i (answers (view e) ∷ map answers (drop (suc i) (parents (view x)))))
+    here = searched ∙ ap (λ ts. first (joined_paths i (map answers ts))) (from_place (parents (view x)) i (view e) (parent_at x es i e s within r))
 
     pub searched-next : IsAt (view e) (first (answers (view e))) None → Searched answers paths (view x) (i + 1)
     searched-next none = rw add-one (here ∙ led-none i (answers (view e)) (map answers (drop (suc i) (parents (view x)))) (path-none (view e) (first (answers (view e))) none))
@@ -63,7 +63,7 @@ module _ (answers : Tree → List (List ℕ)) (paths : List (List ℕ)) (x : Ent
   searched-all past =
       let many = ap length (parents_is x ∙ ap (map view) (sym s)) ∙ length-map es view in
       let none : drop i (parents (view x)) ≡ [] = drop_of_length-le (parents (view x)) (omega (arith, many)) in
-      ap (option_map (at (view x))) (sym (searched ∙ ap (λ ts. first (led i (map answers ts))) none))
+      ap (option_map (at (view x))) (sym (searched ∙ ap (λ ts. first (joined_paths i (map answers ts))) none))
 
 led-kept : (b : Bool) (p : List ℕ) (i : ℕ) (ps : List (List ℕ)) → cond b ((i ∷ p) ∷ map (λ path. i ∷ path) ps) (map (λ path. i ∷ path) ps) ≡ map (λ path. i ∷ path) (cond b (p ∷ ps) ps)
 led-kept true p i ps = refl
@@ -78,29 +78,29 @@ passes-led test x t i s (p ∷ ps) =
 
 -- the entries above of a type are those of the parents
 types-above : (kind : EntryType) (x : Tree) (i : ℕ) (ts : Trees) → drop i (parents x) ≡ tree_list ts
-    → filter (passes_at (is_of_type kind) x) (led i (each_depth_first ts)) ≡ led i (map (entries_of_type kind) (tree_list ts))
+    → filter (passes_at (is_of_type kind) x) (joined_paths i (depth_first_lists ts)) ≡ joined_paths i (map (entries_of_type kind) (tree_list ts))
 types-above kind x i no_trees s = refl
 types-above kind x i (one_more t ts) s =
     let test = is_of_type kind in
     let there = places_from (parents x) i t (tree_list ts) s in
-    filter-append (passes_at test x) (map (λ path. i ∷ path) (depth_first t)) (led (suc i) (each_depth_first ts))
-    ∙ rw (passes-led test x t i there.0 (depth_first t), types-above kind x (suc i) ts there.1) refl
+    filter-append (passes_at test x) (map (λ path. i ∷ path) (depth_first_paths t)) (joined_paths (suc i) (depth_first_lists ts))
+    ∙ rw (passes-led test x t i there.0 (depth_first_paths t), types-above kind x (suc i) ts there.1) refl
 
 pub types-searched : (kind : EntryType) (x : Entry) → sameb the_type (out-Entry x).entry_type kind ≡ false → Searched (entries_of_type kind) (entries_of_type kind (view x)) (view x) 0
 types-searched kind x h = rw (view_is x, h) (ap first (types-above kind (node (fields_of (out-Entry x)) (above x)) 0 (above x) refl))
 
 -- the first parent that passes a test, found among the entries
 passing-from : (test : Tree → Bool) (x : Tree) (i : ℕ) (es : List Entry) → drop i (parents x) ≡ map view es
-    → option_map (λ e. Some (view e)) (find (λ e. test (view e)) es) ≡ option_map (at x) (first (led i (map (λ p. cond (test p) ([] ∷ []) []) (map view es))))
+    → option_map (λ e. Some (view e)) (find (λ e. test (view e)) es) ≡ option_map (at x) (first (joined_paths i (map (λ p. cond (test p) ([] ∷ []) []) (map view es))))
 passing-from test x i [] s = refl
 passing-from test x i (e ∷ es) s =
     let there = places_from (parents x) i (view e) (map view es) s in
     passes (test (view e)) there.0 (passing-from test x (suc i) es there.1)
   where
     passes : (b : Bool) → slice_get (parents x) i ≡ Some (view e)
-        → option_map (λ e. Some (view e)) (find (λ e. test (view e)) es) ≡ option_map (at x) (first (led (suc i) (map (λ p. cond (test p) ([] ∷ []) []) (map view es))))
+        → option_map (λ e. Some (view e)) (find (λ e. test (view e)) es) ≡ option_map (at x) (first (joined_paths (suc i) (map (λ p. cond (test p) ([] ∷ []) []) (map view es))))
         → option_map (λ e. Some (view e)) (cond b (Some e) (find (λ e. test (view e)) es))
-        ≡ option_map (at x) (first (led i (cond b ([] ∷ []) [] ∷ map (λ p. cond (test p) ([] ∷ []) []) (map view es))))
+        ≡ option_map (at x) (first (joined_paths i (cond b ([] ∷ []) [] ∷ map (λ p. cond (test p) ([] ∷ []) []) (map view es))))
     passes true place rest = rw place refl
     passes false place rest = rest
 
@@ -109,7 +109,7 @@ pub passing-found : (test : Tree → Bool) (tested : Entry → Bool) → ((e : E
 passing-found test tested same x es answer s h =
     let ps : parents (view x) ≡ map view es = parents_is x ∙ ap (map view) (sym s) in
     option_map-map answer ∙ ap (option_map (λ e. Some (view e))) (h ∙ (λ i. find (λ e. same e i) es)) ∙ passing-from test (view x) 0 es ps
-    ∙ ap (λ ts. option_map (at (view x)) (first (led 0 (map (λ p. cond (test p) ([] ∷ []) []) ts)))) (sym ps)
+    ∙ ap (λ ts. option_map (at (view x)) (first (joined_paths 0 (map (λ p. cond (test p) ([] ∷ []) []) ts)))) (sym ps)
   where
     option_map-map : (o : Option (Bor Entry)) → option_map (λ e. Some (view e.now)) o ≡ option_map (λ e. Some (view e)) (option_map (λ e. e.now) o)
     option_map-map None = refl
@@ -127,12 +127,12 @@ pub collections-passing : (x : Entry) → is_collected (out-Entry x).entry_type 
 collections-passing x h = rw (view_is x, h) refl
 
 -- and of any other, those of the parents
-collections-each : (ts : Trees) → each_collections ts ≡ map collections (tree_list ts)
+collections-each : (ts : Trees) → collection_lists ts ≡ map collections (tree_list ts)
 collections-each no_trees = refl
 collections-each (one_more t ts) = ap (λ rest. collections t ∷ rest) (collections-each ts)
 
 pub collections-searched : (x : Entry) → is_collected (out-Entry x).entry_type ≡ false → Searched collections (collections (view x)) (view x) 0
-collections-searched x h = rw (view_is x, h) (ap (λ paths. first (led 0 paths)) (collections-each (above x)))
+collections-searched x h = rw (view_is x, h) (ap (λ paths. first (joined_paths 0 paths)) (collections-each (above x)))
 
 -- A search over types: none of those before place i is the type of a parent.
 abbrev pub Tried : Tree → List EntryType → ℕ → Type 0
@@ -186,8 +186,8 @@ last-cons p q ps = let e : length (p ∷ q ∷ ps) - 1 ≡ suc (length (q ∷ ps
 last-led : (i : ℕ) (ps : List (List ℕ)) → last (map (λ path. i ∷ path) ps) ≡ option_map (λ path. i ∷ path) (last ps)
 last-led i ps = rw (length-map ps (λ path. i ∷ path)) (slice_get-map (λ path. i ∷ path) ps (length ps - 1))
 
-last-line : (t : Tree) → last ([] ∷ map (λ path. 0 ∷ path) (first_line t)) ≡ option_map (λ path. 0 ∷ path) (last (first_line t))
-last-line (node f ps) = last-cons [] (0 ∷ []) (map (λ path. 0 ∷ path) (map (λ path. 0 ∷ path) (first_line_above ps))) ∙ last-led 0 (first_line (node f ps))
+last-line : (t : Tree) → last ([] ∷ map (λ path. 0 ∷ path) (line_of_first_parents t)) ≡ option_map (λ path. 0 ∷ path) (last (line_of_first_parents t))
+last-line (node f ps) = last-cons [] (0 ∷ []) (map (λ path. 0 ∷ path) (map (λ path. 0 ∷ path) (line_above ps))) ∙ last-led 0 (line_of_first_parents (node f ps))
 
 first-led : (i : ℕ) (ps : List (List ℕ)) → first (map (λ path. i ∷ path) ps) ≡ option_map (λ path. i ∷ path) (first ps)
 first-led i ps = slice_get-map (λ path. i ∷ path) ps 0
@@ -198,8 +198,8 @@ full-above (node f no_trees) t h s = cc
 full-above (node f (one_more u ts)) t h s =
     let e : u ≡ t = cc in
     let x = node f (one_more u ts) in
-    rw (← e, h, passes-led is_full x u 0 refl (first_line u), first-led 0 (filter (passes_at is_full u) (first_line u)), last-line u)
-    (either (first (filter (passes_at is_full u) (first_line u))) (last (first_line u)))
+    rw (← e, h, passes-led is_full x u 0 refl (line_of_first_parents u), first-led 0 (filter (passes_at is_full u) (line_of_first_parents u)), last-line u)
+    (either (first (filter (passes_at is_full u) (line_of_first_parents u))) (last (line_of_first_parents u)))
   where
     either : (a b : Option (List ℕ)) → option_map (at (node f (one_more u ts))) (option_or (option_map (λ path. 0 ∷ path) a) (option_map (λ path. 0 ∷ path) b)) ≡ option_map (at u) (option_or a b)
     either (Some p) b = refl

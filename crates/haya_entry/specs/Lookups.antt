@@ -30,13 +30,13 @@ abbrev pub IsAt : Tree → Option (List ℕ) → Option (Bor Entry) → Type 0
 IsAt x path answer = option_map (λ e. Some (view e.now)) answer ≡ option_map (at x) path
 
 -- paths from each of several entries, as paths from the entry whose parents these are, the first of them at this place
-abbrev pub led : ℕ → List (List (List ℕ)) → List (List ℕ)
-led i [] = []
-led i (paths ∷ rest) = map (λ path. i ∷ path) paths ++ led (suc i) rest
+abbrev pub joined_paths : ℕ → List (List (List ℕ)) → List (List ℕ)
+joined_paths i [] = []
+joined_paths i (paths ∷ rest) = map (λ path. i ∷ path) paths ++ joined_paths (suc i) rest
 
 -- the parents that pass a test, in order
 abbrev pub parents_passing : (Tree → Bool) → Tree → List (List ℕ)
-parents_passing test x = led 0 (map (λ p. if test p then [] ∷ [] else []) (parents x))
+parents_passing test x = joined_paths 0 (map (λ p. if test p then [] ∷ [] else []) (parents x))
 
 abbrev pub is_of_type : EntryType → Tree → Bool
 is_of_type kind x = sameb the_type (fields x).entry_type kind
@@ -53,20 +53,20 @@ abbrev mutual
   -- the collections: those among the parents, or else those of the parents
   pub collections : Tree → List (List ℕ)
   collections (node f ps) =
-      if is_collected f.entry_type then parents_passing (is_collection_of f.entry_type) (node f ps) else led 0 (each_collections ps)
+      if is_collected f.entry_type then parents_passing (is_collection_of f.entry_type) (node f ps) else joined_paths 0 (collection_lists ps)
 
-  pub each_collections : Trees → List (List (List ℕ))
-  each_collections no_trees = []
-  each_collections (one_more t ts) = collections t ∷ each_collections ts
+  pub collection_lists : Trees → List (List (List ℕ))
+  collection_lists no_trees = []
+  collection_lists (one_more t ts) = collections t ∷ collection_lists ts
 
 abbrev mutual
   -- the entry and all above it, depth first: a parent and all above it stand before the next parent
-  pub depth_first : Tree → List (List ℕ)
-  depth_first (node f ps) = [] ∷ led 0 (each_depth_first ps)
+  pub depth_first_paths : Tree → List (List ℕ)
+  depth_first_paths (node f ps) = [] ∷ joined_paths 0 (depth_first_lists ps)
 
-  pub each_depth_first : Trees → List (List (List ℕ))
-  each_depth_first no_trees = []
-  each_depth_first (one_more t ts) = depth_first t ∷ each_depth_first ts
+  pub depth_first_lists : Trees → List (List (List ℕ))
+  depth_first_lists no_trees = []
+  depth_first_lists (one_more t ts) = depth_first_paths t ∷ depth_first_lists ts
 
 -- whether the entry at a path passes a test
 abbrev pub passes_at : (Tree → Bool) → Tree → List ℕ → Bool
@@ -74,16 +74,16 @@ passes_at test x path = option_map_or test (at x path) false
 
 -- the entries of a type, depth first
 abbrev pub entries_of_type : EntryType → Tree → List (List ℕ)
-entries_of_type kind x = filter (passes_at (is_of_type kind) x) (depth_first x)
+entries_of_type kind x = filter (passes_at (is_of_type kind) x) (depth_first_paths x)
 
 -- the line of first parents: the entry, its first parent, that one's first parent, and so on
 abbrev mutual
-  pub first_line : Tree → List (List ℕ)
-  first_line (node f ps) = [] ∷ map (λ path. 0 ∷ path) (first_line_above ps)
+  pub line_of_first_parents : Tree → List (List ℕ)
+  line_of_first_parents (node f ps) = [] ∷ map (λ path. 0 ∷ path) (line_above ps)
 
-  pub first_line_above : Trees → List (List ℕ)
-  first_line_above no_trees = []
-  first_line_above (one_more t ts) = first_line t
+  pub line_above : Trees → List (List ℕ)
+  line_above no_trees = []
+  line_above (one_more t ts) = line_of_first_parents t
 
 -- whether the entry stands for itself, and isn't a part without a title of what it stands in
 abbrev pub is_full : Tree → Bool
@@ -91,7 +91,7 @@ is_full x = not (is_part (fields x).entry_type && is_none (fields x).title)
 
 -- the first entry on that line that stands for itself, or the last on it
 abbrev pub full_path : Tree → Option (List ℕ)
-full_path x = option_or (first (filter (passes_at is_full x) (first_line x))) (last (first_line x))
+full_path x = option_or (first (filter (passes_at is_full x) (line_of_first_parents x))) (last (line_of_first_parents x))
 
 -- the first value over the entry and then its ancestors, level by level
 abbrev pub first_value : {V : Type 0} → (Tree → Option V) → Tree → Option V
@@ -104,24 +104,24 @@ is_same_role (role_in_words a) (role_in_words b) = bytes_eq a b
 is_same_role _ _ = false
 
 -- the affiliated persons with their roles, none where the field isn't set
-abbrev pub affiliated_roles : Tree → List RolesView
-affiliated_roles x = unwrap_or (fields x).affiliated []
+abbrev pub affiliated_lists : Tree → List RolesView
+affiliated_lists x = unwrap_or (fields x).affiliated []
 
 -- of lists of persons with their role, all persons with this role, in order
 abbrev pub persons_of_role : RoleView → List RolesView → List PersonView
 persons_of_role role lists = flat_map (λ l. l.names) (filter (λ l. is_same_role l.role role) lists)
 
 abbrev pub affiliated_with_role : RoleView → Tree → List PersonView
-affiliated_with_role role x = persons_of_role role (affiliated_roles x)
+affiliated_with_role role x = persons_of_role role (affiliated_lists x)
 
 -- the entry with one more parent, the last
 abbrev pub add_parent : Tree → Tree → Tree
 add_parent parent x = with_parents (parents x ++ parent ∷ []) x
 
 -- persons and their role, by value
-abbrev pub persons_with_role : Vec Person Global × PersonRole → RolesView
-persons_with_role p = record { names = map person_view p.0.items; role = role_view p.1 }
+abbrev pub pair_view : Vec Person Global × PersonRole → RolesView
+pair_view p = record { names = map person_view p.0.items; role = role_view p.1 }
 
 -- the entry with more affiliated persons, the last
 abbrev pub add_affiliated_persons : RolesView → Tree → Tree
-add_affiliated_persons persons x = with_fields (λ f. record f { affiliated = Some (affiliated_roles x ++ persons ∷ []) }) x
+add_affiliated_persons persons x = with_fields (λ f. record f { affiliated = Some (affiliated_lists x ++ persons ∷ []) }) x

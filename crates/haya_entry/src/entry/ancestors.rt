@@ -165,16 +165,16 @@ impl Entry {
         }
     }
 
-    /// The date of the entry, or else of its first ancestor that has one: the parents are looked at in order, then all
-    /// parents of these, and so on. `None` where none has a date.
+    /// The date of the entry, or else of its first ancestor that has one: the parents are looked at
+    /// in order, then all parents of these, and so on. `None` where none has a date.
     pub fn date_any(&self) -> Option<&Date>
         ensures { option_map (λ d. d.now) result ≡ first_value (λ t. (fields t).date) (view self.now) }
     {
         self.map(|entry| entry.date())
     }
 
-    /// The address of the entry, or else of its first ancestor that has one, in the same order. `None` where none has
-    /// an address.
+    /// The address of the entry, or else of its first ancestor that has one, in the same order.
+    /// `None` where none has an address.
     pub fn url_any(&self) -> Option<&QualifiedUrl>
         ensures { option_map (λ u. url_view u.now) result
             ≡ first_value (λ t. (fields t).url) (view self.now) }

@@ -1,6 +1,6 @@
-//! Look-ups of other works from an entry: what contains it, what it is a part of, who had a part in it.
+//! Look-ups from an entry: of works above it, and of persons who had a part in it.
 ghost use Rattle.std.specs.Prelude.{◌≡◌, ◌∷◌, [], IfOk, IfErr, OnOk, Some, map};
-ghost use Rattle.haya_entry.specs.Lookups.{IsAt, add_affiliated_persons, add_parent, affiliated_with_role, collections, containers, entries_of_type, first, full_path, is_full, is_of_type, parents_passing, persons_of_role, persons_with_role};
+ghost use Rattle.haya_entry.specs.Lookups.{IsAt, add_affiliated_persons, add_parent, affiliated_with_role, collections, containers, entries_of_type, first, full_path, is_full, is_of_type, pair_view, parents_passing, persons_of_role};
 ghost use Rattle.haya_entry.specs.ParentTypes.{container_types, is_collected};
 ghost use Rattle.haya_entry.specs.Tree.{view};
 ghost use Rattle.haya_people.specs.Person.{person_view};
@@ -83,9 +83,9 @@ fn persons_of_role<'a>(
 }
 
 impl Entry {
-    /// The work that the entry stands in, a book for a chapter: the types of such works are tried in order, the most
-    /// fitting first, and the answer is the first parent of the first type that some parent has. `None` where there
-    /// is none.
+    /// The work that the entry stands in, a book for a chapter: the types of such works are tried
+    /// in order, the most fitting first, and the answer is the first parent of the first type that
+    /// some parent has. `None` where there is none.
     ///
     /// | Type of the entry | Types of its container |
     /// |---|---|
@@ -116,10 +116,10 @@ impl Entry {
         self.parents.iter().find(|parent| parent.entry_type == kind)
     }
 
-    /// The work that collects works as this one: an anthology, or for an issue of a newspaper the newspaper. For the
-    /// types Anthology, Newspaper, Performance, Periodical, Proceedings, Book, Reference and Exhibition it is the first
-    /// parent of the same type or of the type Anthology; for any other it is what the first parent that has one has.
-    /// `None` where there is none.
+    /// The work that collects this one with others, as an anthology does. For the types Anthology,
+    /// Newspaper, Performance, Periodical, Proceedings, Book, Reference and Exhibition it is the
+    /// first parent of the same type or of the type Anthology; for any other type it is the
+    /// collection of the first parent that has one. `None` where there is none.
     pub fn get_collection(&self) -> Option<&Entry>
         ensures { IsAt (view self.now) (first (collections (view self.now))) result }
     {
@@ -136,8 +136,9 @@ impl Entry {
         None
     }
 
-    /// The work that a part without a title of its own belongs to: while the entry is a Chapter or a Scene that has no
-    /// title and has a parent, its first parent stands for it. Any other entry stands for itself.
+    /// The work that a part without a title of its own belongs to: while the entry is a Chapter or
+    /// a Scene that has no title and has a parent, its first parent stands for it. Any other entry
+    /// stands for itself.
     pub fn get_full(&self) -> &Entry
         ensures { IsAt (view self.now) (full_path (view self.now)) (Some result) }
     {
@@ -159,8 +160,8 @@ impl Entry {
         !(is_part && self.title.is_none())
     }
 
-    /// The entry itself if it has this type, or else the first that is found above it, depth first: each parent and
-    /// all that is above it are asked before the next parent. `None` where there is none.
+    /// The entry itself if it has this type, or else the first above it that has, depth first: a
+    /// parent and all that is above it come before the next parent. `None` where there is none.
     pub fn dfs_parent(&self, kind: EntryType) -> Option<&Entry>
         ensures { IsAt (view self.now) (first (entries_of_type kind (view self.now))) result }
     {
@@ -196,8 +197,8 @@ impl Entry {
         persons_of_role(alloc, lists, &role)
     }
 
-    /// Puts a work behind the parents that are there. When out of memory the work is handed back, and nothing has
-    /// changed.
+    /// Puts a work behind the parents that are there. When out of memory the work is handed back,
+    /// and nothing has changed.
     pub fn add_parent(&mut self, parent: Entry) -> Result<(), Entry>
         ensures ok { OnOk result (view self.new ≡ add_parent (view parent) (view self.old)) }
         ensures same { IfErr result (λ _. view self.new ≡ view self.old) }
@@ -209,16 +210,16 @@ impl Entry {
         }
     }
 
-    /// Puts persons with their role behind the affiliated persons that are there. When out of memory the persons and
-    /// the role are handed back, and nothing has changed.
+    /// Puts persons with their role behind the affiliated persons that are there. When out of
+    /// memory the persons and the role are handed back, and nothing has changed.
     pub fn add_affiliated_persons(
         &mut self,
         persons: (Vec<Person>, PersonRole),
     ) -> Result<(), (Vec<Person>, PersonRole)>
         ensures ok { OnOk result (view self.new
-            ≡ add_affiliated_persons (persons_with_role persons) (view self.old)) }
+            ≡ add_affiliated_persons (pair_view persons) (view self.old)) }
         ensures same { IfErr result (λ _. view self.new ≡ view self.old) }
-        ensures back { IfErr result (λ back. persons_with_role back ≡ persons_with_role persons) }
+        ensures back { IfErr result (λ back. pair_view back ≡ pair_view persons) }
     {
         let (names, role) = persons;
         let item = PersonsWithRoles::new(names, role);

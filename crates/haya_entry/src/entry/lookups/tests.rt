@@ -260,7 +260,8 @@ fn finds_collections_among_the_parents(rt: HostRuntime) {
     }
 }
 
-// An article whose first parent, a web page, stands in another one, and whose second, a book, in two series.
+// An article whose first parent, a web page, stands in another one, and whose second, a book, in
+// two series.
 fn article(rt: &(impl Abort + AllocGlobal)) -> Entry {
     let page = entry(rt, "page", EntryType::Web, parents(rt, &[EntryType::Web]));
     let series = &[EntryType::Report, EntryType::Book, EntryType::Anthology];
