@@ -1,5 +1,5 @@
 -- The first value over entries that are asked in turn.
-use Rattle.std.proofs.Common.{◌≡◌, ℕ, List, Option, None, Some, refl, sym, ◌∙◌}
+use Rattle.std.proofs.Common.{◌≡◌, ℕ, List, Option, refl}
 use Rattle.std.specs.Prelude.{option_and_then, option_map}
 use Rattle.std.specs.List.{filter_map}
 use Rattle.haya_entry.specs.Levels.{Asks, all_asked, answered, passed}

@@ -1,8 +1,7 @@
 -- Levels from the parents on, and what is asked there.
-use Rattle.std.proofs.Common.{◌≡◌, ◌≢◌, ℕ, zero, suc, ◌+◌, ◌-◌, ◌*◌, ◌<◌, ◌≤◌, Bool, true, false, List, [], ◌∷◌, ◌++◌, length, map, drop, drop-cons, get_or, Option, None, Some, refl, sym, ap, ◌∙◌, subst, append_assoc, append-nil, add_assoc, zero-add, max, ltb, ltb-true, ltb-false, arith}
+use Rattle.std.proofs.Common.{◌≡◌, ◌≢◌, ℕ, zero, suc, ◌+◌, ◌-◌, ◌*◌, ◌<◌, ◌≤◌, Bool, true, false, List, [], ◌∷◌, ◌++◌, length, map, drop, drop-cons, Option, None, Some, refl, sym, ap, ◌∙◌, append-nil, add_assoc, zero-add, ltb, ltb-true, ltb-false, arith}
 use Rattle.std.specs.Prelude.{flat_map, slice_get, sum_by}
 use Rattle.std.specs.List.{range_with_len}
-use Rattle.std.specs.Option.{option_map_or}
 use Rattle.std.proofs.Math.ListN.{drop_of_length-le}
 use Rattle.std.proofs.Math.Nat.{le-max_left, le-max_right, suc-mul}
 use Rattle.std.proofs.lemmas.Grind.{flat_map-append}
@@ -13,7 +12,7 @@ use Rattle.std.specs.Borrow.{Bor}
 use Rattle.std.specs.Bool.{MatchBool}
 use Rattle.haya_entry.specs.Levels.{Asks, AsksAllWithin, all_asked, answered, passed, ancestors, height, heights, level, levels_from, parent_places}
 use Rattle.haya_entry.specs.declared.entry.Entry.{Entry}
-use Rattle.haya_entry.specs.Tree.{Tree, Trees, node, no_trees, one_more, at, parents, tree_list, size, sizes, view}
+use Rattle.haya_entry.specs.Tree.{Tree, Trees, node, no_trees, one_more, parents, tree_list, size, sizes, view}
 use Rattle.haya_entry.specs.declared.entry.ancestors.Depth.{Depth}
 use Rattle.haya_entry.specs.declared.entry.ancestors.Depth.TheOpen as open'
 use Rattle.haya_entry.specs.declared.entry.ancestors.Depth.TheVariants as depth

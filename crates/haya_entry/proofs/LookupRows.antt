@@ -1,12 +1,12 @@
 -- Worked rows of the look-ups.
-use Rattle.std.proofs.Common.{◌≡◌, false, ℕ, List, [], ◌∷◌, Option, None, Some, refl}
+use Rattle.std.proofs.Common.{◌≡◌, false, ℕ, List, [], ◌∷◌, None, Some, refl}
 use Rattle.std.specs.Prelude.{codes}
 use Rattle.haya_entry.specs.declared.types.EntryType.{EntryType}
 use Rattle.haya_entry.specs.declared.types.EntryType.TheVariants.{Anthology, Article, Audio, Blog, Book, Chapter, Post, Report, Scene, Video, Web}
 use Rattle.haya_entry.specs.Lookups.{add_affiliated_persons, affiliated_with_role, collections, containers, depth_first_paths, entries_of_type, first_value, full_path}
 use Rattle.haya_entry.specs.Tree.{Tree, fields, new_entry, with_fields, with_parents}
 use Rattle.haya_people.specs.Person.{PersonView}
-use Rattle.haya_people.specs.Roles.{RolesView, role_named, role_in_words}
+use Rattle.haya_people.specs.Roles.{role_named, role_in_words}
 
 -- a work of a type with these parents
 abbrev work : EntryType → List Tree → Tree

@@ -1,7 +1,6 @@
 -- Persons by their role.
 use Rattle.std.proofs.Common.{◌≡◌, ℕ, ◌+◌, ◌<◌, Bool, true, false, not, cond, List, [], ◌∷◌, ◌++◌, length, get_or, take, map, refl, sym, ap, ◌∙◌, append-nil}
-use Rattle.std.specs.Prelude.{filter, flat_map}
-use Rattle.std.specs.Str.{bytes_eq}
+use Rattle.std.specs.Prelude.{flat_map}
 use Rattle.std.specs.Cmp.Lexicographic.{bytes_decides}
 use Rattle.std.proofs.lemmas.Grind.{flat_map-append}
 use Rattle.std.proofs.lemmas.List.{map-append, take_more}
@@ -11,7 +10,7 @@ use Rattle.haya_people.proofs.RoleEqual.{roles-tell}
 use Rattle.std.specs.Borrow.{Bor}
 use Rattle.haya_people.specs.declared.person.Person.{Person}
 use Rattle.haya_entry.proofs.LevelLemmas.{map-map}
-use Rattle.haya_people.specs.Person.{PersonView, person_view}
+use Rattle.haya_people.specs.Person.{person_view}
 use Rattle.haya_people.specs.Roles.{RoleView, RolesView, role_view, role_named, role_in_words, roles_view}
 use Rattle.haya_people.specs.contracts.role.PersonRolePartialEq.TheImpl as role_eq
 use Rattle.haya_people.specs.declared.role.PersonRole.{PersonRole}

@@ -1,5 +1,5 @@
 -- The look-ups from an entry: for each, the paths to all that it may answer, in order.
-use Rattle.std.specs.Prelude.{◌≡◌, ℕ, suc, ◌+◌, ◌-◌, Bool, false, not, ◌&&◌, ◌||◌, if◌then◌else◌, List, [], ◌∷◌, ◌++◌, length, map, filter, flat_map, Option, None, Some, is_none, option_and_then, option_map, slice_get, unwrap_or, Vec}
+use Rattle.std.specs.Prelude.{◌≡◌, ℕ, suc, ◌-◌, Bool, false, not, ◌&&◌, ◌||◌, if◌then◌else◌, List, [], ◌∷◌, ◌++◌, length, map, filter, flat_map, Option, Some, is_none, option_and_then, option_map, slice_get, unwrap_or, Vec}
 use Rattle.std.specs.Borrow.{Bor}
 use Rattle.std.specs.Global.{Global}
 use Rattle.std.specs.List.{filter_map}
@@ -12,7 +12,7 @@ use Rattle.haya_entry.specs.declared.types.EntryType.TheVariants.{Anthology}
 use Rattle.haya_entry.specs.declared.entry.Entry.{Entry}
 use Rattle.haya_entry.specs.Levels.{ancestors}
 use Rattle.haya_entry.specs.ParentTypes.{container_types, is_collected, is_part}
-use Rattle.haya_entry.specs.Tree.{Tree, Trees, node, no_trees, one_more, at, fields, parents, tree_list, view, with_fields, with_parents}
+use Rattle.haya_entry.specs.Tree.{Tree, Trees, node, no_trees, one_more, at, fields, parents, view, with_fields, with_parents}
 use Rattle.haya_people.specs.declared.person.Person.{Person}
 use Rattle.haya_people.specs.declared.role.PersonRole.{PersonRole}
 use Rattle.haya_people.specs.Person.{PersonView, person_view}

@@ -1,7 +1,7 @@
 -- The types of works that an entry stands in, by its own type.
 use Rattle.std.specs.Prelude.{Bool, true, false, List, [], ◌∷◌}
 use Rattle.haya_entry.specs.declared.types.EntryType.{EntryType}
-use Rattle.haya_entry.specs.declared.types.EntryType.TheVariants.{Article, Chapter, Entry, Anthos, Report, Thesis, Web, Scene, Artwork, Patent, Case, Newspaper, Legislation, Manuscript, Post, Misc, Performance, Periodical, Proceedings, Book, Blog, Reference, Conference, Anthology, Repository, Thread, Video, Audio, Exhibition, Original}
+use Rattle.haya_entry.specs.declared.types.EntryType.TheVariants.{Article, Chapter, Entry, Anthos, Report, Web, Scene, Artwork, Case, Newspaper, Legislation, Post, Misc, Performance, Periodical, Proceedings, Book, Blog, Reference, Conference, Anthology, Thread, Video, Audio, Exhibition}
 
 -- the type of a parent where nothing else is known of it
 abbrev pub default_parent : EntryType → EntryType
