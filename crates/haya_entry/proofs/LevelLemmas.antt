@@ -1,8 +1,7 @@
 -- Levels from the parents on, and what is asked there.
-use Rattle.std.proofs.Common.{◌≡◌, ◌≢◌, ℕ, zero, suc, ◌+◌, ◌-◌, ◌*◌, ◌<◌, ◌≤◌, Bool, true, false, List, [], ◌∷◌, ◌++◌, length, map, drop, drop-cons, get_or, Option, None, Some, refl, sym, ap, ◌∙◌, subst, append_assoc, append-nil, add_assoc, zero-add, max, ltb, ltb-true, ltb-false, arith}
+use Rattle.std.proofs.Common.{◌≡◌, ◌≢◌, ℕ, zero, suc, ◌+◌, ◌-◌, ◌*◌, ◌<◌, ◌≤◌, Bool, true, false, List, [], ◌∷◌, ◌++◌, length, map, drop, drop-cons, Option, None, Some, refl, sym, ap, ◌∙◌, append-nil, add_assoc, zero-add, ltb, ltb-true, ltb-false, arith}
 use Rattle.std.specs.Prelude.{flat_map, slice_get, sum_by}
 use Rattle.std.specs.List.{range_with_len}
-use Rattle.std.specs.Option.{option_map_or}
 use Rattle.std.proofs.Math.ListN.{drop_of_length-le}
 use Rattle.std.proofs.Math.Nat.{le-max_left, le-max_right, suc-mul}
 use Rattle.std.proofs.lemmas.Grind.{flat_map-append}
@@ -13,7 +12,7 @@ use Rattle.std.specs.Borrow.{Bor}
 use Rattle.std.specs.Bool.{MatchBool}
 use Rattle.haya_entry.specs.Levels.{Asks, AsksAllWithin, all_asked, answered, passed, ancestors, height, heights, level, levels_from, parent_places}
 use Rattle.haya_entry.specs.declared.entry.Entry.{Entry}
-use Rattle.haya_entry.specs.Tree.{Tree, Trees, node, no_trees, one_more, at, parents, tree_list, size, sizes, view}
+use Rattle.haya_entry.specs.Tree.{Tree, Trees, node, no_trees, one_more, parents, tree_list, size, sizes, view}
 use Rattle.haya_entry.specs.declared.entry.ancestors.Depth.{Depth}
 use Rattle.haya_entry.specs.declared.entry.ancestors.Depth.TheOpen as open'
 use Rattle.haya_entry.specs.declared.entry.ancestors.Depth.TheVariants as depth
@@ -26,11 +25,11 @@ abbrev pub fronts : ℕ → ℕ → List Tree → List (List ℕ)
 fronts d i [] = []
 fronts d i (t ∷ ts) = map (λ path. i ∷ path) (level t d) ++ fronts d (suc i) ts
 
-from_place : {X : Type 0} (xs : List X) (i : ℕ) (x : X) → slice_get xs i ≡ Some x → drop i xs ≡ x ∷ drop (suc i) xs
+pub from_place : {X : Type 0} (xs : List X) (i : ℕ) (x : X) → slice_get xs i ≡ Some x → drop i xs ≡ x ∷ drop (suc i) xs
 from_place xs i x e =
     drop-cons xs i x (slice_get_within xs i x e) ∙ ap (λ y. y ∷ drop (suc i) xs) (get_or_from_slice_get xs i x x e)
 
-places_from : {X : Type 0} (xs : List X) (i : ℕ) (x : X) (ys : List X) → drop i xs ≡ x ∷ ys → (slice_get xs i ≡ Some x) × (drop (suc i) xs ≡ ys)
+pub places_from : {X : Type 0} (xs : List X) (i : ℕ) (x : X) (ys : List X) → drop i xs ≡ x ∷ ys → (slice_get xs i ≡ Some x) × (drop (suc i) xs ≡ ys)
 places_from [] zero x ys e = absurd (cc)
 places_from [] (suc i) x ys e = absurd (cc)
 places_from (y ∷ xs) zero x ys e = (cc, cc)
@@ -40,7 +39,7 @@ first_level : (i : ℕ) (ts : List Tree) → map (λ j. j ∷ []) (range_with_le
 first_level i [] = refl
 first_level i (t ∷ ts) = let e : i + 1 ≡ suc i = omega arith in rw e (ap (λ ps. (i ∷ []) ∷ ps) (first_level (suc i) ts))
 
-map-map : {A B C : Type 0} (f : B → C) (g : A → B) (xs : List A) → map f (map g xs) ≡ map (λ x. f (g x)) xs
+pub map-map : {A B C : Type 0} (f : B → C) (g : A → B) (xs : List A) → map f (map g xs) ≡ map (λ x. f (g x)) xs
 map-map f g [] = refl
 map-map f g (x ∷ xs) = ap (λ ys. f (g x) ∷ ys) (map-map f g xs)
 

@@ -4,3 +4,7 @@ mod SerialLemmas
 pub mod LevelLemmas
 mod LevelsApart
 mod Rows
+mod LookupLemmas
+mod RoleLemmas
+mod FirstValues
+mod LookupRows

@@ -5,3 +5,5 @@ pub mod Names
 pub mod Levels
 pub mod Walks
 pub use Rattle.haya_text.specs.Texts
+pub mod ParentTypes
+pub mod Lookups

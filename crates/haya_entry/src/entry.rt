@@ -6,6 +6,7 @@ ghost use Rattle.haya_entry.specs.Tree.{view, fields, parents, with_parents, new
 mod ancestors;
 mod copies;
 mod fields;
+mod lookups;
 mod serials;
 
 use crate::{EntryType, SerialNumber};

@@ -2,6 +2,7 @@
 ghost use Rattle.std.specs.Prelude.{◌≡◌, IfOk, find};
 ghost use Rattle.std.specs.Result.{result_ok};
 ghost use Rattle.haya_entry.specs.SerialNumber.{Serials, serial_view};
+ghost use Rattle.haya_entry.specs.ParentTypes.{default_parent};
 ghost use Rattle.haya_entry.specs.EntryType.{type_name, in_lower_case, is_named, type_read};
 
 use haya_text::{OutOfMemory, TryClone};
@@ -113,6 +114,36 @@ impl EntryType {
         EntryType::Exhibition,
         EntryType::Original,
     ];
+
+    /// The type that a parent has where nothing else is known of it: a Chapter stands in a Book.
+    ///
+    /// | Type | Type of its parent |
+    /// |---|---|
+    /// | Article | Periodical |
+    /// | Chapter | Book |
+    /// | Entry | Reference |
+    /// | Anthos, Legislation | Anthology |
+    /// | Scene | Video |
+    /// | Artwork | Exhibition |
+    /// | Web, Post, Video, Audio | the same |
+    /// | any other | Misc |
+    pub fn default_parent(&self) -> EntryType
+        ensures { result ≡ default_parent self.now }
+    {
+        match self {
+            EntryType::Article => EntryType::Periodical,
+            EntryType::Chapter => EntryType::Book,
+            EntryType::Entry => EntryType::Reference,
+            EntryType::Anthos | EntryType::Legislation => EntryType::Anthology,
+            EntryType::Scene => EntryType::Video,
+            EntryType::Artwork => EntryType::Exhibition,
+            EntryType::Web => EntryType::Web,
+            EntryType::Post => EntryType::Post,
+            EntryType::Video => EntryType::Video,
+            EntryType::Audio => EntryType::Audio,
+            _ => EntryType::Misc,
+        }
+    }
 
     // The name as it is written here, and the same in lower case.
     fn names(self) -> (&'static str, &'static str)

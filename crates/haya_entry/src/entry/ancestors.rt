@@ -1,10 +1,14 @@
 //! Searches over the ancestors of an entry, level by level.
-ghost use Rattle.std.specs.Prelude.{◌≡◌, ℕ, suc, ◌+◌, ◌-◌, ◌*◌, ◌<◌, ◌≤◌, List, [], ◌∷◌, Some, length, slice_get};
-ghost use Rattle.haya_entry.specs.Tree.{Tree, parents, size, view};
+ghost use Rattle.std.specs.Prelude.{◌≡◌, ℕ, suc, ◌+◌, ◌-◌, ◌*◌, ◌<◌, ◌≤◌, List, [], ◌∷◌, Some, length, option_map, slice_get};
+ghost use Rattle.haya_entry.specs.Tree.{Tree, fields, parents, size, view};
 ghost use Rattle.haya_entry.specs.Levels.{AsksAll, AsksAllWithin, ancestors, height, level, levels_from};
+ghost use Rattle.haya_entry.specs.Lookups.{first_value};
 ghost use Rattle.haya_entry.specs.Walks.{AsksWithin, IsReached, answer_of, further};
+ghost use Rattle.haya_values.specs.Url.{url_view};
 
 use crate::{Entry, Steps};
+use haya_time::Date;
+use haya_values::QualifiedUrl;
 
 // What a walk goes over: an entry behind a reference.
 trait Node: Copy {
@@ -159,6 +163,23 @@ impl Entry {
             Some(answer) => Some(answer),
             None => self.map_parents(f),
         }
+    }
+
+    /// The date of the entry, or else of its first ancestor that has one: the parents are looked at
+    /// in order, then all parents of these, and so on. `None` where none has a date.
+    pub fn date_any(&self) -> Option<&Date>
+        ensures { option_map (λ d. d.now) result ≡ first_value (λ t. (fields t).date) (view self.now) }
+    {
+        self.map(|entry| entry.date())
+    }
+
+    /// The address of the entry, or else of its first ancestor that has one, in the same order.
+    /// `None` where none has an address.
+    pub fn url_any(&self) -> Option<&QualifiedUrl>
+        ensures { option_map (λ u. url_view u.now) result
+            ≡ first_value (λ t. (fields t).url) (view self.now) }
+    {
+        self.map(|entry| entry.url())
     }
 }
 

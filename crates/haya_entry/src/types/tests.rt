@@ -63,3 +63,43 @@ fn refuses_all_other_texts(rt: HostRuntime) {
     let shown = format!(in rt.alloc(); "{UnknownType}").expect(&rt, "memory");
     assert_eq!(rt; shown.as_str(), "unknown type");
 }
+
+const DEFAULT_PARENTS: &[(EntryType, EntryType)] = &[
+    (EntryType::Article, EntryType::Periodical),
+    (EntryType::Chapter, EntryType::Book),
+    (EntryType::Entry, EntryType::Reference),
+    (EntryType::Anthos, EntryType::Anthology),
+    (EntryType::Report, EntryType::Misc),
+    (EntryType::Thesis, EntryType::Misc),
+    (EntryType::Web, EntryType::Web),
+    (EntryType::Scene, EntryType::Video),
+    (EntryType::Artwork, EntryType::Exhibition),
+    (EntryType::Patent, EntryType::Misc),
+    (EntryType::Case, EntryType::Misc),
+    (EntryType::Newspaper, EntryType::Misc),
+    (EntryType::Legislation, EntryType::Anthology),
+    (EntryType::Manuscript, EntryType::Misc),
+    (EntryType::Post, EntryType::Post),
+    (EntryType::Misc, EntryType::Misc),
+    (EntryType::Performance, EntryType::Misc),
+    (EntryType::Periodical, EntryType::Misc),
+    (EntryType::Proceedings, EntryType::Misc),
+    (EntryType::Book, EntryType::Misc),
+    (EntryType::Blog, EntryType::Misc),
+    (EntryType::Reference, EntryType::Misc),
+    (EntryType::Conference, EntryType::Misc),
+    (EntryType::Anthology, EntryType::Misc),
+    (EntryType::Repository, EntryType::Misc),
+    (EntryType::Thread, EntryType::Misc),
+    (EntryType::Video, EntryType::Video),
+    (EntryType::Audio, EntryType::Audio),
+    (EntryType::Exhibition, EntryType::Misc),
+    (EntryType::Original, EntryType::Misc),
+];
+
+#[test]
+fn has_a_default_type_of_parents(rt: HostRuntime) {
+    for (entry_type, parent) in DEFAULT_PARENTS {
+        assert!(rt; entry_type.default_parent() == *parent, "{entry_type:?}");
+    }
+}

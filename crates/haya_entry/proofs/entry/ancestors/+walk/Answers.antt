@@ -1,4 +1,4 @@
-use Rattle.std.proofs.Common.{rules, of_calls, ◌≡◌, ◌+◌, Some, None, arith, sym}
+use Rattle.std.proofs.Common.{rules, of_calls, arith}
 use Rattle.haya_entry.proofs.LevelLemmas.{Asks-itself, further-one, further-next, size-parents, level-first, under_way_first, under_way_answered, under_way_most, under_way_nobody, under_way_asked, under_way_asks, under_way_reached, under_way_end}
 use Rattle.haya_entry.proofs.entry.ancestors.+walk.Goals.{walk-in-Nobody, walk-in-Asked}
 use Rattle.haya_entry.proofs.entry.ancestors.+walk.Goals as goal

@@ -1,4 +1,4 @@
-use Rattle.std.proofs.Common.{rules, of_calls, ◌≡◌, ◌+◌, suc, length, arith}
+use Rattle.std.proofs.Common.{rules, of_calls, ◌+◌, suc, length, arith}
 use Rattle.haya_entry.specs.Levels.{ancestors, height, levels_from}
 use Rattle.haya_entry.specs.Walks.{further}
 use Rattle.haya_entry.proofs.LevelLemmas.{size-ancestors, reached_within, levels_from-nobody, levels_from-some, Asks-answered, Asks-then, Asks-some, further-next, walks-more}
