@@ -145,6 +145,11 @@ const HITS: &[Row] = &[
         b"0\ta\tbook\tisbn=1\tissn=2\tpmid=3\tpmcid=4\tarxiv=5\n",
         "a\n",
     ),
+    (
+        "*[affiliated]",
+        b"0\tx\tbook\taffiliated=translator:Kwan, Kevin",
+        "x\n",
+    ),
 ];
 
 #[test]
@@ -189,12 +194,29 @@ const FAULTS: &[Row] = &[
     ("*", b"0\ta\t", "line 1: type\n"),
     ("*", b"0\ta\tbook\r", "line 1: type\n"),
     ("*", b"0\ta\tbook\r\r\n", "line 1: type\n"),
-    ("*", b"0\tx\tbook\ttitle=a", "line 1: field\n"),
-    ("*", b"0\tx\tbook\ttitle=a\tlanguage", "line 1: field\n"),
+    ("*", b"0\tx\tbook\tTitle=a", "line 1: field\n"),
+    ("*", b"0\tx\tbook\tkey=a}b\tlanguage", "line 1: field\n"),
     ("*", b"0\tx\tbook\t language=a", "line 1: field\n"),
     ("*", b"0\tx\tbook\tlanguage =a", "line 1: field\n"),
     ("*", b"0\tx\tbook\tserial=a", "line 1: field\n"),
     ("*", b"0\tx\tbook\t=a", "line 1: field\n"),
+    ("*", b"0\tx\tbook\ttitle=a\tlanguage", "line 1: shape\n"),
+    ("*", b"0\tx\tbook\ttitle=a}b", "line 1: value\n"),
+    ("*", b"0\tx\tbook\ttitle=a}b\tlanguage", "line 1: value\n"),
+    ("*", b"0\tx\tbook\tauthor=a,b,c,d", "line 1: value\n"),
+    ("*", b"0\tx\tbook\tdate=2014-02-29", "line 1: value\n"),
+    ("*", b"0\tx\tbook\tvolume-total=second", "line 1: value\n"),
+    ("*", b"0\tx\tbook\taffiliated=Kwan", "line 1: shape\n"),
+    (
+        "*",
+        b"0\tx\tbook\taffiliated=editor:Kwan",
+        "line 1: value\n",
+    ),
+    (
+        "*",
+        b"0\tx\tbook\taffiliated=holder:a,b,c,d",
+        "line 1: value\n",
+    ),
     ("*", b"1\tx\tbook\n\xFF", "not text\n"),
 ];
 
