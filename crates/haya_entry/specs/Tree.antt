@@ -1,10 +1,16 @@
 -- An entry by value: a tree of plain data.
 use Rattle.std.specs.Prelude.{◌≡◌, ℕ, ◌+◌, List, [], ◌∷◌, map, Option, None, Some, option_and_then, option_map, slice_get, string_bytes}
 use Rattle.haya_numbers.specs.Numeric.{NumericView, numeric_view}
+use Rattle.haya_numbers.specs.Pages.{PartView, parts}
 use Rattle.haya_people.specs.Person.{PersonView, person_view}
 use Rattle.haya_people.specs.Roles.{RolesView, roles_view}
 use Rattle.haya_text.specs.Texts.{TextView, text_view}
 use Rattle.haya_time.specs.declared.date.Date.{Date}
+use Rattle.haya_time.specs.declared.duration.Duration.{Duration}
+use Rattle.haya_time.specs.declared.duration.range.DurationRange.{DurationRange}
+use Rattle.haya_values.specs.MaybeTyped.{TypedOrText, maybe_typed_view}
+use Rattle.haya_values.specs.Publisher.{PublisherView, publisher_view}
+use Rattle.haya_values.specs.Url.{UrlView, url_view}
 use Rattle.haya_entry.specs.declared.entry.Entry.{Entry}
 use Rattle.haya_entry.specs.declared.entry.Entry.TheOpen.{Entry-F}
 use Rattle.haya_entry.specs.declared.entry.Entry.TheFolds.{fold-Entry}
@@ -12,6 +18,9 @@ use Rattle.haya_entry.specs.declared.types.EntryType.{EntryType}
 use Rattle.haya_entry.specs.SerialNumber.{Serials, serial_view, serial_text, with_serial}
 
 -- all of an entry but its parents
+-- A field that is added stands here by its name and the type of its value, and below in `fields_of` and
+-- `no_fields`; as a name in `name_table`; with its test in the proof that `==` tells values apart; and in
+-- the code in the struct, `new`, `has`, its getter and setter, and the copy.
 pub record Fields : Type 0 where
   pub key : List ℕ
   pub entry_type : EntryType
@@ -28,10 +37,19 @@ pub record Fields : Type 0 where
   pub editors : Option (List PersonView)
   pub affiliated : Option (List RolesView)
   pub date : Option Date
+  pub publisher : Option PublisherView
+  pub url : Option UrlView
+  pub issue : Option (TypedOrText NumericView)
+  pub chapter : Option (TypedOrText NumericView)
+  pub volume : Option (TypedOrText NumericView)
+  pub edition : Option (TypedOrText NumericView)
   pub volume_total : Option NumericView
   pub page_total : Option NumericView
-  pub language : Option (List ℕ)
+  pub page_range : Option (TypedOrText (List PartView))
+  pub time_range : Option (TypedOrText DurationRange)
+  pub runtime : Option (TypedOrText Duration)
   pub serial_number : Option Serials
+  pub language : Option (List ℕ)
 
 mutual
   -- fields, and parents in order
@@ -95,10 +113,19 @@ fields_of e = record {
   editors = option_map (λ v. map person_view v.items) e.editors;
   affiliated = option_map (λ v. map roles_view v.items) e.affiliated;
   date = e.date;
+  publisher = option_map publisher_view e.publisher;
+  url = option_map url_view e.url;
+  issue = option_map (maybe_typed_view numeric_view) e.issue;
+  chapter = option_map (maybe_typed_view numeric_view) e.chapter;
+  volume = option_map (maybe_typed_view numeric_view) e.volume;
+  edition = option_map (maybe_typed_view numeric_view) e.edition;
   volume_total = option_map numeric_view e.volume_total;
   page_total = option_map numeric_view e.page_total;
-  language = option_map string_bytes e.language;
+  page_range = option_map (maybe_typed_view parts) e.page_range;
+  time_range = option_map (maybe_typed_view (λ range. range)) e.time_range;
+  runtime = option_map (maybe_typed_view (λ duration. duration)) e.runtime;
   serial_number = option_map serial_view e.serial_number;
+  language = option_map string_bytes e.language;
 }
 
 -- the value of an entry whose parents have these values
@@ -155,39 +182,29 @@ no_fields key kind = record {
   editors = None;
   affiliated = None;
   date = None;
+  publisher = None;
+  url = None;
+  issue = None;
+  chapter = None;
+  volume = None;
+  edition = None;
   volume_total = None;
   page_total = None;
-  language = None;
+  page_range = None;
+  time_range = None;
+  runtime = None;
   serial_number = None;
+  language = None;
 }
 
 -- an entry with a key and a type alone
 abbrev pub new_entry : List ℕ → EntryType → Tree
 new_entry key kind = node (no_fields key kind) no_trees
 
--- these fields with the texts of others
-abbrev pub with_texts_of : Fields → Fields → Fields
-with_texts_of from f = record f {
-  title = from.title;
-  location = from.location;
-  organization = from.organization;
-  archive = from.archive;
-  archive_location = from.archive_location;
-  call_number = from.call_number;
-  note = from.note;
-  abstract_ = from.abstract_;
-  genre = from.genre;
-}
+-- these fields with the people of others
+abbrev pub with_people_of : Fields → Fields → Fields
+with_people_of from f = record f { authors = from.authors; editors = from.editors; affiliated = from.affiliated }
 
--- these fields with the others of another entry
+-- these fields with all that others have but their key, type and people
 abbrev pub with_rest_of : Fields → Fields → Fields
-with_rest_of from f = record f {
-  authors = from.authors;
-  editors = from.editors;
-  affiliated = from.affiliated;
-  date = from.date;
-  volume_total = from.volume_total;
-  page_total = from.page_total;
-  language = from.language;
-  serial_number = from.serial_number;
-}
+with_rest_of from f = record (with_people_of f from) { key = f.key; entry_type = f.entry_type }

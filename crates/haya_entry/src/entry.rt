@@ -9,10 +9,11 @@ mod fields;
 mod serials;
 
 use crate::{EntryType, SerialNumber};
-use haya_numbers::Numeric;
+use haya_numbers::{Numeric, PageRanges};
 use haya_people::{Person, PersonsWithRoles};
 use haya_text::{FormatString, OutOfMemory};
-use haya_time::Date;
+use haya_time::{Date, Duration, DurationRange};
+use haya_values::{MaybeTyped, Publisher, QualifiedUrl};
 use std::alloc::Global;
 
 /// A work of the literature: its key, its type, its fields, and the works that it stands in, its parents.
@@ -50,14 +51,32 @@ pub struct Entry {
     pub affiliated: Option<Vec<PersonsWithRoles>>,
     /// When the work came out, or was made.
     pub date: Option<Date>,
+    /// Who published the work.
+    pub publisher: Option<Publisher>,
+    /// Where the work is found on the web.
+    pub url: Option<QualifiedUrl>,
+    /// The issue of its parent that the work is in, or its place among the episodes.
+    pub issue: Option<MaybeTyped<Numeric>>,
+    /// The chapter of its parent that the work is, or is in.
+    pub chapter: Option<MaybeTyped<Numeric>>,
+    /// The volume of its parent that the work is, or is in.
+    pub volume: Option<MaybeTyped<Numeric>>,
+    /// Which edition of the work it is.
+    pub edition: Option<MaybeTyped<Numeric>>,
     /// Of how many volumes the work is.
     pub volume_total: Option<Numeric>,
     /// How many pages the work has.
     pub page_total: Option<Numeric>,
-    /// The language of the work.
-    pub language: Option<String>,
+    /// The pages of its parent that the work is on.
+    pub page_range: Option<MaybeTyped<PageRanges>>,
+    /// From when to when in its parent the work is heard or seen.
+    pub time_range: Option<MaybeTyped<DurationRange>>,
+    /// How long the work takes to be heard or seen.
+    pub runtime: Option<MaybeTyped<Duration>>,
     /// The numbers that catalogues know the work by.
     pub serial_number: Option<SerialNumber>,
+    /// The language of the work.
+    pub language: Option<String>,
 }
 
 impl Entry {
@@ -82,10 +101,19 @@ impl Entry {
             editors: None,
             affiliated: None,
             date: None,
+            publisher: None,
+            url: None,
+            issue: None,
+            chapter: None,
+            volume: None,
+            edition: None,
             volume_total: None,
             page_total: None,
-            language: None,
+            page_range: None,
+            time_range: None,
+            runtime: None,
             serial_number: None,
+            language: None,
         })
     }
 
@@ -119,9 +147,10 @@ impl Entry {
 
     /// Whether the entry has a name. It has the name of each field that is set: `title`, `location`,
     /// `organization`, `archive`, `archive-location`, `call-number`, `note`, `abstract`, `genre`, `author`,
-    /// `editor`, `affiliated`, `date`, `volume-total`, `page-total`, `language`, `serial-number`; and, of
-    /// `doi`, `isbn`, `issn`, `pmid`, `pmcid` and `arxiv`, those under which a serial number is kept. It has
-    /// no other name.
+    /// `editor`, `affiliated`, `date`, `publisher`, `url`, `issue`, `chapter`, `volume`, `edition`,
+    /// `volume-total`, `page-total`, `page-range`, `time-range`, `runtime`, `serial-number`, `language`;
+    /// and, of `doi`, `isbn`, `issn`, `pmid`, `pmcid` and `arxiv`, those under which a serial number is
+    /// kept. It has no other name.
     pub fn has(&self, name: &str) -> bool
         ensures { result ≡ has_name (view self.now) name.now }
     {
@@ -139,10 +168,19 @@ impl Entry {
             "editor" => self.editors.is_some(),
             "affiliated" => self.affiliated.is_some(),
             "date" => self.date.is_some(),
+            "publisher" => self.publisher.is_some(),
+            "url" => self.url.is_some(),
+            "issue" => self.issue.is_some(),
+            "chapter" => self.chapter.is_some(),
+            "volume" => self.volume.is_some(),
+            "edition" => self.edition.is_some(),
             "volume-total" => self.volume_total.is_some(),
             "page-total" => self.page_total.is_some(),
-            "language" => self.language.is_some(),
+            "page-range" => self.page_range.is_some(),
+            "time-range" => self.time_range.is_some(),
+            "runtime" => self.runtime.is_some(),
             "serial-number" => self.serial_number.is_some(),
+            "language" => self.language.is_some(),
             "doi" => self.doi().is_some(),
             "isbn" => self.isbn().is_some(),
             "issn" => self.issn().is_some(),

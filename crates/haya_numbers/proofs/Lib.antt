@@ -5,7 +5,7 @@ mod Digits
 mod Grammars
 mod Items
 mod Magnitudes
-mod PagesEqual
+pub mod PagesEqual
 mod PagesRows
 mod PartLemmas
 mod PieceLaws

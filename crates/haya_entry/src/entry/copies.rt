@@ -1,6 +1,6 @@
 //! Copies of entries.
 ghost use Rattle.std.specs.Prelude.{◌≡◌, [], IfOk, OnOk};
-ghost use Rattle.haya_entry.specs.Tree.{Sets, view, fields, with_parents, with_texts_of, with_rest_of};
+ghost use Rattle.haya_entry.specs.Tree.{Sets, view, fields, with_parents, with_people_of, with_rest_of};
 
 use crate::Entry;
 use haya_text::{OutOfMemory, TryClone};
@@ -24,24 +24,18 @@ impl Entry {
         ensures { IfOk result (λ copy. view copy ≡ with_parents [] (view self.now)) }
     {
         let mut copy = Entry::new(alloc, self.key(), self.entry_type())?;
-        copy.copy_texts(alloc, self)?;
+        copy.copy_people(alloc, self)?;
         copy.copy_rest(alloc, self)?;
         Ok(copy)
     }
 
-    // Takes the fields that are texts over from another entry.
-    fn copy_texts(&mut self, alloc: Global, from: &Entry) -> Result<(), OutOfMemory>
-        ensures { OnOk result (Sets self.old self.new (with_texts_of (fields (view from.now)))) }
+    // Takes the people over from another entry.
+    fn copy_people(&mut self, alloc: Global, from: &Entry) -> Result<(), OutOfMemory>
+        ensures { OnOk result (Sets self.old self.new (with_people_of (fields (view from.now)))) }
     {
-        self.title = from.title.try_clone(alloc)?;
-        self.location = from.location.try_clone(alloc)?;
-        self.organization = from.organization.try_clone(alloc)?;
-        self.archive = from.archive.try_clone(alloc)?;
-        self.archive_location = from.archive_location.try_clone(alloc)?;
-        self.call_number = from.call_number.try_clone(alloc)?;
-        self.note = from.note.try_clone(alloc)?;
-        self.abstract_ = from.abstract_.try_clone(alloc)?;
-        self.genre = from.genre.try_clone(alloc)?;
+        clone_from(alloc, &mut self.authors, &from.authors)?;
+        clone_from(alloc, &mut self.editors, &from.editors)?;
+        clone_from(alloc, &mut self.affiliated, &from.affiliated)?;
         Ok(())
     }
 
@@ -49,14 +43,37 @@ impl Entry {
     fn copy_rest(&mut self, alloc: Global, from: &Entry) -> Result<(), OutOfMemory>
         ensures { OnOk result (Sets self.old self.new (with_rest_of (fields (view from.now)))) }
     {
-        self.authors = from.authors.try_clone(alloc)?;
-        self.editors = from.editors.try_clone(alloc)?;
-        self.affiliated = from.affiliated.try_clone(alloc)?;
+        clone_from(alloc, &mut self.title, &from.title)?;
+        clone_from(alloc, &mut self.location, &from.location)?;
+        clone_from(alloc, &mut self.organization, &from.organization)?;
+        clone_from(alloc, &mut self.archive, &from.archive)?;
+        clone_from(alloc, &mut self.archive_location, &from.archive_location)?;
+        clone_from(alloc, &mut self.call_number, &from.call_number)?;
+        clone_from(alloc, &mut self.note, &from.note)?;
+        clone_from(alloc, &mut self.abstract_, &from.abstract_)?;
+        clone_from(alloc, &mut self.genre, &from.genre)?;
         self.date = from.date;
-        self.volume_total = from.volume_total.try_clone(alloc)?;
-        self.page_total = from.page_total.try_clone(alloc)?;
-        self.language = from.language.try_clone(alloc)?;
-        self.serial_number = from.serial_number.try_clone(alloc)?;
+        clone_from(alloc, &mut self.publisher, &from.publisher)?;
+        clone_from(alloc, &mut self.url, &from.url)?;
+        clone_from(alloc, &mut self.issue, &from.issue)?;
+        clone_from(alloc, &mut self.chapter, &from.chapter)?;
+        clone_from(alloc, &mut self.volume, &from.volume)?;
+        clone_from(alloc, &mut self.edition, &from.edition)?;
+        clone_from(alloc, &mut self.volume_total, &from.volume_total)?;
+        clone_from(alloc, &mut self.page_total, &from.page_total)?;
+        clone_from(alloc, &mut self.page_range, &from.page_range)?;
+        clone_from(alloc, &mut self.time_range, &from.time_range)?;
+        clone_from(alloc, &mut self.runtime, &from.runtime)?;
+        clone_from(alloc, &mut self.serial_number, &from.serial_number)?;
+        clone_from(alloc, &mut self.language, &from.language)?;
         Ok(())
     }
+}
+
+// Makes a value a copy of another one.
+fn clone_from<T: TryClone + Drop>(alloc: Global, to: &mut T, from: &T) -> Result<(), OutOfMemory>
+    ensures { OnOk result (T.view to.new ≡ T.view from.now) }
+{
+    *to = from.try_clone(alloc)?;
+    Ok(())
 }

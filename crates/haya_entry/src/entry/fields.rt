@@ -2,16 +2,21 @@
 ghost use Rattle.std.specs.Prelude.{◌≡◌, Some, map, option_map, string_bytes};
 ghost use Rattle.haya_entry.specs.SerialNumber.{serial_view};
 ghost use Rattle.haya_numbers.specs.Numeric.{numeric_view};
+ghost use Rattle.haya_numbers.specs.Pages.{parts};
 ghost use Rattle.haya_people.specs.Person.{person_view};
 ghost use Rattle.haya_people.specs.Roles.{roles_view};
 ghost use Rattle.haya_text.specs.Texts.{text_view};
+ghost use Rattle.haya_values.specs.MaybeTyped.{maybe_typed_view};
+ghost use Rattle.haya_values.specs.Publisher.{publisher_view};
+ghost use Rattle.haya_values.specs.Url.{url_view};
 ghost use Rattle.haya_entry.specs.Tree.{Sets, view, fields};
 
 use crate::{Entry, SerialNumber};
-use haya_numbers::Numeric;
+use haya_numbers::{Numeric, PageRanges};
 use haya_people::{Person, PersonsWithRoles};
 use haya_text::FormatString;
-use haya_time::Date;
+use haya_time::{Date, Duration, DurationRange};
+use haya_values::{MaybeTyped, Publisher, QualifiedUrl};
 
 impl Entry {
     /// The title.
@@ -207,6 +212,101 @@ impl Entry {
         self.date = Some(date);
     }
 
+    /// Who published the work.
+    pub fn publisher(&self) -> Option<&Publisher>
+        ensures { option_map (λ v. publisher_view v.now) result
+            ≡ (fields (view self.now)).publisher }
+    {
+        self.publisher.as_ref()
+    }
+
+    /// Sets the publisher. Nothing else changes.
+    pub fn set_publisher(&mut self, publisher: Publisher)
+        ensures { Sets self.old self.new
+            (λ f. record f { publisher = Some (publisher_view publisher) }) }
+    {
+        self.publisher = Some(publisher);
+    }
+
+    /// Where the work is found on the web.
+    pub fn url(&self) -> Option<&QualifiedUrl>
+        ensures { option_map (λ v. url_view v.now) result ≡ (fields (view self.now)).url }
+    {
+        self.url.as_ref()
+    }
+
+    /// Sets the address. Nothing else changes.
+    pub fn set_url(&mut self, url: QualifiedUrl)
+        ensures { Sets self.old self.new
+            (λ f. record f { url = Some (url_view url) }) }
+    {
+        self.url = Some(url);
+    }
+
+    /// The issue of its parent that the work is in, or its place among the episodes.
+    pub fn issue(&self) -> Option<&MaybeTyped<Numeric>>
+        ensures { option_map (λ v. maybe_typed_view numeric_view v.now) result
+            ≡ (fields (view self.now)).issue }
+    {
+        self.issue.as_ref()
+    }
+
+    /// Sets the issue. Nothing else changes.
+    pub fn set_issue(&mut self, issue: MaybeTyped<Numeric>)
+        ensures { Sets self.old self.new
+            (λ f. record f { issue = Some (maybe_typed_view numeric_view issue) }) }
+    {
+        self.issue = Some(issue);
+    }
+
+    /// The chapter of its parent that the work is, or is in.
+    pub fn chapter(&self) -> Option<&MaybeTyped<Numeric>>
+        ensures { option_map (λ v. maybe_typed_view numeric_view v.now) result
+            ≡ (fields (view self.now)).chapter }
+    {
+        self.chapter.as_ref()
+    }
+
+    /// Sets the chapter. Nothing else changes.
+    pub fn set_chapter(&mut self, chapter: MaybeTyped<Numeric>)
+        ensures { Sets self.old self.new
+            (λ f. record f { chapter = Some (maybe_typed_view numeric_view chapter) }) }
+    {
+        self.chapter = Some(chapter);
+    }
+
+    /// The volume of its parent that the work is, or is in.
+    pub fn volume(&self) -> Option<&MaybeTyped<Numeric>>
+        ensures { option_map (λ v. maybe_typed_view numeric_view v.now) result
+            ≡ (fields (view self.now)).volume }
+    {
+        self.volume.as_ref()
+    }
+
+    /// Sets the volume. Nothing else changes.
+    pub fn set_volume(&mut self, volume: MaybeTyped<Numeric>)
+        ensures { Sets self.old self.new
+            (λ f. record f { volume = Some (maybe_typed_view numeric_view volume) }) }
+    {
+        self.volume = Some(volume);
+    }
+
+    /// Which edition of the work it is.
+    pub fn edition(&self) -> Option<&MaybeTyped<Numeric>>
+        ensures { option_map (λ v. maybe_typed_view numeric_view v.now) result
+            ≡ (fields (view self.now)).edition }
+    {
+        self.edition.as_ref()
+    }
+
+    /// Sets the edition. Nothing else changes.
+    pub fn set_edition(&mut self, edition: MaybeTyped<Numeric>)
+        ensures { Sets self.old self.new
+            (λ f. record f { edition = Some (maybe_typed_view numeric_view edition) }) }
+    {
+        self.edition = Some(edition);
+    }
+
     /// Of how many volumes the work is.
     pub fn volume_total(&self) -> Option<&Numeric>
         ensures { option_map (λ v. numeric_view v.now) result
@@ -239,19 +339,52 @@ impl Entry {
         self.page_total = Some(page_total);
     }
 
-    /// The language of the work, as it was handed in.
-    pub fn language(&self) -> Option<&str>
-        ensures { option_map (λ t. t.now) result ≡ (fields (view self.now)).language }
+    /// The pages of its parent that the work is on.
+    pub fn page_range(&self) -> Option<&MaybeTyped<PageRanges>>
+        ensures { option_map (λ v. maybe_typed_view parts v.now) result
+            ≡ (fields (view self.now)).page_range }
     {
-        self.language.as_deref()
+        self.page_range.as_ref()
     }
 
-    /// Sets the language. Nothing else changes.
-    pub fn set_language(&mut self, language: String)
+    /// Sets the pages. Nothing else changes.
+    pub fn set_page_range(&mut self, page_range: MaybeTyped<PageRanges>)
         ensures { Sets self.old self.new
-            (λ f. record f { language = Some (string_bytes language) }) }
+            (λ f. record f { page_range = Some (maybe_typed_view parts page_range) }) }
     {
-        self.language = Some(language);
+        self.page_range = Some(page_range);
+    }
+
+    /// From when to when in its parent the work is heard or seen.
+    pub fn time_range(&self) -> Option<&MaybeTyped<DurationRange>>
+        ensures { option_map (λ v. maybe_typed_view (λ range. range) v.now) result
+            ≡ (fields (view self.now)).time_range }
+    {
+        self.time_range.as_ref()
+    }
+
+    /// Sets that time. Nothing else changes.
+    pub fn set_time_range(&mut self, time_range: MaybeTyped<DurationRange>)
+        ensures { Sets self.old self.new
+            (λ f. record f { time_range = Some (maybe_typed_view (λ range. range) time_range) }) }
+    {
+        self.time_range = Some(time_range);
+    }
+
+    /// How long the work takes to be heard or seen.
+    pub fn runtime(&self) -> Option<&MaybeTyped<Duration>>
+        ensures { option_map (λ v. maybe_typed_view (λ duration. duration) v.now) result
+            ≡ (fields (view self.now)).runtime }
+    {
+        self.runtime.as_ref()
+    }
+
+    /// Sets that time. Nothing else changes.
+    pub fn set_runtime(&mut self, runtime: MaybeTyped<Duration>)
+        ensures { Sets self.old self.new
+            (λ f. record f { runtime = Some (maybe_typed_view (λ duration. duration) runtime) }) }
+    {
+        self.runtime = Some(runtime);
     }
 
     /// All serial numbers of the work.
@@ -268,5 +401,20 @@ impl Entry {
             (λ f. record f { serial_number = Some (serial_view serial_number) }) }
     {
         self.serial_number = Some(serial_number);
+    }
+
+    /// The language of the work, as it was handed in.
+    pub fn language(&self) -> Option<&str>
+        ensures { option_map (λ t. t.now) result ≡ (fields (view self.now)).language }
+    {
+        self.language.as_deref()
+    }
+
+    /// Sets the language. Nothing else changes.
+    pub fn set_language(&mut self, language: String)
+        ensures { Sets self.old self.new
+            (λ f. record f { language = Some (string_bytes language) }) }
+    {
+        self.language = Some(language);
     }
 }

@@ -1,10 +1,11 @@
 //! What each call gives back where there is memory. An allocation that fails ends a test, and each entry is dropped
 //! by a call: so no test has a path on which it has to drop entries, which is expensive to prove.
 use crate::{Entry, EntryType, SerialNumber};
-use haya_numbers::Numeric;
+use haya_numbers::{Numeric, PageRanges};
 use haya_people::{Person, PersonRole, PersonsWithRoles};
 use haya_text::{FormatString, OutOfMemory, ReadText, TryClone};
-use haya_time::Date;
+use haya_time::{Date, Duration, DurationRange};
+use haya_values::{MaybeTyped, Publisher, QualifiedUrl};
 use std::alloc::Global;
 use std::collections::BTreeMap;
 use std::process::Abort;
@@ -24,10 +25,19 @@ const TEXTS: &[&str] = &[
     "editor",
     "affiliated",
     "date",
+    "publisher",
+    "url",
+    "issue",
+    "chapter",
+    "volume",
+    "edition",
     "volume-total",
     "page-total",
-    "language",
+    "page-range",
+    "time-range",
+    "runtime",
     "serial-number",
+    "language",
     "doi",
     "isbn",
     "issn",
@@ -43,6 +53,7 @@ const TEXTS: &[&str] = &[
     "abstract_",
     "archive_location",
     "serial_number",
+    "page_range",
     "",
 ];
 
@@ -126,7 +137,7 @@ fn has_a_language_and_serial_numbers_once_they_are_set(rt: HostRuntime) {
     entry.set_language(string(&rt, "en"));
     assert!(rt; has_names(&rt, &entry, "language "));
     entry.set_serial_number(SerialNumber(BTreeMap::new(rt.alloc())));
-    assert!(rt; has_names(&rt, &entry, "language serial-number "));
+    assert!(rt; has_names(&rt, &entry, "serial-number language "));
     drop(entry);
 }
 
@@ -363,5 +374,137 @@ fn gets_the_date_and_the_totals_that_were_set(rt: HostRuntime) {
     entry.set_date(Date::from_year(1988));
     assert!(rt; copy != entry);
     drop(copy);
+    drop(entry);
+}
+
+// The names of the publisher, the address and the fields that are typed or a text.
+const VALUES: &[&str] = &[
+    "publisher",
+    "url",
+    "issue",
+    "chapter",
+    "volume",
+    "edition",
+    "page-range",
+    "time-range",
+    "runtime",
+];
+
+fn words<T>(rt: &(impl Abort + AllocGlobal), value: &str) -> MaybeTyped<T> {
+    MaybeTyped::String(string(rt, value))
+}
+
+// Sets the field of a name among these to a text.
+fn set_value(rt: &(impl Abort + AllocGlobal), entry: &mut Entry, name: &str, value: &str) {
+    match name {
+        "publisher" => entry.set_publisher(Publisher::new(Some(text(rt, value)), None)),
+        "url" => entry.set_url(QualifiedUrl::new(string(rt, value), None)),
+        "issue" => entry.set_issue(words(rt, value)),
+        "chapter" => entry.set_chapter(words(rt, value)),
+        "volume" => entry.set_volume(words(rt, value)),
+        "edition" => entry.set_edition(words(rt, value)),
+        "page-range" => entry.set_page_range(words(rt, value)),
+        "time-range" => entry.set_time_range(words(rt, value)),
+        "runtime" => entry.set_runtime(words(rt, value)),
+        _ => {}
+    }
+}
+
+fn has_alone(entry: &Entry, name: &str) -> bool {
+    TEXTS.iter().all(|text| entry.has(*text) == (*text == name))
+}
+
+#[test]
+fn has_a_value_once_it_is_set(rt: HostRuntime) {
+    for name in VALUES {
+        let mut entry = entry(&rt, "key", EntryType::Book);
+        set_value(&rt, &mut entry, *name, "a few");
+        assert!(rt; has_alone(&entry, *name), "{name}");
+        drop(entry);
+    }
+}
+
+fn number(value: i32) -> MaybeTyped<Numeric> {
+    MaybeTyped::Typed(Numeric::new(value))
+}
+
+fn minutes(minutes: u32) -> Duration {
+    Duration {
+        days: 0,
+        hours: 0,
+        minutes,
+        seconds: 0,
+        milliseconds: 0,
+    }
+}
+
+fn page(rt: &(impl Abort + AllocGlobal), number: i32) -> PageRanges {
+    PageRanges::from_i32(rt.alloc(), number).expect(rt, "memory")
+}
+
+fn publisher(rt: &(impl Abort + AllocGlobal)) -> Publisher {
+    Publisher::new(Some(text(rt, "Springer")), Some(text(rt, "Berlin")))
+}
+
+fn url(rt: &(impl Abort + AllocGlobal)) -> QualifiedUrl {
+    QualifiedUrl::new(
+        string(rt, "https://example.org"),
+        Some(Date::from_year(2020)),
+    )
+}
+
+// An article with each of these fields.
+fn with_values(rt: &(impl Abort + AllocGlobal)) -> Entry {
+    let mut entry = entry(rt, "key", EntryType::Article);
+    entry.set_publisher(publisher(rt));
+    entry.set_url(url(rt));
+    entry.set_issue(number(1));
+    entry.set_chapter(number(2));
+    entry.set_volume(number(3));
+    entry.set_edition(words(rt, "second"));
+    entry.set_page_range(MaybeTyped::Typed(page(rt, 5)));
+    entry.set_time_range(MaybeTyped::Typed(DurationRange::new(minutes(1), Some(minutes(3)))));
+    entry.set_runtime(MaybeTyped::Typed(minutes(90)));
+    entry
+}
+
+fn is_number(found: Option<&MaybeTyped<Numeric>>, wanted: i32) -> bool {
+    found == Some(&number(wanted))
+}
+
+fn is_page(
+    rt: &(impl Abort + AllocGlobal),
+    found: Option<&MaybeTyped<PageRanges>>,
+    number: i32,
+) -> bool {
+    found == Some(&MaybeTyped::Typed(page(rt, number)))
+}
+
+#[test]
+fn gets_the_values_that_were_set(rt: HostRuntime) {
+    let entry = with_values(&rt);
+    assert!(rt; entry.publisher() == Some(&publisher(&rt)));
+    assert!(rt; entry.url() == Some(&url(&rt)));
+    assert!(rt; is_number(entry.issue(), 1));
+    assert!(rt; is_number(entry.chapter(), 2));
+    assert!(rt; is_number(entry.volume(), 3));
+    assert!(rt; entry.edition() == Some(&words(&rt, "second")));
+    assert!(rt; is_page(&rt, entry.page_range(), 5));
+    let range = DurationRange::new(minutes(1), Some(minutes(3)));
+    assert!(rt; entry.time_range() == Some(&MaybeTyped::Typed(range)));
+    assert!(rt; entry.runtime() == Some(&MaybeTyped::Typed(minutes(90))));
+    drop(entry);
+}
+
+#[test]
+fn is_equal_where_all_values_are(rt: HostRuntime) {
+    let entry = with_values(&rt);
+    for name in VALUES {
+        let mut other = entry.try_clone(rt.alloc()).expect(&rt, "memory");
+        assert!(rt; other == entry, "a copy");
+        set_value(&rt, &mut other, *name, "a few");
+        assert!(rt; other != entry, "{name}");
+        drop(other);
+    }
     drop(entry);
 }
