@@ -31,4 +31,5 @@ pub mod types {
         StringChunk, TryClone,
     };
     pub use haya_time::{Date, DateError, Duration, DurationError, DurationRange, Season};
+    pub use haya_values::{MaybeTyped, OneOrMany, OneOrManyIter, Publisher, QualifiedUrl};
 }

@@ -5,15 +5,23 @@ use Rattle.std.specs.Map.{lookup}
 use Rattle.std.specs.Result.{result_ok}
 use Rattle.std.specs.Str.{bytes_eq, chars}
 use Rattle.hayagriva.specs.DateReading.{date_read}
+use Rattle.hayagriva.specs.DurationReading.{duration_read, range_read}
+use Rattle.hayagriva.specs.MaybeTyped.{TypedOrText, typed_or_text}
 use Rattle.hayagriva.specs.Numeric.{NumericView}
 use Rattle.hayagriva.specs.NumericReading.{numeric_read}
+use Rattle.hayagriva.specs.Pages.{PartView}
+use Rattle.hayagriva.specs.PagesReading.{pages_read}
 use Rattle.hayagriva.specs.Person.{PersonView}
 use Rattle.hayagriva.specs.PersonReading.{person_read}
+use Rattle.hayagriva.specs.Publisher.{PublisherView, publisher_read}
 use Rattle.hayagriva.specs.Roles.{RoleView, RolesView, role_named}
 use Rattle.hayagriva.specs.SerialNumber.{with_serial}
 use Rattle.hayagriva.specs.Texts.{TextView, text_read}
 use Rattle.hayagriva.specs.Tree.{Fields}
+use Rattle.hayagriva.specs.Url.{UrlView, undated}
 use Rattle.hayagriva.specs.declared.types.Date.{Date}
+use Rattle.hayagriva.specs.declared.types.Duration.{Duration}
+use Rattle.hayagriva.specs.declared.types.DurationRange.{DurationRange}
 use Rattle.hayagriva_query.specs.Signs.{colon}
 use Rattle.hayagriva_query.specs.declared.fault.LineFault.{LineFault}
 use Rattle.hayagriva_query.specs.declared.fault.LineFault.TheVariants.{Shape, UnknownField, RefusedValue}
@@ -48,6 +56,24 @@ number_of value = unless_refused (result_ok (numeric_read value))
 
 abbrev pub date_of : List ℕ → Result Date LineFault
 date_of value = unless_refused (result_ok (date_read (chars value)))
+
+abbrev pub publisher_of : List ℕ → Result PublisherView LineFault
+publisher_of value = unless_refused (publisher_read value)
+
+abbrev pub url_of : List ℕ → Result UrlView LineFault
+url_of value = Ok (undated value)
+
+abbrev pub number_or_text_of : List ℕ → Result (TypedOrText NumericView) LineFault
+number_or_text_of value = Ok (typed_or_text (result_ok (numeric_read value)) value)
+
+abbrev pub pages_or_text_of : List ℕ → Result (TypedOrText (List PartView)) LineFault
+pages_or_text_of value = Ok (typed_or_text (result_ok (pages_read (chars value))) value)
+
+abbrev pub range_or_text_of : List ℕ → Result (TypedOrText DurationRange) LineFault
+range_or_text_of value = Ok (typed_or_text (result_ok (range_read (chars value))) value)
+
+abbrev pub duration_or_text_of : List ℕ → Result (TypedOrText Duration) LineFault
+duration_or_text_of value = Ok (typed_or_text (result_ok (duration_read (chars value))) value)
 
 -- the names of the roles that a text may have
 abbrev pub role_names : List (List ℕ)
@@ -125,8 +151,17 @@ field_table =
       setting affiliated_of (λ v f. record f { affiliated = appended f.affiliated v }),
     )
     ∷ (codes "date", setting date_of (λ v f. record f { date = Some v }))
+    ∷ (codes "publisher", setting publisher_of (λ v f. record f { publisher = Some v }))
+    ∷ (codes "url", setting url_of (λ v f. record f { url = Some v }))
+    ∷ (codes "issue", setting number_or_text_of (λ v f. record f { issue = Some v }))
+    ∷ (codes "chapter", setting number_or_text_of (λ v f. record f { chapter = Some v }))
+    ∷ (codes "volume", setting number_or_text_of (λ v f. record f { volume = Some v }))
+    ∷ (codes "edition", setting number_or_text_of (λ v f. record f { edition = Some v }))
     ∷ (codes "volume-total", setting number_of (λ v f. record f { volume_total = Some v }))
     ∷ (codes "page-total", setting number_of (λ v f. record f { page_total = Some v }))
+    ∷ (codes "page-range", setting pages_or_text_of (λ v f. record f { page_range = Some v }))
+    ∷ (codes "time-range", setting range_or_text_of (λ v f. record f { time_range = Some v }))
+    ∷ (codes "runtime", setting duration_or_text_of (λ v f. record f { runtime = Some v }))
     ∷ (codes "language", setting bytes_of (λ v f. record f { language = Some v }))
     ∷ (codes "serial-number", setting bytes_of (with_number (codes "serial")))
     ∷ (codes "doi", setting bytes_of (with_number (codes "doi")))

@@ -1,7 +1,7 @@
 //! What an entry has after its line is read.
 use crate::line::read_line;
 use hayagriva::Entry;
-use hayagriva::types::{Person, PersonRole, PersonsWithRoles};
+use hayagriva::types::{MaybeTyped, Person, PersonRole, PersonsWithRoles, Publisher};
 use std::alloc::AllocError;
 use std::fmt;
 use std::process::Abort;
@@ -9,6 +9,19 @@ use std::process::Abort;
 fn put<D: fmt::Display>(out: &mut String, name: &str, value: Option<&D>) -> Result<(), AllocError> {
     match value {
         Some(value) => write!(out, "{name}={value};"),
+        None => Ok(()),
+    }
+}
+
+// A typed value stands in brackets.
+fn put_typed<D: fmt::Display>(
+    out: &mut String,
+    name: &str,
+    value: Option<&MaybeTyped<D>>,
+) -> Result<(), AllocError> {
+    match value {
+        Some(MaybeTyped::Typed(value)) => write!(out, "{name}=[{value}];"),
+        Some(MaybeTyped::String(text)) => write!(out, "{name}={text};"),
         None => Ok(()),
     }
 }
@@ -48,6 +61,28 @@ fn put_texts(out: &mut String, entry: &Entry) -> Result<(), AllocError> {
     put(out, "genre", entry.genre())
 }
 
+fn put_numbers(out: &mut String, entry: &Entry) -> Result<(), AllocError> {
+    put_typed(out, "issue", entry.issue())?;
+    put_typed(out, "chapter", entry.chapter())?;
+    put_typed(out, "volume", entry.volume())?;
+    put_typed(out, "edition", entry.edition())?;
+    put(out, "volume-total", entry.volume_total())?;
+    put(out, "page-total", entry.page_total())?;
+    put_typed(out, "page-range", entry.page_range())?;
+    put_typed(out, "time-range", entry.time_range())?;
+    put_typed(out, "runtime", entry.runtime())
+}
+
+fn put_publisher(out: &mut String, publisher: Option<&Publisher>) -> Result<(), AllocError> {
+    match publisher {
+        Some(publisher) => {
+            put(out, "publisher", publisher.name())?;
+            put(out, "at", publisher.location())
+        }
+        None => Ok(()),
+    }
+}
+
 fn put_serials(out: &mut String, entry: &Entry) -> Result<(), AllocError> {
     for key in ["serial", "doi", "isbn", "issn", "pmid", "pmcid", "arxiv"] {
         put(out, key, entry.keyed_serial_number(key).as_ref())?;
@@ -62,8 +97,9 @@ fn put_fields(out: &mut String, entry: &Entry) -> Result<(), AllocError> {
     put_persons(out, "editor", entry.editors())?;
     put_affiliated(out, entry.affiliated())?;
     put(out, "date", entry.date())?;
-    put(out, "volume-total", entry.volume_total())?;
-    put(out, "page-total", entry.page_total())?;
+    put_publisher(out, entry.publisher())?;
+    put(out, "url", entry.url())?;
+    put_numbers(out, entry)?;
     put(out, "language", entry.language().as_ref())?;
     put_serials(out, entry)
 }
@@ -112,6 +148,26 @@ const LINES: &[(&str, &str)] = &[
     (
         "0\tx\tbook\tdate=1987-07\tvolume-total=3\tpage-total=1, 349",
         "date=1987-07;volume-total=3;page-total=1, 349;",
+    ),
+    (
+        "0\tx\tbook\tpublisher={ACM} x, y\turl=a}b",
+        "publisher=ACM x, y;url=a}b;",
+    ),
+    (
+        "0\tx\tbook\tissue=1\tchapter=2\tvolume=3\tedition=2nd",
+        "issue=[1];chapter=[2];volume=[3];edition=[2nd];",
+    ),
+    (
+        "0\tx\tbook\tissue=a b\tchapter=\tvolume=second\tedition=a}b",
+        "issue=a b;chapter=;volume=second;edition=a}b;",
+    ),
+    (
+        "0\tx\tbook\tpage-range=S10-15\ttime-range=01:00 - 02:00\truntime=90:00",
+        "page-range=[S10-15];time-range=[01:00-02:00];runtime=[01:30:00];",
+    ),
+    (
+        "0\tx\tbook\tpage-range=11E201\ttime-range=1\truntime=01:61:48",
+        "page-range=11E201;time-range=1;runtime=01:61:48;",
     ),
     (
         "0\tx\tbook\tlanguage=en\tserial-number=a\tdoi=b\tisbn=c\tissn=d",
