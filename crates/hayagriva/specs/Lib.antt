@@ -26,4 +26,16 @@ pub use Rattle.haya_entry.specs.SerialNumber
 pub use Rattle.haya_entry.specs.Tree
 pub use Rattle.haya_entry.specs.Names
 pub use Rattle.haya_text.specs.Texts
+pub use Rattle.haya_numbers.specs.Numeric
+pub use Rattle.haya_numbers.specs.NumericReading
+pub use Rattle.haya_numbers.specs.Pages
+pub use Rattle.haya_numbers.specs.PagesReading
+pub use Rattle.haya_people.specs.Person
+pub use Rattle.haya_people.specs.Reading as PersonReading
+pub use Rattle.haya_people.specs.Roles
+pub use Rattle.haya_time.specs.DateReading
+pub use Rattle.haya_time.specs.DurationReading
+pub use Rattle.haya_values.specs.MaybeTyped
+pub use Rattle.haya_values.specs.Publisher
+pub use Rattle.haya_values.specs.Url
 pub mod Evaluation

@@ -4,7 +4,8 @@ use Rattle.std.proofs.lemmas.List.{drop_more}
 use Rattle.std.specs.Prelude.{IsOkAnd}
 use Rattle.hayagriva.specs.Tree.{Tree, Fields, node, fields, with_fields}
 use Rattle.hayagriva_query.specs.declared.fault.LineFault.{LineFault}
-use Rattle.hayagriva_query.specs.Input.{and_then, field_read, fields_read}
+use Rattle.hayagriva_query.specs.FieldTable.{and_then}
+use Rattle.hayagriva_query.specs.Input.{field_read, fields_read}
 
 -- the entry has the fields f in the place of its own
 abbrev pub Has : Tree → Fields → Tree → Type 0

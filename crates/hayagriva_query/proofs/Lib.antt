@@ -1,5 +1,7 @@
 mod Depths
+mod FieldRows
 mod FieldsRead
+mod RoleNames
 mod Rows
 mod Chains
 mod Faults

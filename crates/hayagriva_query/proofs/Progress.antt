@@ -7,7 +7,8 @@ use Rattle.hayagriva.specs.Tree.{Tree, trees}
 use Rattle.hayagriva_query.specs.declared.fault.Fault.{Fault}
 use Rattle.hayagriva_query.specs.declared.fault.Fault.TheVariants.{Line, OutOfMemory}
 use Rattle.hayagriva_query.specs.declared.fault.LineFault.{LineFault}
-use Rattle.hayagriva_query.specs.Input.{Row, Describes, and_then, items, row_read, rows_read, rows_of_all}
+use Rattle.hayagriva_query.specs.FieldTable.{and_then}
+use Rattle.hayagriva_query.specs.Input.{Row, Describes, items, row_read, rows_read, rows_of_all}
 use Rattle.hayagriva_query.specs.Chain.{HoldsRows, chain_rows}
 
 -- after so many lines, what all lines read as is the rows so far, and then what the other lines

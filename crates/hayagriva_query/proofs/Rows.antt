@@ -7,7 +7,8 @@ use Rattle.hayagriva.specs.EntryType.{type_read}
 use Rattle.hayagriva.specs.Tree.{Tree, Fields, fields, with_fields, new_entry}
 use Rattle.hayagriva_query.specs.declared.fault.LineFault.{LineFault}
 use Rattle.hayagriva_query.specs.declared.fault.LineFault.TheVariants.{Depth, OutOfMemory, UnknownType}
-use Rattle.hayagriva_query.specs.Input.{Row, and_then, leaf, depth_read, fields_read, row_read}
+use Rattle.hayagriva_query.specs.FieldTable.{and_then}
+use Rattle.hayagriva_query.specs.Input.{Row, leaf, depth_read, fields_read, row_read}
 
 joined : {K : Type 0} (depth : Option ℕ) (kind : Option K) (read : K → Result Fields LineFault) (n : ℕ) (k : K) (P : Fields → Type 0)
     → depth ≡ Some n → kind ≡ Some k → IsOkAnd (read k) P

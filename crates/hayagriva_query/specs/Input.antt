@@ -1,22 +1,16 @@
 -- The program's input: what the lines of a text say of a library.
-use Rattle.std.specs.Prelude.{◌≡◌, ℕ, ◌+◌, ◌==◌, Bool, ◌&&◌, nat_lt, nat_le, List, [], ◌∷◌, ◌++◌, take, drop, length, position, Option, None, Some, option_map, ok_or, Result, Ok, Err, codes, if◌then◌else◌}
+use Rattle.std.specs.Prelude.{◌≡◌, ℕ, ◌+◌, ◌==◌, Bool, ◌&&◌, nat_lt, nat_le, List, [], ◌∷◌, ◌++◌, length, Option, None, Some, ok_or, Result, Ok, Err, if◌then◌else◌}
 use Rattle.std.specs.Char.{is_ascii_digit}
-use Rattle.std.specs.List.{list_all, list_any, slice_split}
-use Rattle.std.specs.Str.{bytes_eq}
+use Rattle.std.specs.List.{list_all, slice_split}
 use Rattle.std.specs.Str.Lines.{lines}
 use Rattle.std.specs.Str.Parse.{digits_value}
 use Rattle.hayagriva.specs.EntryType.{type_read}
-use Rattle.hayagriva.specs.SerialNumber.{with_serial}
 use Rattle.hayagriva.specs.Tree.{Tree, Trees, Fields, node, no_trees, one_more, trees, fields, new_entry}
 use Rattle.hayagriva.specs.Library.{from_entries}
+use Rattle.hayagriva_query.specs.FieldTable.{and_then, cut_at, with_field}
 use Rattle.hayagriva_query.specs.Signs.{tab, equals_sign}
 use Rattle.hayagriva_query.specs.declared.fault.LineFault.{LineFault}
-use Rattle.hayagriva_query.specs.declared.fault.LineFault.TheVariants.{Shape, Depth, UnknownType, UnknownField}
-
--- what follows from a value, or the fault
-abbrev pub and_then : {T U E : Type 0} → Result T E → (T → Result U E) → Result U E
-and_then (Ok x) f = f x
-and_then (Err e) f = Err e
+use Rattle.hayagriva_query.specs.declared.fault.LineFault.TheVariants.{Shape, Depth, UnknownType}
 
 -- ---- one line
 
@@ -33,32 +27,14 @@ is_depth deepest item =
 abbrev pub depth_read : ℕ → List ℕ → Option ℕ
 depth_read deepest item = if is_depth deepest item then Some (digits_value 10 item) else None
 
--- a name and a value: what stands before the first `=`, and what stands behind it
+-- a name and a value, cut at the first `=`
 abbrev pub name_and_value : List ℕ → Option (List ℕ × List ℕ)
-name_and_value item =
-    option_map (λ i. (take i item, drop (i + 1) item)) (position (λ b. b == equals_sign) item)
-
--- the serial numbers that have a name of their own
-abbrev pub serial_names : List (List ℕ)
-serial_names =
-    codes "doi" ∷ codes "isbn" ∷ codes "issn" ∷ codes "pmid" ∷ codes "pmcid" ∷ codes "arxiv" ∷ []
-
--- the fields with one more serial number, or another in the place of that with its key
-abbrev pub with_number : List ℕ → List ℕ → Fields → Fields
-with_number key value f = record f { serial_number = Some (with_serial key value f.serial_number) }
-
--- the fields with this value under this name, if it is a name of the input
-abbrev pub with_field : List ℕ → List ℕ → Fields → Option Fields
-with_field name value f =
-    if bytes_eq name (codes "language") then Some (record f { language = Some value }) else (
-    if bytes_eq name (codes "serial-number") then Some (with_number (codes "serial") value f) else (
-    if list_any (bytes_eq name) serial_names then Some (with_number name value f) else None))
+name_and_value item = cut_at equals_sign item
 
 -- the fields after the item's is set, or its fault
 abbrev pub field_read : Fields → List ℕ → Result Fields LineFault
 field_read f item =
-    and_then (ok_or (name_and_value item) Shape)
-    (λ field. ok_or (with_field field.0 field.1 f) UnknownField)
+    and_then (ok_or (name_and_value item) Shape) (λ field. with_field field.0 field.1 f)
 
 -- the fields after those of all items are set in turn, or the first fault
 abbrev pub fields_read : Fields → List (List ℕ) → Result Fields LineFault

@@ -1,4 +1,5 @@
 pub mod Chain
+pub mod FieldTable
 pub mod Input
 pub mod LineReading
 pub mod Output

@@ -9,3 +9,6 @@ line_feed = 10
 
 abbrev pub equals_sign : ℕ
 equals_sign = 61
+
+abbrev pub colon : ℕ
+colon = 58

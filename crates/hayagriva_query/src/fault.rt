@@ -9,7 +9,7 @@ use thiserror::Error;
 /// What is wrong with a line of the input.
 #[derive(Clone, Copy, Debug, PartialEq, Eq, Error)]
 pub enum LineFault {
-    /// Fewer than three items, or a field without `=`.
+    /// Fewer than three items, a field without `=`, or a role and a person without `:`.
     #[error("shape")]
     Shape,
     /// No depth of 0 to 500, or one that is no place for an entry.
@@ -21,7 +21,7 @@ pub enum LineFault {
     /// The name of no field.
     #[error("field")]
     UnknownField,
-    /// A field's value that its reader refuses. The fields there are take every text.
+    /// A value that isn't read as its field's type.
     #[error("value")]
     RefusedValue,
     /// An allocation failed, which says nothing of the line.
@@ -140,6 +140,16 @@ impl From<AllocError> for LineFault {
     ghost from_gives = { λ _ e. e ≡ OutOfMemory };
 
     fn from(_error: AllocError) -> LineFault {
+        LineFault::OutOfMemory
+    }
+}
+
+impl<T: Drop> From<AllocFailed<T>> for LineFault {
+    ghost use Rattle.hayagriva_query.specs.declared.fault.LineFault.TheVariants.{OutOfMemory};
+
+    ghost from_gives = { λ _ e. e ≡ OutOfMemory };
+
+    fn from(_error: AllocFailed<T>) -> LineFault {
         LineFault::OutOfMemory
     }
 }

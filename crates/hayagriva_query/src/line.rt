@@ -1,13 +1,13 @@
 //! One line of the input: a depth, a key, a type, and fields `name=value`, with a tab between two.
-ghost use Rattle.std.specs.Prelude.{◌≡◌, map, ok_or, IfOk, IfErr, OnOk};
+ghost use Rattle.std.specs.Prelude.{◌≡◌, map, IfOk, IfErr, OnOk};
 ghost use Rattle.std.specs.Char.{is_ascii_digit};
 ghost use Rattle.std.specs.List.{list_all};
 ghost use Rattle.hayagriva.specs.Tree.{view, fields};
-ghost use Rattle.hayagriva_query.specs.declared.fault.LineFault.TheVariants.{UnknownField};
-ghost use Rattle.hayagriva_query.specs.Input.{items, depth_read, with_field, field_read, fields_read, row_read};
+ghost use Rattle.hayagriva_query.specs.Input.{items, depth_read, field_read, fields_read, row_read};
 ghost use Rattle.hayagriva_query.specs.LineReading.{FaultOf, IsRow, SetsFields};
 
 use crate::fault::LineFault;
+use crate::field::set_field;
 use hayagriva::Entry;
 use hayagriva::types::EntryType;
 use std::alloc::{AllocError, Global};
@@ -91,26 +91,4 @@ fn is_all_digits(item: &str) -> bool
     ensures { result ≡ list_all is_ascii_digit item.now }
 {
     item.bytes().all(|b| b.is_ascii_digit())
-}
-
-// Sets the field with this name, in the place of what was there.
-fn set_field(alloc: Global, entry: &mut Entry, name: &str, value: &str) -> Result<(), LineFault>
-    ensures ok { OnOk result (SetsFields
-        (ok_or (with_field name.now value.now (fields (view entry.old))) UnknownField)
-        entry.old entry.new) }
-    ensures fault { IfErr result (FaultOf
-        (ok_or (with_field name.now value.now (fields (view entry.old))) UnknownField)) }
-{
-    match name {
-        "language" => entry.set_language(String::from_str(alloc, value)?),
-        "serial-number" => entry.set_keyed_serial_number(
-            "serial",
-            String::from_str(alloc, value)?,
-        )?,
-        "doi" | "isbn" | "issn" | "pmid" | "pmcid" | "arxiv" => {
-            entry.set_keyed_serial_number(name, String::from_str(alloc, value)?)?;
-        }
-        _ => return Err(LineFault::UnknownField),
-    }
-    Ok(())
 }

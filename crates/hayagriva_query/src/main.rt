@@ -3,6 +3,7 @@
 
 mod arguments;
 mod fault;
+mod field;
 mod library_text;
 mod line;
 mod printing;

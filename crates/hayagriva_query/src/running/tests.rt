@@ -12,6 +12,13 @@ use std::process::{Abort, ExitCode};
 const ARTICLES: &[u8] = b"0\tdependence\tarticle\tdoi=10.1145/24039.24041\n1\ttoplas\tperiodical\n\
     0\tfeminism\tarticle\tlanguage=en\n1\taeon\tblog\n";
 
+// The same with more fields.
+const SAMPLE: &[u8] = b"0\tdependence\tarticle\tdate=1987-07\tdoi=10.1145/24039.24041\n\
+    1\ttoplas\tperiodical\tvolume=9\tissue=3\n\
+    0\tfeminism\tarticle\tdate=2015-09-25\t\
+    url=https://aeon.co/essays/can-you-enjoy-romance-fiction-and-be-a-feminist\n\
+    1\taeon\tblog\n";
+
 // A paper in a journal that stands in a site, and a note.
 const SMALL: &[u8] = b"0\tpaper\tarticle\tdoi=10.1/a\n1\tjournal\tperiodical\n\
     2\tsite\tweb\tlanguage=en\n0\tnote\tbook\tlanguage=de\n";
@@ -103,6 +110,16 @@ const HITS: &[Row] = &[
         "dependence\nfeminism\n",
     ),
     ("article > b:periodical", ARTICLES, "dependence\tb=toplas\n"),
+    ("*[url] | *[doi]", SAMPLE, "dependence\nfeminism\n"),
+    ("*[serial]", SAMPLE, ""),
+    ("article > b:periodical", SAMPLE, "dependence\tb=toplas\n"),
+    (
+        "i:*[url] | (* > i:*[url])",
+        SAMPLE,
+        "feminism\ti=feminism\n",
+    ),
+    ("* > (periodical | blog)", SAMPLE, "dependence\nfeminism\n"),
+    ("* > v:*[volume, issue]", SAMPLE, "dependence\tv=toplas\n"),
     ("*[doi] | *[language]", SMALL, "paper\nnote\n"),
     (
         "article > (j:periodical > w:*[language])",
@@ -144,6 +161,12 @@ const HITS: &[Row] = &[
         "*[isbn, issn, pmid, pmcid, arxiv]",
         b"0\ta\tbook\tisbn=1\tissn=2\tpmid=3\tpmcid=4\tarxiv=5\n",
         "a\n",
+    ),
+    ("*[volume]", b"0\tx\tbook\tvolume=second", "x\n"),
+    (
+        "*[affiliated]",
+        b"0\tx\tbook\taffiliated=translator:Kwan, Kevin",
+        "x\n",
     ),
 ];
 
@@ -189,12 +212,30 @@ const FAULTS: &[Row] = &[
     ("*", b"0\ta\t", "line 1: type\n"),
     ("*", b"0\ta\tbook\r", "line 1: type\n"),
     ("*", b"0\ta\tbook\r\r\n", "line 1: type\n"),
-    ("*", b"0\tx\tbook\ttitle=a", "line 1: field\n"),
-    ("*", b"0\tx\tbook\ttitle=a\tlanguage", "line 1: field\n"),
+    ("*", b"0\tx\tbook\tTitle=a", "line 1: field\n"),
+    ("*", b"0\tx\tbook\tkey=a}b\tlanguage", "line 1: field\n"),
     ("*", b"0\tx\tbook\t language=a", "line 1: field\n"),
     ("*", b"0\tx\tbook\tlanguage =a", "line 1: field\n"),
     ("*", b"0\tx\tbook\tserial=a", "line 1: field\n"),
     ("*", b"0\tx\tbook\t=a", "line 1: field\n"),
+    ("*", b"0\tx\tbook\ttitle=a\tlanguage", "line 1: shape\n"),
+    ("*", b"0\tx\tbook\ttitle=a}b", "line 1: value\n"),
+    ("*", b"0\tx\tbook\ttitle=a}b\tlanguage", "line 1: value\n"),
+    ("*", b"0\tx\tbook\tauthor=a,b,c,d", "line 1: value\n"),
+    ("*", b"0\tx\tbook\tdate=2014-02-29", "line 1: value\n"),
+    ("*", b"0\tx\tbook\tvolume-total=second", "line 1: value\n"),
+    ("*", b"0\tx\tbook\tpublisher=a}b", "line 1: value\n"),
+    ("*", b"0\tx\tbook\taffiliated=Kwan", "line 1: shape\n"),
+    (
+        "*",
+        b"0\tx\tbook\taffiliated=editor:Kwan",
+        "line 1: value\n",
+    ),
+    (
+        "*",
+        b"0\tx\tbook\taffiliated=holder:a,b,c,d",
+        "line 1: value\n",
+    ),
     ("*", b"1\tx\tbook\n\xFF", "not text\n"),
 ];
 

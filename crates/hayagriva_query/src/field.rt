@@ -1,0 +1,149 @@
+//! The fields of a line: values that are read as the types of their fields are.
+ghost use Rattle.std.specs.Prelude.{◌≡◌, Err, Ok, Some, option_map, IfOk, IfErr, OnOk};
+ghost use Rattle.hayagriva.specs.Person.{person_view};
+ghost use Rattle.hayagriva.specs.Roles.{role_view, roles_view};
+ghost use Rattle.hayagriva.specs.Tree.{Sets, view, fields};
+ghost use Rattle.hayagriva_query.specs.FieldTable.{affiliated_of, appended, date_of, role_of, unless_refused, with_field, with_number};
+ghost use Rattle.hayagriva_query.specs.LineReading.{FaultOf, SetsFields};
+
+use crate::fault::LineFault;
+use hayagriva::types::{Date, Person, PersonRole, PersonsWithRoles};
+use hayagriva::{Entry, ReadFault, ReadText};
+use std::alloc::{AllocError, Global};
+
+/// Sets the field with this name to what the value reads as. Authors, editors and affiliated persons
+/// are appended; any other value takes the place of what was there.
+pub fn set_field(alloc: Global, entry: &mut Entry, name: &str, value: &str) -> Result<(), LineFault>
+    ensures ok { OnOk result (SetsFields
+        (with_field name.now value.now (fields (view entry.old))) entry.old entry.new) }
+    ensures fault { IfErr result (FaultOf (with_field name.now value.now (fields (view entry.old)))) }
+{
+    match name {
+        "title" => entry.set_title(read_value(alloc, value)?),
+        "location" => entry.set_location(read_value(alloc, value)?),
+        "organization" => entry.set_organization(read_value(alloc, value)?),
+        "archive" => entry.set_archive(read_value(alloc, value)?),
+        "archive-location" => entry.set_archive_location(read_value(alloc, value)?),
+        "call-number" => entry.set_call_number(read_value(alloc, value)?),
+        "note" => entry.set_note(read_value(alloc, value)?),
+        "abstract" => entry.set_abstract_(read_value(alloc, value)?),
+        "genre" => entry.set_genre(read_value(alloc, value)?),
+        "author" => add_author(alloc, entry, read_value(alloc, value)?)?,
+        "editor" => add_editor(alloc, entry, read_value(alloc, value)?)?,
+        "affiliated" => add_affiliated(alloc, entry, read_affiliated(alloc, value)?)?,
+        "date" => entry.set_date(read_date(value)?),
+        "publisher" => entry.set_publisher(read_value(alloc, value)?),
+        "url" => entry.set_url(read_value(alloc, value)?),
+        "issue" => entry.set_issue(read_value(alloc, value)?),
+        "chapter" => entry.set_chapter(read_value(alloc, value)?),
+        "volume" => entry.set_volume(read_value(alloc, value)?),
+        "edition" => entry.set_edition(read_value(alloc, value)?),
+        "volume-total" => entry.set_volume_total(read_value(alloc, value)?),
+        "page-total" => entry.set_page_total(read_value(alloc, value)?),
+        "page-range" => entry.set_page_range(read_value(alloc, value)?),
+        "time-range" => entry.set_time_range(read_value(alloc, value)?),
+        "runtime" => entry.set_runtime(read_value(alloc, value)?),
+        "language" => entry.set_language(String::from_str(alloc, value)?),
+        "serial-number" => set_number(alloc, entry, "serial", value)?,
+        "doi" | "isbn" | "issn" | "pmid" | "pmcid" | "arxiv" => {
+            set_number(alloc, entry, name, value)?
+        }
+        _ => return Err(LineFault::UnknownField),
+    }
+    Ok(())
+}
+
+// What the value reads as, or why it isn't read.
+fn read_value<T: ReadText>(alloc: Global, value: &str) -> Result<T, LineFault>
+    ensures ok { IfOk result (λ v. T.reads value.now ≡ Some (T.value v)) }
+    ensures fault { IfErr result (FaultOf (unless_refused (T.reads value.now))) }
+{
+    match T::from_str(alloc, value) {
+        Ok(read) => Ok(read),
+        Err(fault) if fault.is_out_of_memory() => Err(LineFault::OutOfMemory),
+        Err(_) => Err(LineFault::RefusedValue),
+    }
+}
+
+// The same of a date, which takes no memory.
+fn read_date(value: &str) -> Result<Date, LineFault>
+    ensures { result ≡ date_of value.now }
+{
+    let Ok(date) = value.parse::<Date>() else {
+        return Err(LineFault::RefusedValue);
+    };
+    Ok(date)
+}
+
+// A role and one person, cut at the first colon.
+fn read_affiliated(alloc: Global, value: &str) -> Result<PersonsWithRoles, LineFault>
+    ensures ok { IfOk result (λ v. affiliated_of value.now ≡ Ok (roles_view v)) }
+    ensures fault { IfErr result (FaultOf (affiliated_of value.now)) }
+{
+    let Some((role, person)) = value.split_once(':') else {
+        return Err(LineFault::Shape);
+    };
+    let role = read_role(role)?;
+    let person = read_value::<Person>(alloc, person)?;
+    Ok(PersonsWithRoles::new(vec![in alloc; person]?, role))
+}
+
+// The role of this name.
+fn read_role(name: &str) -> Result<PersonRole, LineFault>
+    ensures ok { IfOk result (λ role. role_of name.now ≡ Ok (role_view role)) }
+    ensures fault { IfErr result (λ e. role_of name.now ≡ Err e) }
+{
+    let Ok(role) = name.parse::<PersonRole>() else {
+        return Err(LineFault::RefusedValue);
+    };
+    Ok(role)
+}
+
+// One more author.
+fn add_author(alloc: Global, entry: &mut Entry, person: Person) -> Result<(), AllocError>
+    ensures { OnOk result (Sets entry.old entry.new
+        (λ f. record f { authors = appended f.authors (person_view person) })) }
+{
+    append(alloc, &mut entry.authors, person)
+}
+
+// One more editor.
+fn add_editor(alloc: Global, entry: &mut Entry, person: Person) -> Result<(), AllocError>
+    ensures { OnOk result (Sets entry.old entry.new
+        (λ f. record f { editors = appended f.editors (person_view person) })) }
+{
+    append(alloc, &mut entry.editors, person)
+}
+
+// One more person with a role.
+fn add_affiliated(
+    alloc: Global,
+    entry: &mut Entry,
+    persons: PersonsWithRoles,
+) -> Result<(), AllocError>
+    ensures { OnOk result (Sets entry.old entry.new
+        (λ f. record f { affiliated = appended f.affiliated (roles_view persons) })) }
+{
+    append(alloc, &mut entry.affiliated, persons)
+}
+
+// Appends to a list that begins with its first item.
+fn append<T: Drop>(alloc: Global, list: &mut Option<Vec<T>>, item: T) -> Result<(), AllocError>
+    ensures { OnOk result (option_map (λ v. v.items) list.new
+        ≡ appended (option_map (λ v. v.items) list.old) item) }
+{
+    list.get_or_insert(Vec::new(alloc)).push(item)?;
+    Ok(())
+}
+
+// Keeps the serial number under this key.
+fn set_number(alloc: Global, entry: &mut Entry, key: &str, value: &str) -> Result<(), LineFault>
+    ensures ok { OnOk result (Sets entry.old entry.new (with_number key.now value.now)) }
+    ensures fault { IfErr result (λ e. e ≡ LineFault.OutOfMemory) }
+{
+    entry.set_keyed_serial_number(key, String::from_str(alloc, value)?)?;
+    Ok(())
+}
+
+#[cfg(test)]
+mod tests;
