@@ -1,5 +1,8 @@
 pub mod Syntaxes
 mod Maps
+mod NameSets
+mod NodeLists
+mod Growth
 mod Pushes
 mod Equal
 pub mod Cuts

@@ -21,9 +21,12 @@ pub mod InWords
 pub mod ParentSide
 pub mod Assignment
 pub mod Query
+pub mod NameNumbers
 pub use Rattle.haya_entry.specs.EntryType
 pub use Rattle.haya_entry.specs.SerialNumber
 pub use Rattle.haya_entry.specs.Tree
 pub use Rattle.haya_entry.specs.Names
 pub use Rattle.haya_text.specs.Texts
+pub mod Compiled
+pub mod Nodes
 pub mod Evaluation
