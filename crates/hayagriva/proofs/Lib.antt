@@ -3,6 +3,7 @@ mod Maps
 mod NameSets
 mod NodeLists
 mod Growth
+mod CutBack
 mod Pushes
 mod Equal
 pub mod Cuts

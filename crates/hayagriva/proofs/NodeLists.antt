@@ -1,5 +1,5 @@
 -- Lists of nodes, and what their nodes stand for.
-use Rattle.std.proofs.Common.{◌≡◌, ◌<◌, ◌≤◌, ℕ, zero, suc, ◌+◌, Bool, true, false, List, [], ◌∷◌, ◌++◌, length, map, get_or, take, refl, sym, ap, ◌∙◌, arith}
+use Rattle.std.proofs.Common.{◌≡◌, ◌<◌, ◌≤◌, ℕ, zero, suc, ◌+◌, Bool, true, false, List, [], ◌∷◌, ◌++◌, length, map, get_or, take, drop, drop-cons, add-one, refl, sym, ap, ◌∙◌, arith}
 use Rattle.std.specs.Prelude.{◌&&◌, if◌then◌else◌, max, nat_lt, nat_le}
 use Rattle.std.specs.List.{fold}
 use Rattle.std.proofs.lemmas.Bool.Decides.{nat_tests}
@@ -9,7 +9,7 @@ use Rattle.std.proofs.Math.Seq.{get_or-append_seam}
 use Rattle.hayagriva.specs.declared.selectors.node.Node.{Node}
 use Rattle.hayagriva.specs.declared.selectors.node.Node.TheVariants as variant
 use Rattle.hayagriva.specs.Compiled.{node_syntax, name_of, syntax_in, with_node, node_syntaxes, above, fits, all_fit}
-use Rattle.hayagriva.specs.Syntax.{Syntax, Wildcard, Neg, Binding, Attr, Alt, Multi, Ancestrage, syntaxes}
+use Rattle.hayagriva.specs.Syntax.{Syntax, Wildcard, Neg, Binding, Attr, Alt, Multi, Ancestrage, more, syntaxes}
 
 both : (a b : Bool) → (a && b) ≡ true → (a ≡ true) × (b ≡ true)
 both true b h = (refl, h)
@@ -19,10 +19,15 @@ both false b h = absurd (cc)
 pub map_more : {X Y : Type 0} (f : X → Y) (xs : List X) (i : ℕ) (x : X) → i < length xs → x ≡ get_or xs i x → map f (take (i + 1) xs) ≡ map f (take i xs) ++ f x ∷ []
 map_more f xs i x h e = ap (map f) (take_more xs i x h ∙ ap (λ y. take i xs ++ y ∷ []) (sym e)) ∙ map-append f (take i xs) (x ∷ [])
 
-pub above_each : (ns : List ℕ) (i n : ℕ) → i < length ns → n ≡ get_or ns i n → n < above ns
-above_each [] i n h e = absurd (omega arith)
-above_each (m ∷ ns) zero n h e = omega (arith, e)
-above_each (m ∷ ns) (suc i) n h e = let later = above_each ns i n (omega arith) e in omega (arith, later)
+pub above_at : (ns : List ℕ) (i : ℕ) → i < length ns → get_or ns i 0 < above ns
+above_at [] i h = absurd (omega arith)
+above_at (m ∷ ns) zero h = omega arith
+above_at (m ∷ ns) (suc i) h = let later = above_at ns i (omega arith) in omega (arith, later)
+
+-- one member after another
+pub left_more : (f : ℕ → Syntax) (ns : List ℕ) (i : ℕ) → i < length ns
+    → syntaxes (map f (drop i ns)) ≡ more (f (get_or ns i 0)) (syntaxes (map f (drop (i + 1) ns)))
+left_more f ns i h = rw (drop-cons ns i 0 h, add-one) refl
 
 pub above_push : (ns : List ℕ) (n most : ℕ) → above ns ≤ most → n < most → above (ns ++ n ∷ []) ≤ most
 above_push [] n most h k = omega arith

@@ -29,4 +29,5 @@ pub use Rattle.haya_entry.specs.Names
 pub use Rattle.haya_text.specs.Texts
 pub mod Compiled
 pub mod Nodes
+pub mod Root
 pub mod Evaluation

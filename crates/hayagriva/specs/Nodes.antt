@@ -1,7 +1,7 @@
 -- A list of compiled nodes with the names of its slots, and how it grows.
 use Rattle.std.specs.Prelude.{◌≡◌, ◌<◌, ◌≤◌, ℕ, List, length, map, string_bytes}
 use Rattle.hayagriva.specs.Compiled.{name_of, node_syntaxes, syntax_in}
-use Rattle.hayagriva.specs.Syntax.{Syntax}
+use Rattle.hayagriva.specs.Syntax.{Syntax, Syntaxes, syntaxes}
 use Rattle.hayagriva.specs.declared.selectors.nodes.Nodes.{Nodes}
 
 -- how many nodes there are, and the names of the slots
@@ -14,6 +14,10 @@ slot_names nodes = map string_bytes nodes.names.items
 -- the selector that the node of a number stands for
 abbrev pub syntax_at : Nodes → ℕ → Syntax
 syntax_at nodes number = syntax_in (node_syntaxes (slot_names nodes) nodes.nodes.items) number
+
+-- those of numbers, as members of one
+abbrev pub members_at : Nodes → List ℕ → Syntaxes
+members_at nodes numbers = syntaxes (map (syntax_at nodes) numbers)
 
 -- what was there stays
 pub record Keeps (old new : Nodes) : Type 0 where

@@ -6,6 +6,7 @@ ghost use Rattle.hayagriva.specs.Reading.{IsRead, TextGives};
 
 mod apply;
 mod bindings;
+mod compiled;
 mod evaluate;
 mod names;
 mod node;
