@@ -83,18 +83,20 @@ module _ (set : ℕ) (unknown : Bool) (names : List (List ℕ)) (n : List ℕ) (
       let other = bit_at_set_other w32 set k f.0 in (
         λ h.
             let two = split x h in
-            let old = (stands x).0 two.0 in
-            (old.0, λ i small isin.
-                elim (cases_eq i k) [
-                  | inl s ↦ rw (s, f.1) two.1
-                  | inr apart ↦ old.1 i small (sym (other i apart) ∙ isin)
-                ]),
+            let old = (stands x).0 two.0 in (
+              old.0,
+              λ i small isin.
+                  elim (cases_eq i k) [
+                    | inl s ↦ rw (s, f.1) two.1
+                    | inr apart ↦ old.1 i small (sym (other i apart) ∙ isin)
+                  ],
+            ),
         λ h.
             let had : HasNumbers x set = λ i small isin.
-                elim (cases_eq i k) [
-                  | inl s ↦ h.1 i small (rw s same)
-                  | inr apart ↦ h.1 i small (other i apart ∙ isin)
-                ] in
+            elim (cases_eq i k) [
+              | inl s ↦ h.1 i small (rw s same)
+              | inr apart ↦ h.1 i small (other i apart ∙ isin)
+            ] in
             join x ((stands x).1 (h.0, had)) (ap (has_name x) (sym f.1) ∙ h.1 k f.0 same),
       )
 
@@ -130,11 +132,11 @@ module _ (a b : ℕ) (fits_a : a < 2 ^ 32) (fits_b : b < 2 ^ 32) where
   pub set_within : ((i : ℕ) → i < 32 → IsIn i a → IsIn i b) → bit_and a (bit_not w32 b) ≡ 0
   set_within h =
       same_from_bits_below 32 (bit_and a (bit_not w32 b)) 0 (omega (arith, and_le_l a (bit_not w32 b), fits_a)) (omega arith) (λ i small.
-          let n = bit_at_not w32 b i fits_b small in
-          bit_at_and a (bit_not w32 b) i ∙ (elim (cases_eq (bit_at a i) 1) [
-            | inl is ↦ omega (arith, is, h i small is, n)
-            | inr isnt ↦ omega (arith, isnt, bit_at-lt a i)
-          ]) ∙ sym (bit_at-zero i))
+      let n = bit_at_not w32 b i fits_b small in
+      bit_at_and a (bit_not w32 b) i ∙ (elim (cases_eq (bit_at a i) 1) [
+        | inl is ↦ omega (arith, is, h i small is, n)
+        | inr isnt ↦ omega (arith, isnt, bit_at-lt a i)
+      ]) ∙ sym (bit_at-zero i))
 
 same_bool : (a b : Bool) → (a ≡ true → b ≡ true) → (b ≡ true → a ≡ true) → a ≡ b
 same_bool true b f g = sym (f refl)
@@ -148,9 +150,9 @@ pub set_tells : (set : ℕ) (unknown : Bool) (names : List (List ℕ)) (x : Tree
 set_tells set unknown names x asked had f g known stands is all =
     same_bool (bit_and set (bit_not w32 had) == 0) (has_all names x)
     (λ h.
-        let zero : bit_and set (bit_not w32 had) ≡ 0 = grind (arith, nat_tests, h) in
-        (stands x).1 (known, λ i small isin. (is i small (all i small isin)).0 (within_set set had f g zero i small isin)))
+    let zero : bit_and set (bit_not w32 had) ≡ 0 = grind (arith, nat_tests, h) in
+    (stands x).1 (known, λ i small isin. (is i small (all i small isin)).0 (within_set set had f g zero i small isin)))
     (λ h.
-        let has = ((stands x).0 h).1 in
-        let zero = set_within set had f g (λ i small isin. (is i small (all i small isin)).1 (has i small isin)) in
-        grind (arith, nat_tests, zero))
+    let has = ((stands x).0 h).1 in
+    let zero = set_within set had f g (λ i small isin. (is i small (all i small isin)).1 (has i small isin)) in
+    grind (arith, nat_tests, zero))

@@ -86,7 +86,8 @@ impl<'e> Bindings<'e> {
         ensures { option_map (λ e. e.now) result ≡
             last_of name.now (named_pairs (slot_names nodes.now) self.now) }
     {
-        let pair = self.pairs.iter().rev().find(|pair| nodes.name(pair.0) == name);
+        let mut last_first = self.pairs.iter().rev();
+        let pair = last_first.find(|pair| nodes.name(pair.0) == name);
         pair.map(|pair| pair.1)
     }
 

@@ -18,7 +18,7 @@ add_all-members-preserved t c =
       keeps_then c.args.self.now a b inv.0 h.keeps,
       rw e (above_push numbers n (node_count b) (omega (arith, inv.1, h.keeps.count)) h.inside),
       ap (map (syntax_at b)) e ∙ map-append (syntax_at b) numbers (n ∷ [])
-      ∙ ap (λ l. l ++ syntax_at b n ∷ []) (keeps_all a b numbers h.keeps inv.1 ∙ inv.2)
-      ∙ ap (λ s. map syntax (take c.members.member-index c.args.members.now) ++ s ∷ []) h.stands
-      ∙ sym (map_more syntax c.args.members.now c.members.member-index c.member-item.result (omega arith) (search rules)),
+          ∙ ap (λ l. l ++ syntax_at b n ∷ []) (keeps_all a b numbers h.keeps inv.1 ∙ inv.2)
+          ∙ ap (λ s. map syntax (take c.members.member-index c.args.members.now) ++ s ∷ []) h.stands
+          ∙ sym (map_more syntax c.args.members.now c.members.member-index c.member-item.result (omega arith) (search rules)),
     )
