@@ -76,10 +76,12 @@ fn many_entries(rt: HostRuntime) {
         .expect(&rt, "memory");
     assert_eq!(rt; hits.len(), 150);
     drop(hits);
-    let query = library
+    let mut query = library
         .query_iter(rt.alloc(), "*[language]")
         .expect(&rt, "memory");
-    assert_eq!(rt; query.count(), 150);
+    assert!(rt; query.nth(149).is_some());
+    assert!(rt; query.next().is_none());
+    drop(query);
     drop(library);
 }
 
