@@ -17,7 +17,7 @@ mod Lasts
 mod Paths
 mod Rows
 pub mod Queries
-mod QueryRuns
+pub mod QueryRuns
 pub mod Runs
 pub mod Totals
 pub mod OneOutcome

@@ -1,6 +1,6 @@
 -- What calls of `next` have given: hits that begin the answer, and nothing behind an error.
-use Rattle.std.proofs.Common.{◌≡◌, ◌≢◌, List, [], ◌∷◌, ◌++◌, true, Option, None, Some, Result, Ok, Err, refl, sym, ap, ◌∙◌, subst, arith, append_assoc, inl, inr, ⊎_elim}
-use Rattle.std.specs.Prelude.{IfSome, sum_by}
+use Rattle.std.proofs.Common.{◌≡◌, ◌≢◌, List, [], ◌∷◌, ◌++◌, true, false, Option, None, Some, Result, Ok, Err, refl, sym, ap, ◌∙◌, subst, arith, append_assoc, inl, inr, ⊎_elim}
+use Rattle.std.specs.Prelude.{Bool, IfSome, filter, find, sum_by}
 use Rattle.std.specs.Iterator.{Yields}
 use Rattle.std.specs.List.{last_or}
 use Rattle.std.proofs.lemmas.List.Sums.{sum_by-append}
@@ -10,8 +10,10 @@ use Rattle.hayagriva.specs.declared.selectors.SelectorError.{SelectorError}
 use Rattle.hayagriva.specs.declared.selectors.SelectorError.TheVariants.{OutOfMemory}
 use Rattle.hayagriva.specs.Calls.{calls}
 use Rattle.hayagriva.specs.Holds.{holds}
-use Rattle.hayagriva.specs.QueryIter.{Asks, GivesHit, GivesNone, Stops, NextGives, GaveHits, GaveError, GaveAll, BeginsAnswer, EndsAnswer, StaysEnded}
+use Rattle.hayagriva.specs.QueryIter.{Asks, GivesHit, GivesNone, Stops, NextGives, GaveHits, GaveError, GaveAll, BeginsAnswer, EndsAnswer, StaysEnded, HitsInWords, EndInWords}
 use Rattle.hayagriva.specs.QueryState.{QueryState, query_state}
+use Rattle.hayagriva.specs.InWords.{picks, named_entry}
+use Rattle.hayagriva.proofs.InWords.{bound_to-named_entry, holds-picks, filter-same}
 use Rattle.hayagriva.proofs.Queries.{asks-none, asks-more, hits-append, hit-hits, all_hits}
 
 abbrev Given : Type 0
@@ -104,3 +106,28 @@ all_given q t r given h k =
 pub ends_answer : EndsAnswer
 ends_answer q r given h =
     ⊎_elim (λ k. inl (all_given q h.0 r given k h.2)) (λ k. inr (subst (GaveError q given) (sym (stands h.0 r k.ended h.2.asks)) k)) (begins_answer q h.0 given h.1)
+
+module _ (p : Tree → Bool) (z : Tree) (zs : List Tree) where
+  rest_misses : (b : Bool) → p z ≡ b → filter p (z ∷ zs) ≡ [] → filter p zs ≡ []
+  rest_misses true k e = let here : z ∷ filter p zs ≡ [] = rw k at e in absurd (cc)
+  rest_misses false k e = rw k at e
+
+  find_behind : (b : Bool) (x : Tree) (behind : List Tree) → p z ≡ b → filter p (z ∷ zs) ≡ [] → find p behind ≡ Some x → find p (z ∷ behind) ≡ Some x
+  find_behind true x behind k e h = let here : z ∷ filter p zs ≡ [] = rw k at e in absurd (cc)
+  find_behind false x behind k e h = rw k h
+
+find_past : (p : Tree → Bool) (xs ys : List Tree) (x : Tree) → filter p xs ≡ [] → p x ≡ true → find p ((xs ++ x ∷ []) ++ ys) ≡ Some x
+find_past p [] ys x e h = rw h refl
+find_past p (z ∷ zs) ys x e h = find_behind p z zs (p z) x ((zs ++ x ∷ []) ++ ys) refl e (find_past p zs ys x (rest_misses p z zs (p z) refl e) h)
+
+pub hits_in_words : HitsInWords
+hits_in_words q r hit h =
+    let s = q.selector in
+    let first = find_past (picks s) h.missed r.left h.entry (sym (filter-same (holds-picks s) h.missed) ∙ h.misses) (sym (holds-picks s h.entry) ∙ h.holding) in
+    record {
+      entry = ap (find (picks s)) h.asks.entries ∙ first ∙ ap Some (sym h.is.entry);
+      names = λ name. h.is.bindings.entries name ∙ bound_to-named_entry s name h.entry ∙ ap (named_entry s name) (sym h.is.entry);
+    }
+
+pub end_in_words : EndInWords
+end_in_words q r h = sym (filter-same (holds-picks q.selector) q.left) ∙ h.misses

@@ -1,5 +1,5 @@
 -- Hits one at a time: what a query gives next, and what it has given so far.
-use Rattle.std.specs.Prelude.{◌≡◌, ◌≢◌, ◌≤◌, ◌⊎◌, ℕ, ◌+◌, true, List, [], ◌∷◌, ◌++◌, IfSome, filter, map, sum_by, Option, None, Some, Result, Ok, Err}
+use Rattle.std.specs.Prelude.{◌≡◌, ◌≢◌, ◌≤◌, ◌⊎◌, ℕ, ◌+◌, true, List, [], ◌∷◌, ◌++◌, IfSome, filter, find, map, sum_by, Option, None, Some, Result, Ok, Err}
 use Rattle.std.specs.Iterator.{Yields, YieldsThen}
 use Rattle.std.specs.List.{last_or}
 use Rattle.haya_entry.specs.Tree.{Tree}
@@ -9,7 +9,8 @@ use Rattle.hayagriva.specs.declared.selectors.SelectorError.TheVariants.{OutOfMe
 use Rattle.hayagriva.specs.Calls.{calls}
 use Rattle.hayagriva.specs.Fault.{fault}
 use Rattle.hayagriva.specs.Holds.{holds}
-use Rattle.hayagriva.specs.Query.{IsHit, AreHits}
+use Rattle.hayagriva.specs.InWords.{picks, named_entry}
+use Rattle.hayagriva.specs.Query.{IsHit, AreHits, hit_entry, hit_bound}
 use Rattle.hayagriva.specs.QueryState.{QueryState, query_state}
 use Rattle.hayagriva.specs.Reading.{TextReads, TextFails}
 
@@ -96,3 +97,17 @@ EndsAnswer = (q r : QueryState) (given : List (Result Hit SelectorError)) → Yi
 -- where no entry is left, nothing comes for good
 abbrev pub StaysEnded : Type 0
 StaysEnded = (q r : QueryState) (o : Option (Result Hit SelectorError)) → q.left ≡ [] → NextGives q o r → (o ≡ None) × (r ≡ q)
+
+-- ---- the same in words of entries, for a selector that stands in the code
+
+-- a hit is that of the first entry left that is picked, and names stand there for what the selector says
+pub record GivesPicked (q : QueryState) (hit : Hit) : Type 0 where
+  pub entry : find (picks q.selector) q.left ≡ Some (hit_entry hit)
+  pub names : (name : List ℕ) → hit_bound hit name ≡ named_entry q.selector name (hit_entry hit)
+
+abbrev pub HitsInWords : Type 0
+HitsInWords = (q r : QueryState) (hit : Hit) → NextGives q (Some (Ok hit)) r → GivesPicked q hit
+
+-- no entry left is picked
+abbrev pub EndInWords : Type 0
+EndInWords = (q r : QueryState) → NextGives q None r → filter (picks q.selector) q.left ≡ []

@@ -11,7 +11,7 @@ ghost use Rattle.hayagriva.specs.Holds.{holds};
 ghost use Rattle.hayagriva.specs.InWords.{picks, named_entry};
 ghost use Rattle.hayagriva.specs.Library.{AreEqual};
 ghost use Rattle.hayagriva.specs.ParentSide.{HoldsAtNoParent, HoldsAtSomeParent, NamesChangeNoAnswer};
-ghost use Rattle.hayagriva.specs.QueryIter.{BeginsAnswer, EndsAnswer, StaysEnded};
+ghost use Rattle.hayagriva.specs.QueryIter.{BeginsAnswer, EndInWords, EndsAnswer, HitsInWords, StaysEnded};
 ghost use Rattle.hayagriva.specs.ReadingLaws.{IsComputed, OneCut, OneListOutcome, OneOutcome, OneReading};
 ghost use Rattle.hayagriva.specs.Spelling.{ReadAgain};
 ghost use Rattle.hayagriva.specs.Syntax.{Syntax, syntax};
@@ -92,6 +92,13 @@ pub fn hits_one_at_a_time()
     ensures begins { BeginsAnswer }
     ensures ends { EndsAnswer }
     ensures stays { StaysEnded }
+{}
+
+/// A query gives the first entry left that its selector picks, in words of entries, with what its names stand for;
+/// and nothing where none is left that it picks.
+pub fn hits_in_words()
+    ensures hit { HitsInWords }
+    ensures end { EndInWords }
 {}
 
 /// `==` of two libraries holds exactly where they have the same keys with equal entries, in whatever order.
