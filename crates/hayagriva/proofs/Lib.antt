@@ -21,6 +21,7 @@ mod Lasts
 mod Paths
 mod Rows
 pub mod Queries
+pub mod QueryRuns
 pub mod Runs
 pub mod Totals
 pub mod OneOutcome

@@ -21,6 +21,9 @@ pub mod InWords
 pub mod ParentSide
 pub mod Assignment
 pub mod Query
+pub mod SyntaxCode
+pub mod QueryState
+pub mod QueryIter
 pub mod NameNumbers
 pub use Rattle.haya_entry.specs.EntryType
 pub use Rattle.haya_entry.specs.SerialNumber

@@ -16,6 +16,8 @@ mod places;
 mod token;
 mod try_clone;
 
+pub(crate) use bindings::Bindings;
+pub(crate) use compiled::Compiled;
 use haya_entry::EntryType;
 use haya_text::OutOfMemory;
 use parse::expr;

@@ -42,6 +42,7 @@ impl Selector {
         ensures answer { IfOk result (Applied (syntax self.now) (view entry.now)) }
         ensures ticks { OnOk result
             (steps.new ≡ steps.old + calls (syntax self.now) (view entry.now)) }
+        ensures fewer { steps.new ≤ steps.old + calls (syntax self.now) (view entry.now) }
         ensures most { steps.new ≤ steps.old + nodes (syntax self.now) * size (view entry.now) }
     {
         let compiled = Compiled::new(alloc, self)?;
