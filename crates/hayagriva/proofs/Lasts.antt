@@ -3,11 +3,13 @@ use Rattle.std.proofs.Common.{Bor, ◌≡◌, ℕ, Bool, true, false, cond, List
 use Rattle.std.specs.Prelude.{find, is_some, option_and_then, option_map, reverse}
 use Rattle.std.specs.Str.{bytes_eq}
 use Rattle.std.proofs.lemmas.List.{reverse-append}
+use Rattle.std.proofs.lemmas.Simd.{map-map}
 use Rattle.indexmap.proofs.ReorderLemmas.{map-reverse}
 use Rattle.haya_entry.specs.declared.entry.Entry.{Entry}
 use Rattle.haya_entry.specs.Tree.{Tree, view, at}
 use Rattle.hayagriva.specs.Binds.{binds, bound_to, is_bound, last_of}
-use Rattle.hayagriva.specs.Evaluation.{EntryPairs, pair_entries, pairs_view}
+use Rattle.hayagriva.specs.Evaluation.{EntryPairs, named_pairs, pair_entries, pairs_view}
+use Rattle.hayagriva.specs.Compiled.{name_of}
 use Rattle.hayagriva.specs.Syntax.{Syntax}
 use Rattle.hayagriva.proofs.Maps.{ap-cond}
 
@@ -48,19 +50,21 @@ joined-map : {X Y : Type 0} (h : X → Option Y) (o : Option X) → option_and_t
 joined-map h None = refl
 joined-map h (Some x) = refl
 
-module _ (s : Syntax) (x : Tree) (found : EntryPairs) (q : List ℕ) (o : Option (Bor Entry)) (h : pairs_view found ≡ pair_entries (at x) (binds s x))
-    (e : option_map (λ e. e.now) o ≡ last_of q found) where
-  both : option_map (λ e. Some (view e)) (last_of q found) ≡ option_map (at x) (last_of q (binds s x))
-  both = sym (last_of-second q (λ e. Some (view e)) found) ∙ ap (last_of q) h ∙ last_of-second q (at x) (binds s x)
+module _ (s : Syntax) (x : Tree) (names : List (List ℕ)) (found : EntryPairs) (q : List ℕ) (o : Option (Bor Entry))
+    (h : pairs_view names found ≡ pair_entries (at x) (binds s x)) (e : option_map (λ e. e.now) o ≡ last_of q (named_pairs names found)) where
+  both : option_map (λ e. Some (view e)) (last_of q (named_pairs names found)) ≡ option_map (at x) (last_of q (binds s x))
+  both =
+      sym (last_of-second q (λ e. Some (view e)) (named_pairs names found))
+      ∙ ap (last_of q) (map-map (λ p. (p.0, Some (view p.1))) (λ p. (name_of names p.0, p.1)) found ∙ h) ∙ last_of-second q (at x) (binds s x)
 
   -- a name is found at an entry where it is bound there
   pub found_is_bound : is_some o ≡ is_bound s x q
   found_is_bound =
       sym (is_some-map (λ e. e.now) o) ∙ ap is_some e
-      ∙ sym (is_some-map (λ e. Some (view e)) (last_of q found)) ∙ ap is_some both ∙ is_some-map (at x) (last_of q (binds s x))
+      ∙ sym (is_some-map (λ e. Some (view e)) (last_of q (named_pairs names found))) ∙ ap is_some both ∙ is_some-map (at x) (last_of q (binds s x))
 
   -- the last of what was found at an entry is what the name is bound to there
   pub last_is_bound : option_map (λ e. view e.now) o ≡ bound_to s x q
   last_is_bound =
       sym (option_map-map view (λ e. e.now) o) ∙ ap (option_map view) e
-      ∙ sym (joined view (last_of q found)) ∙ ap (option_and_then (λ p. p)) both ∙ joined-map (at x) (last_of q (binds s x))
+      ∙ sym (joined view (last_of q (named_pairs names found))) ∙ ap (option_and_then (λ p. p)) both ∙ joined-map (at x) (last_of q (binds s x))

@@ -1,5 +1,9 @@
 pub mod Syntaxes
 mod Maps
+mod NameSets
+mod NodeLists
+mod Growth
+mod CutBack
 mod Pushes
 mod Equal
 pub mod Cuts
@@ -17,6 +21,7 @@ mod Lasts
 mod Paths
 mod Rows
 pub mod Queries
+pub mod QueryRuns
 pub mod Runs
 pub mod Totals
 pub mod OneOutcome

@@ -35,10 +35,3 @@ syntax-multi ss = ap syntax (sym (variant.rolls-Multi ss)) ∙ rolled (open'.Mul
 
 pub syntax-ancestrage : (l r : Box Selector Global) → syntax (variant.Ancestrage l r) ≡ Ancestrage (syntax l.value) (syntax r.value)
 syntax-ancestrage l r = ap syntax (sym (variant.rolls-Ancestrage l r)) ∙ rolled (open'.Ancestrage l r)
-
--- one member after another
-pub left_more : (members : List Selector) (i : ℕ) (m : Selector) → i < length members → m ≡ get_or members i m
-    → syntaxes (map syntax (drop i members)) ≡ more (syntax m) (syntaxes (map syntax (drop (i + 1) members)))
-left_more members i m h e =
-    let d : drop i members ≡ m ∷ drop (suc i) members = drop-cons members i m h ∙ ap (λ y. y ∷ drop (suc i) members) (sym e) in
-    rw (d, add-one) refl

@@ -21,6 +21,10 @@ pub mod InWords
 pub mod ParentSide
 pub mod Assignment
 pub mod Query
+pub mod SyntaxCode
+pub mod QueryState
+pub mod QueryIter
+pub mod NameNumbers
 pub use Rattle.haya_entry.specs.EntryType
 pub use Rattle.haya_entry.specs.SerialNumber
 pub use Rattle.haya_entry.specs.Tree
@@ -38,4 +42,7 @@ pub use Rattle.haya_time.specs.DurationReading
 pub use Rattle.haya_values.specs.MaybeTyped
 pub use Rattle.haya_values.specs.Publisher
 pub use Rattle.haya_values.specs.Url
+pub mod Compiled
+pub mod Nodes
+pub mod Root
 pub mod Evaluation

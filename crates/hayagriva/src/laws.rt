@@ -11,6 +11,7 @@ ghost use Rattle.hayagriva.specs.Holds.{holds};
 ghost use Rattle.hayagriva.specs.InWords.{picks, named_entry};
 ghost use Rattle.hayagriva.specs.Library.{AreEqual};
 ghost use Rattle.hayagriva.specs.ParentSide.{HoldsAtNoParent, HoldsAtSomeParent, NamesChangeNoAnswer};
+ghost use Rattle.hayagriva.specs.QueryIter.{BeginsAnswer, EndInWords, EndsAnswer, HitsInWords, StaysEnded};
 ghost use Rattle.hayagriva.specs.ReadingLaws.{IsComputed, OneCut, OneListOutcome, OneOutcome, OneReading};
 ghost use Rattle.hayagriva.specs.Spelling.{ReadAgain};
 ghost use Rattle.hayagriva.specs.Syntax.{Syntax, syntax};
@@ -83,6 +84,21 @@ pub fn greedy_finds()
 /// A name is bound, where a selector holds, to the entry that its words say.
 pub fn names_in_words()
     ensures { (s : Syntax) (name : List ℕ) (x : Tree) → bound_to s x name ≡ named_entry s name x }
+{}
+
+/// What a query gives one at a time begins the list of hits, and at its end is that list; where an allocation
+/// failed, an error follows a first part of it, and then nothing. Where no entry is left, nothing comes for good.
+pub fn hits_one_at_a_time()
+    ensures begins { BeginsAnswer }
+    ensures ends { EndsAnswer }
+    ensures stays { StaysEnded }
+{}
+
+/// A query gives the first entry left that its selector picks, in words of entries, with what its names stand for;
+/// and nothing where none is left that it picks.
+pub fn hits_in_words()
+    ensures hit { HitsInWords }
+    ensures end { EndInWords }
 {}
 
 /// `==` of two libraries holds exactly where they have the same keys with equal entries, in whatever order.

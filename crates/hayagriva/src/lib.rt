@@ -13,7 +13,7 @@ pub use bound_select::BoundSelect;
 pub use haya_entry::{Entry, Steps};
 pub use haya_text::{OutOfMemory, ReadFault, ReadText};
 pub use library::{Entries, IntoEntries, Keys, Library};
-pub use query::Hit;
+pub use query::{Hit, Query};
 pub use selectors::{Selector, SelectorError};
 
 /// The values that entries are made of.

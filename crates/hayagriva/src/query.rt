@@ -5,12 +5,19 @@ ghost use Rattle.haya_entry.specs.Tree.{size};
 ghost use Rattle.hayagriva.specs.declared.selectors.SelectorError.TheVariants.{OutOfMemory as OutOfMemoryError};
 ghost use Rattle.hayagriva.specs.Calls.{calls};
 ghost use Rattle.hayagriva.specs.Query.{AreHits, HitsAre, NameIs, QueryGives};
+ghost use Rattle.hayagriva.specs.QueryIter.{QueryStarts};
+ghost use Rattle.hayagriva.specs.QueryState.{query_state};
 ghost use Rattle.hayagriva.specs.Reading.{IfFails, IfReads};
 ghost use Rattle.hayagriva.specs.Syntax.{syntax, nodes};
 
+mod iter;
+
+use crate::selectors::{Bindings, Compiled};
 use crate::{Library, Selector, SelectorError};
 use haya_entry::{Entry, Steps};
 use haya_text::OutOfMemory;
+pub use iter::Query;
+use iter::next_hit;
 use std::alloc::Global;
 use std::collections::HashMap;
 
@@ -50,6 +57,23 @@ impl Library {
         Ok(hits)
     }
 
+    /// The same hits one at a time: each entry is evaluated when the hits before its place were
+    /// given and another is asked for, so a caller that stops early pays for no more. The query
+    /// counts its own steps.
+    ///
+    /// The text is read here: the error is the grammar's first fault where it is no selector, and
+    /// `OutOfMemory` else. No entry is evaluated yet.
+    pub fn query_iter(&self, alloc: Global, text: &str) -> Result<Query<'_>, SelectorError>
+        ensures starts { QueryStarts (chars text.now) self.now result }
+        ensures computed { IfOk result (λ query. IfReads (chars text.now)
+            (λ s. query ≡ query_state s self.now 0)) }
+        ensures error { IfErr result (λ e. IfReads (chars text.now) (λ _. e ≡ OutOfMemoryError)) }
+    {
+        let selector = Selector::parse(alloc, text)?;
+        let compiled = Compiled::new(alloc, &selector)?;
+        Ok(Query::new(alloc, compiled, self.iter()))
+    }
+
     // The entries where the selector holds.
     fn hits<'s>(
         &'s self,
@@ -62,11 +86,12 @@ impl Library {
             (steps.new ≡ steps.old + sum_by (calls (syntax selector.now)) self.now) }
         ensures most { steps.new ≤ steps.old + nodes (syntax selector.now) * sum_by size self.now }
     {
+        let compiled = Compiled::new(alloc, selector)?;
+        let mut found = Bindings::new(alloc);
         let mut hits = Vec::new(alloc);
-        'entries: for entry in self.iter() {
-            if let Some(bindings) = selector.apply_counted(alloc, entry, steps)? {
-                hits.push(Hit { entry, bindings })?;
-            }
+        let mut rest = self.iter();
+        'hits: while let Some(hit) = next_hit(alloc, &compiled, &mut rest, &mut found, steps)? {
+            hits.push(hit)?;
         }
         Ok(hits)
     }

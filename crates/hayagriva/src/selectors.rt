@@ -6,12 +6,18 @@ ghost use Rattle.hayagriva.specs.Reading.{IsRead, TextGives};
 
 mod apply;
 mod bindings;
+mod compiled;
 mod evaluate;
+mod names;
+mod node;
+mod nodes;
 mod parse;
 mod places;
 mod token;
 mod try_clone;
 
+pub(crate) use bindings::Bindings;
+pub(crate) use compiled::Compiled;
 use haya_entry::EntryType;
 use haya_text::OutOfMemory;
 use parse::expr;

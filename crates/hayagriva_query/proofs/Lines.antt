@@ -1,32 +1,27 @@
--- Lines of hits: one more of them, and what they say of the entries.
-use Rattle.std.proofs.Common.{◌≡◌, List, [], ◌∷◌, ◌++◌, ℕ, Option, None, Some, refl, ap, sym, ◌∙◌, append-nil}
-use Rattle.std.specs.Prelude.{filter, option_map}
+-- Lines that are printed one after another as a query gives its hits.
+use Rattle.std.proofs.Common.{◌≡◌, ◌≢◌, List, [], ◌∷◌, ◌++◌, ℕ, Option, None, Some, true, refl, ap, sym, ◌∙◌, append_assoc, append-nil, inl, inr, subst}
+use Rattle.std.proofs.KnownBytes.{Appends-kept, Appends-nil, Appends-trans}
+use Rattle.std.specs.Io.KnownBytes.{Appends, Keeps}
+use Rattle.std.specs.Prelude.{IfErr, Result, Ok, Err, filter, option_map}
 use Rattle.std.specs.List.{AllZip, concat, flat_map}
+use Rattle.std.proofs.lemmas.List.Elements.{filter-append}
 use Rattle.std.proofs.lemmas.List.Folds.{concat-append}
 use Rattle.hayagriva.specs.Holds.{holds}
 use Rattle.hayagriva.specs.Library.{key_of}
-use Rattle.hayagriva.specs.Query.{AreHits, IsHit}
+use Rattle.hayagriva.specs.Query.{IsHit}
+use Rattle.hayagriva.specs.QueryIter.{Asks, GivesHit, GivesNone}
+use Rattle.hayagriva.specs.QueryState.{QueryState}
 use Rattle.hayagriva.specs.Syntax.{Syntax}
 use Rattle.hayagriva.specs.Tree.{Tree, view}
 use Rattle.hayagriva.specs.declared.query.Hit.{Hit}
-use Rattle.hayagriva_query.specs.Output.{AreLines, AreLinesAt, IsLineAt, IsLineOf, binding_text}
-
-zip_more : {A B : Type 0} (R : A → B → Type 0) (xs : List A) (ys : List B) (x : A) (y : B) → AllZip R xs ys → R x y → AllZip R (xs ++ x ∷ []) (ys ++ y ∷ [])
-zip_more R [] [] x y h r = (r, tt)
-zip_more R [] (b ∷ more) x y h r = absurd h
-zip_more R (a ∷ rest) [] x y h r = absurd h
-zip_more R (a ∷ rest) (b ∷ more) x y h r = (h.0, zip_more R rest more x y h.1 r)
+use Rattle.hayagriva.proofs.Queries.{asks-none, asks-more}
+use Rattle.hayagriva_query.specs.Output.{AreLines, AreLinesAt, BeginsLineAt, IsLineAt, IsLineOf, PrintsPart, binding_text}
+use Rattle.hayagriva_query.specs.declared.fault.Fault.{Fault}
+use Rattle.hayagriva_query.specs.declared.fault.Fault.TheVariants.{CannotWrite}
 
 mapped_twice : {A B C : Type 0} (f : B → C) (g : A → B) (o : Option A) → option_map (λ x. f (g x)) o ≡ option_map f (option_map g o)
 mapped_twice f g None = refl
 mapped_twice f g (Some x) = refl
-
-pub one_more_line : (hits : List Hit) (printed : List ℕ) (hit : Hit) (line : List ℕ) → AreLines IsLineOf hits printed → IsLineOf hit line → AreLines IsLineOf (hits ++ hit ∷ []) (printed ++ line)
-one_more_line hits printed hit line h l = record {
-  lines = h.lines ++ line ∷ [];
-  each = zip_more IsLineOf hits h.lines hit line h.each l;
-  text = ap (λ b. b ++ line) h.text ∙ ap (λ b. concat h.lines ++ b) (sym (append-nil line)) ∙ sym (concat-append h.lines (line ∷ []));
-}
 
 -- the line of a hit is that of the entry
 line_at : (s : Syntax) (x : Tree) (hit : Hit) (line : List ℕ) → IsHit s x hit → IsLineOf hit line → IsLineAt s x line
@@ -37,13 +32,95 @@ line_at s x hit line h l = record {
   text = l.text ∙ ap (λ t. key_of t ++ flat_map binding_text l.names ++ 10 ∷ []) h.entry;
 }
 
-zip_lines : (s : Syntax) (xs : List Tree) (hits : List Hit) (lines : List (List ℕ)) → AllZip (IsHit s) xs hits → AllZip IsLineOf hits lines → AllZip (IsLineAt s) xs lines
-zip_lines s [] [] [] h l = tt
-zip_lines s [] [] (line ∷ lines) h l = absurd l
-zip_lines s [] (hit ∷ hits) lines h l = absurd h
-zip_lines s (x ∷ xs) [] lines h l = absurd h
-zip_lines s (x ∷ xs) (hit ∷ hits) [] h l = absurd l
-zip_lines s (x ∷ xs) (hit ∷ hits) (line ∷ lines) h l = (line_at s x hit line h.0 l.0, zip_lines s xs hits lines h.1 l.1)
+zip_more : {A B : Type 0} (R : A → B → Type 0) (xs : List A) (ys : List B) (x : A) (y : B) → AllZip R xs ys → R x y → AllZip R (xs ++ x ∷ []) (ys ++ y ∷ [])
+zip_more R [] [] x y h r = (r, tt)
+zip_more R [] (b ∷ more) x y h r = absurd h
+zip_more R (a ∷ rest) [] x y h r = absurd h
+zip_more R (a ∷ rest) (b ∷ more) x y h r = (h.0, zip_more R rest more x y h.1 r)
 
-pub lines_at : (s : Syntax) (library : List Tree) (hits : List Hit) (printed : List ℕ) → AreHits s library hits → AreLines IsLineOf hits printed → AreLinesAt s library printed
-lines_at s library hits printed h l = record { lines = l.lines; each = zip_lines s (filter (holds s) library) hits l.lines h l.each; text = l.text }
+one_more_line : (s : Syntax) (xs : List Tree) (printed : List ℕ) (x : Tree) (line : List ℕ) → AreLines (IsLineAt s) xs printed → IsLineAt s x line
+    → AreLines (IsLineAt s) (xs ++ x ∷ []) (printed ++ line)
+one_more_line s xs printed x line h l = record {
+  lines = h.lines ++ line ∷ [];
+  each = zip_more (IsLineAt s) xs h.lines x line h.each l;
+  text = ap (λ b. b ++ line) h.text ∙ ap (λ b. concat h.lines ++ b) (sym (append-nil line)) ∙ sym (concat-append h.lines (line ∷ []));
+}
+
+-- the lines of the entries that were asked so far are printed
+pub record Printed (q r : QueryState) (before after : Option (List ℕ)) : Type 0 where
+  pub asked : List Tree
+  pub printed : List ℕ
+  pub asks : Asks q asked r
+  pub shows : AreLinesAt q.selector asked printed
+  pub prints : Appends before after printed
+
+pub none_printed : (q : QueryState) (out : Option (List ℕ)) → Printed q q out out
+none_printed q out = record { asked = []; printed = []; asks = asks-none q; shows = record { lines = []; each = tt; text = refl }; prints = Appends-nil out }
+
+-- the entries that a hit took have that hit alone
+picked : (r : QueryState) (hit : Hit) (t : QueryState) (h : GivesHit r hit t) → filter (holds r.selector) (h.missed ++ h.entry ∷ []) ≡ h.entry ∷ []
+picked r hit t h = rw (filter-append (holds r.selector) h.missed (h.entry ∷ []), h.misses, h.holding) refl
+
+module _ (q r : QueryState) (before mid after : Option (List ℕ)) (p : Printed q r before mid) where
+  -- the hits that are left are behind those whose lines are printed
+  parts : filter (holds q.selector) q.left ≡ filter (holds q.selector) p.asked ++ filter (holds q.selector) r.left
+  parts = ap (filter (holds q.selector)) p.asks.entries ∙ filter-append (holds q.selector) p.asked r.left
+
+  pub one_printed : (hit : Hit) (t : QueryState) (line : List ℕ) → GivesHit r hit t → IsLineOf hit line → Appends mid after line → Printed q t before after
+  one_printed hit t line h l w =
+      let s = q.selector in
+      let taken = h.missed ++ h.entry ∷ [] in
+      let at_entry : IsLineAt s h.entry line = rw p.asks.selector at (line_at r.selector h.entry hit line h.is l) in
+      let one : filter (holds s) taken ≡ h.entry ∷ [] = rw p.asks.selector at (picked r hit t h) in
+      record {
+        asked = p.asked ++ taken;
+        printed = p.printed ++ line;
+        asks = asks-more q r t p.asked taken p.asks h.asks;
+        shows = rw (filter-append (holds s) p.asked taken, one) (one_more_line s (filter (holds s) p.asked) p.printed h.entry line p.shows at_entry);
+        prints = Appends-trans before mid after p.printed line p.prints w;
+      }
+
+  pub all_printed : (t : QueryState) → GivesNone r t → Keeps mid after → (printed : List ℕ) × AreLinesAt q.selector q.left printed × Appends before after printed
+  all_printed t h k =
+      let none : filter (holds q.selector) r.left ≡ [] = rw p.asks.selector at h.misses in
+      let whole : filter (holds q.selector) p.asked ≡ filter (holds q.selector) q.left = sym (parts ∙ ap (λ xs. filter (holds q.selector) p.asked ++ xs) none ∙ append-nil _) in
+      (p.printed, rw whole at p.shows, Appends-kept before mid after p.printed p.prints k)
+
+  -- a fault comes before the next line is handed on
+  pub part_printed : (fault : Fault) → Keeps mid after → PrintsPart q.selector q.left before after fault
+  part_printed fault k = record {
+    first = filter (holds q.selector) p.asked;
+    rest = filter (holds q.selector) r.left;
+    printed = p.printed;
+    piece = [];
+    parts = parts;
+    shows = p.shows;
+    whole = λ _. refl;
+    begins = inl refl;
+    prints = Appends-kept before mid after _ (rw append-nil p.prints) k;
+  }
+
+  -- the line of a hit is handed on, and a piece of it is taken
+  pub piece_printed : (hit : Hit) (t : QueryState) (piece behind : List ℕ) → GivesHit r hit t → IsLineOf hit (piece ++ behind) → Appends mid after piece
+      → PrintsPart q.selector q.left before after CannotWrite
+  piece_printed hit t piece behind h l w =
+      let s = q.selector in
+      let at_entry : IsLineAt s h.entry (piece ++ behind) = rw p.asks.selector at (line_at r.selector h.entry hit (piece ++ behind) h.is l) in
+      let one : filter (holds s) (h.missed ++ h.entry ∷ []) ≡ h.entry ∷ [] = rw p.asks.selector at (picked r hit t h) in
+      let left : filter (holds s) r.left ≡ h.entry ∷ filter (holds s) t.left = ap (filter (holds s)) h.asks.entries ∙ filter-append (holds s) (h.missed ++ h.entry ∷ []) t.left ∙ ap (λ xs. xs ++ filter (holds s) t.left) one in
+      record {
+        first = filter (holds s) p.asked;
+        rest = filter (holds s) r.left;
+        printed = p.printed;
+        piece = piece;
+        parts = parts;
+        shows = p.shows;
+        whole = λ other. absurd (other refl);
+        begins = inr (rw left (behind, at_entry));
+        prints = Appends-trans before mid after p.printed piece p.prints w;
+      }
+
+-- what is true of each fault is true of a run's, if it has one
+pub at_any_fault : {T E : Type 0} (r : Result T E) (P : E → Type 0) → ((e : E) → P e) → IfErr r P
+at_any_fault (Ok a) P h = tt
+at_any_fault (Err e) P h = h e

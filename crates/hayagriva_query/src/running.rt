@@ -2,15 +2,15 @@
 ghost use Rattle.std.specs.Prelude.{◌≡◌, ◌≢◌, ◌≤◌, length, slice_get, string_bytes, IfErr, IfSome, IsErrOf, OnOk};
 ghost use Rattle.std.specs.Io.KnownBytes.{Keeps};
 ghost use Rattle.std.specs.Process.{exit_status};
+ghost use Rattle.hayagriva_query.specs.declared.fault.Fault.{Fault as FaultData};
 ghost use Rattle.hayagriva_query.specs.declared.fault.Fault.TheVariants.{Usage};
-ghost use Rattle.hayagriva_query.specs.Output.{Answers, KeepsAtFault};
+ghost use Rattle.hayagriva_query.specs.Output.{Answers, KeepsAtFault, Stands};
 ghost use Rattle.hayagriva_query.specs.Words.{IsStatus, words_of};
 
 use crate::fault::Fault;
 use crate::library_text::read_library;
 use crate::printing::print_hits;
 use crate::reading::read_all;
-use hayagriva::Steps;
 use std::alloc::Global;
 use std::io::{Read, Write};
 use std::process::ExitCode;
@@ -32,6 +32,9 @@ pub fn run_given<R: Read, W: Write, E: Write>(
     ensures silent { length (words_of given) ≢ 1 → Keeps (W.contents out.old) (W.contents out.new) }
     ensures unread { length (words_of given) ≢ 1
         → Keeps (R.remaining input.old) (R.remaining input.new) }
+    ensures stands { exit_status result ≢ 0 → IfSome (slice_get (words_of given) 0) (λ word.
+        (fault : FaultData) × Stands (string_bytes word) (R.remaining input.old)
+        (R.remaining input.new) (W.contents out.old) (W.contents out.new) fault) }
     ensures kept { IfSome (slice_get (words_of given) 0) (λ word. KeepsAtFault (string_bytes word)
         (R.remaining input.old) (W.contents out.old) (W.contents out.new)) }
 {
@@ -58,6 +61,9 @@ pub fn run<R: Read, W: Write, E: Write>(
     ensures other { length words.now ≡ 1 → result ≤ 1 }
     ensures silent { length words.now ≢ 1 → Keeps (W.contents out.old) (W.contents out.new) }
     ensures unread { length words.now ≢ 1 → Keeps (R.remaining input.old) (R.remaining input.new) }
+    ensures stands { result ≢ 0 → IfSome (slice_get words.now 0) (λ word.
+        (fault : FaultData) × Stands (string_bytes word) (R.remaining input.old)
+        (R.remaining input.new) (W.contents out.old) (W.contents out.new) fault) }
     ensures kept { IfSome (slice_get words.now 0) (λ word. KeepsAtFault (string_bytes word)
         (R.remaining input.old) (W.contents out.old) (W.contents out.new)) }
 {
@@ -78,7 +84,7 @@ fn complain<E: Write>(fault: &Fault, err: &mut E) -> u8
     fault.status()
 }
 
-// Reads the library, asks it, and prints the hits.
+// Reads the library, asks it, and prints the hits as they come.
 fn answer<R: Read, W: Write>(
     alloc: Global,
     words: &[String],
@@ -92,6 +98,9 @@ fn answer<R: Read, W: Write>(
     ensures other { length words.now ≡ 1 → IfErr result (λ e. e ≢ Usage) }
     ensures silent { length words.now ≢ 1 → Keeps (W.contents out.old) (W.contents out.new) }
     ensures unread { length words.now ≢ 1 → Keeps (R.remaining input.old) (R.remaining input.new) }
+    ensures stands { IfErr result (λ e. IfSome (slice_get words.now 0) (λ word.
+        Stands (string_bytes word) (R.remaining input.old) (R.remaining input.new)
+        (W.contents out.old) (W.contents out.new) e)) }
     ensures kept { IfSome (slice_get words.now 0) (λ word. KeepsAtFault (string_bytes word)
         (R.remaining input.old) (W.contents out.old) (W.contents out.new)) }
 {
@@ -103,8 +112,8 @@ fn answer<R: Read, W: Write>(
         return Err(Fault::NotText);
     };
     let library = read_library(alloc, text)?;
-    let hits = library.query(alloc, selector.as_str(), &mut Steps::new())?;
-    print_hits(alloc, hits.as_slice(), out)
+    let mut hits = library.query_iter(alloc, selector.as_str())?;
+    print_hits(alloc, &mut hits, out)
 }
 
 #[cfg(test)]

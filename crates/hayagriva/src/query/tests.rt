@@ -1,6 +1,6 @@
 //! Queries at worked rows.
 use crate::works::{below, english, entry, string};
-use crate::{Hit, Library, SelectorError};
+use crate::{Hit, Library, Query, SelectorError};
 use haya_entry::{EntryType, Steps};
 use haya_text::OutOfMemory;
 use std::alloc::Global;
@@ -76,6 +76,12 @@ fn many_entries(rt: HostRuntime) {
         .expect(&rt, "memory");
     assert_eq!(rt; hits.len(), 150);
     drop(hits);
+    let mut query = library
+        .query_iter(rt.alloc(), "*[language]")
+        .expect(&rt, "memory");
+    assert!(rt; query.nth(149).is_some());
+    assert!(rt; query.next().is_none());
+    drop(query);
     drop(library);
 }
 
@@ -122,5 +128,60 @@ fn counts_the_calls_on_parents(rt: HostRuntime) {
     assert_eq!(rt; hits.len(), 1);
     drop(hits);
     assert_eq!(rt; steps.seen(), 10);
+    drop(library);
+}
+
+// The key of the next hit, or nothing.
+fn next_key<'s>(rt: &impl Abort, query: &mut Query<'s>) -> Option<&'s str> {
+    let hit = query.next()?.expect(rt, "memory");
+    let key = hit.entry.key();
+    drop(hit);
+    Some(key)
+}
+
+#[test]
+fn takes_one_hit(rt: HostRuntime) {
+    let library = articles(&rt);
+    let mut query = library.query_iter(rt.alloc(), "*").expect(&rt, "memory");
+    assert_eq!(rt; query.steps().seen(), 0);
+    assert_eq!(rt; next_key(&rt, &mut query), Some("dependence"));
+    assert_eq!(rt; query.steps().seen(), 1);
+    drop(query);
+    let again = answer(&rt, &library, "*");
+    assert_eq!(rt; again.as_str(), "dependence feminism ");
+    drop(library);
+}
+
+// Selectors, the keys of their hits in turn, and the steps up to the last hit and in all.
+const TURNS: &[(&str, &[&str], u64, u64)] = &[
+    ("*", &["dependence", "feminism"], 2, 2),
+    ("article > blog", &["feminism"], 8, 8),
+    ("* > periodical", &["dependence"], 4, 8),
+    ("book", &[], 0, 2),
+];
+
+#[test]
+fn gives_nothing_after_the_end(rt: HostRuntime) {
+    let library = articles(&rt);
+    for (text, keys, up_to_last, all) in TURNS {
+        let mut query = library.query_iter(rt.alloc(), *text).expect(&rt, "memory");
+        for key in *keys {
+            assert_eq!(rt; next_key(&rt, &mut query), Some(*key), "{text}");
+        }
+        assert_eq!(rt; query.steps().seen(), *up_to_last, "{text}");
+        assert_eq!(rt; next_key(&rt, &mut query), None, "{text}");
+        assert_eq!(rt; next_key(&rt, &mut query), None, "{text}");
+        assert_eq!(rt; query.steps().seen(), *all, "{text}");
+        drop(query);
+    }
+    drop(library);
+}
+
+#[test]
+fn refuses_a_text(rt: HostRuntime) {
+    let library = articles(&rt);
+    let fault = library.query_iter(rt.alloc(), "book[");
+    assert!(rt; matches!(fault, Err(SelectorError::MalformedAttribute)));
+    drop(fault);
     drop(library);
 }

@@ -10,7 +10,7 @@ ghost use Rattle.hayagriva.specs.Syntax.{syntax, nodes};
 
 use super::Selector;
 use super::bindings::Bindings;
-use super::evaluate::holds_at;
+use super::compiled::Compiled;
 use haya_entry::{Entry, Steps};
 use haya_text::OutOfMemory;
 use std::alloc::Global;
@@ -33,7 +33,6 @@ impl Selector {
     /// The same, with a tick for each call of the evaluator, one for a form of the selector at an
     /// entry, or a list of parents, that it is asked of: never more than the selector has forms times
     /// the entry has entries.
-    #[tactic(auto, using(crate::proofs::Bounds::calls_at_most))]
     pub fn apply_counted<'e>(
         &self,
         alloc: Global,
@@ -43,22 +42,19 @@ impl Selector {
         ensures answer { IfOk result (Applied (syntax self.now) (view entry.now)) }
         ensures ticks { OnOk result
             (steps.new ≡ steps.old + calls (syntax self.now) (view entry.now)) }
+        ensures fewer { steps.new ≤ steps.old + calls (syntax self.now) (view entry.now) }
         ensures most { steps.new ≤ steps.old + nodes (syntax self.now) * size (view entry.now) }
     {
-        let mut found = Bindings::new(alloc);
-        if holds_at(self, alloc, entry, &mut found, steps)? {
-            Ok(Some(found.to_map(alloc)?))
-        } else {
-            Ok(None)
-        }
+        let compiled = Compiled::new(alloc, self)?;
+        compiled.apply(alloc, entry, &mut Bindings::new(alloc), steps)
     }
 
     /// Whether the selector holds at an entry. The only error is `OutOfMemory`.
     pub fn matches(&self, alloc: Global, entry: &Entry) -> Result<bool, OutOfMemory>
         ensures { IfOk result (λ b. b ≡ holds_for (syntax self.now) (view entry.now)) }
     {
-        let mut found = Bindings::new(alloc);
-        holds_at(self, alloc, entry, &mut found, &mut Steps::new())
+        let compiled = Compiled::new(alloc, self)?;
+        compiled.holds(alloc, entry, &mut Bindings::new(alloc), &mut Steps::new())
     }
 
     /// The entry that a name was bound to last at an entry. `None` where the selector doesn't hold
@@ -72,12 +68,8 @@ impl Selector {
         ensures { IfOk result (λ o.
             entry_value o ≡ bound_select (syntax self.now) (view entry.now) name.now) }
     {
-        let mut found = Bindings::new(alloc);
-        if holds_at(self, alloc, entry, &mut found, &mut Steps::new())? {
-            Ok(found.last(name))
-        } else {
-            Ok(None)
-        }
+        let compiled = Compiled::new(alloc, self)?;
+        compiled.bound(alloc, entry, name)
     }
 }
 

@@ -1,22 +1,15 @@
 //! Places of parents: all of them, those that have names, those that are taken.
-ghost use Rattle.std.specs.Prelude.{◌≡◌, ◌==◌, ℕ, false, map, option_map, string_bytes};
+ghost use Rattle.std.specs.Prelude.{◌≡◌, ◌==◌, ℕ, false, option_map};
 ghost use Rattle.std.specs.List.{list_any};
-ghost use Rattle.haya_entry.specs.Names.{has_all as all_had};
-ghost use Rattle.haya_entry.specs.Tree.{view};
+ghost use Rattle.haya_entry.specs.Names.{has_all};
 ghost use Rattle.hayagriva.specs.Evaluation.{GivesPlaces, views};
 ghost use Rattle.hayagriva.specs.Holds.{some_places, kept_places};
 ghost use Rattle.hayagriva.specs.Places.{places, at_place};
 
+use super::names::NameSet;
 use haya_entry::Entry;
 use haya_text::OutOfMemory;
 use std::alloc::Global;
-
-// Whether the entry has every name.
-pub(crate) fn has_all(entry: &Entry, names: &[String]) -> bool
-    ensures { result ≡ all_had (map string_bytes names.now) (view entry.now) }
-{
-    names.iter().all(|name| entry.has(name.as_str()))
-}
 
 // The places, or none where there are no places.
 fn if_any(places: Vec<usize>) -> Option<Vec<usize>>
@@ -42,12 +35,12 @@ pub(crate) fn all_places(
 // The candidates that have every name, or none where no candidate does. Where there are no
 // candidates, nothing is tested.
 pub(crate) fn kept_places(
-    names: &[String],
+    names: &NameSet,
     parents: &[Entry],
     candidates: Vec<usize>,
 ) -> Option<Vec<usize>>
     ensures { option_map (λ v. v.items) result ≡
-        kept_places (map string_bytes names.now) (views parents.now) candidates.items }
+        kept_places names.now (views parents.now) candidates.items }
 {
     if candidates.is_empty() {
         return Some(candidates);
@@ -58,12 +51,12 @@ pub(crate) fn kept_places(
 }
 
 // Whether there is a parent at the place, with every name.
-fn has_all_at(names: &[String], parents: &[Entry], place: usize) -> bool
+fn has_all_at(names: &NameSet, parents: &[Entry], place: usize) -> bool
     ensures { result ≡
-        at_place false (all_had (map string_bytes names.now)) (views parents.now) place }
+        at_place false (has_all names.now) (views parents.now) place }
 {
     match parents.get(place) {
-        Some(parent) => has_all(parent, names),
+        Some(parent) => names.is_had(parent),
         None => false,
     }
 }

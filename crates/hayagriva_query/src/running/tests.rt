@@ -362,50 +362,97 @@ fn says_that_it_cannot_read(rt: HostRuntime) {
     }
 }
 
-// What all hits of the small library are printed as.
-const WHOLE: &[u8] = b"paper\nnote\n";
+// What all entries of a library are printed as.
+const WHOLE: &[(&[u8], &[u8])] = &[
+    (SMALL, b"paper\nnote\n"),
+    (ARTICLES, b"dependence\nfeminism\n"),
+];
 
-// Whether a run prints only so many bytes of it, and complains.
-fn stops_at(rt: &(impl Abort + AllocGlobal), room: usize, recovers: bool) -> bool {
-    let words = texts(rt, &["*"]);
-    let (mut input, mut err) = (SMALL, Vec::new(rt.alloc()));
-    let mut out = FailingWriter {
+// A writer with so much room, that takes so much a write.
+fn writer(rt: &(impl Abort + AllocGlobal), room: usize, step: usize) -> FailingWriter {
+    FailingWriter {
         taken: Vec::new(rt.alloc()),
+        step,
         room,
-        recovers,
-        // with room for all, it is the flush that fails
-        stuck: room == WHOLE.len(),
-    };
+        recovers: false,
+        flickers: false,
+        interrupted: false,
+        stuck: false,
+    }
+}
+
+// What a run with `*` that prints into the writer leaves.
+fn run_into(rt: &(impl Abort + AllocGlobal), mut input: &[u8], mut out: FailingWriter) -> Ended {
+    let words = texts(rt, &["*"]);
+    let mut err = Vec::new(rt.alloc());
     let status = run(rt.alloc(), words.as_slice(), &mut input, &mut out, &mut err);
-    let same = status == 1
-        && WHOLE.get(..room) == Some(out.taken.as_slice())
-        && err.as_slice() == b"cannot write\n".as_slice();
     drop(words);
-    drop(out);
-    drop(err);
+    Ended {
+        status,
+        printed: out.taken,
+        complaint: err,
+    }
+}
+
+// Whether a run into the writer prints just these bytes, and complains.
+fn stops_at(
+    rt: &(impl Abort + AllocGlobal),
+    input: &[u8],
+    out: FailingWriter,
+    printed: &[u8],
+) -> bool {
+    let end = run_into(rt, input, out);
+    let same = end.status == 1
+        && end.printed.as_slice() == printed
+        && end.complaint.as_slice() == b"cannot write\n".as_slice();
+    drop(end);
     same
 }
 
 #[test]
 fn says_that_it_cannot_write(rt: HostRuntime) {
-    for room in 0..WHOLE.len() + 1 {
-        assert!(rt; stops_at(&rt, room, false), "{room}");
-        assert!(rt; stops_at(&rt, room, true), "{room}");
+    for (input, whole) in WHOLE {
+        for room in 0..whole.len() + 1 {
+            for recovers in [false, true] {
+                let mut out = writer(&rt, room, usize::MAX);
+                out.recovers = recovers;
+                // with room for all, it is the flush that fails
+                out.stuck = room == whole.len();
+                let printed = whole.get(..room).unwrap_or(&[]);
+                assert!(rt; stops_at(&rt, *input, out, printed), "{room}");
+            }
+        }
+    }
+}
+
+#[test]
+fn keeps_a_line_where_the_next_cannot_be_written(rt: HostRuntime) {
+    let out = writer(&rt, 11, usize::MAX);
+    assert!(rt; stops_at(&rt, ARTICLES, out, b"dependence\n"));
+}
+
+#[test]
+fn writes_piece_after_piece(rt: HostRuntime) {
+    for step in [1, 4, 11] {
+        for flickers in [false, true] {
+            let mut out = writer(&rt, usize::MAX, step);
+            out.flickers = flickers;
+            let end = run_into(&rt, ARTICLES, out);
+            assert_eq!(rt; (end.status, end.complaint.len()), (0, 0), "{step}");
+            assert!(rt;
+                end.printed.as_slice() == b"dependence\nfeminism\n".as_slice(),
+                "{step}"
+            );
+            drop(end);
+        }
     }
 }
 
 // The status of a run that can't complain.
 fn silent_status(rt: &(impl Abort + AllocGlobal), words: &[&str], mut input: &[u8]) -> u8 {
     let words = texts(rt, words);
-    let (mut out, mut err) = (
-        Vec::new(rt.alloc()),
-        FailingWriter {
-            taken: Vec::new(rt.alloc()),
-            room: 3,
-            recovers: false,
-            stuck: true,
-        },
-    );
+    let (mut out, mut err) = (Vec::new(rt.alloc()), writer(rt, 3, usize::MAX));
+    err.stuck = true;
     let status = run(rt.alloc(), words.as_slice(), &mut input, &mut out, &mut err);
     drop(words);
     drop(out);

@@ -108,6 +108,28 @@ const ON_PARENTS: &[(&str, &[Work], &str)] = &[
         &[Work::Blog, Work::WebInEnglish],
         "yes",
     ),
+    (
+        "a:(*[nothing] | b:article) > c:*",
+        &[Work::Periodical],
+        "article",
+    ),
+    (
+        "b:(*[nothing] | a:article) > c:*",
+        &[Work::Periodical],
+        "article",
+    ),
+    (
+        "b:(*[nothing] | c:article) > a:*",
+        &[Work::Periodical],
+        "periodical",
+    ),
+    ("(a:article > blog) | b:article", &[Work::Periodical], "yes"),
+    (
+        "(b:article > blog) | a:article",
+        &[Work::Periodical],
+        "article",
+    ),
+    ("(a:article > blog) | b:article", &[Work::Blog], "article"),
     ("article & article", &[], "no"),
     ("a:article[language]", &[], "no"),
     ("a:*", &[Work::Blog], "article"),
@@ -128,6 +150,9 @@ const WITHOUT_PARENTS: &[(&str, Work, &str)] = &[
     ("!book[language]", Work::Article, "no"),
     ("!book[language]", Work::BookInEnglish, "no"),
     ("article | blog", Work::WebInEnglish, "no"),
+    ("*[language, nothing]", Work::WebInEnglish, "no"),
+    ("*[nothing, language]", Work::WebInEnglish, "no"),
+    ("*[language, ]", Work::WebInEnglish, "yes"),
 ];
 
 #[test]

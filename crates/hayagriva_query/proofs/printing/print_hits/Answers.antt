@@ -1,18 +1,29 @@
-use Rattle.std.proofs.Common.{◌≡◌, get_or, ap, sym, ◌∙◌, rules, take, ◌++◌, ◌∷◌, []}
-use Rattle.std.proofs.KnownBytes.{Appends-trans}
-use Rattle.std.proofs.lemmas.List.{take_more}
-use Rattle.std.specs.Io.KnownBytes.{Appends}
-use Rattle.std.specs.Prelude.{string_bytes}
-use Rattle.hayagriva_query.proofs.Lines.{one_more_line}
+use Rattle.std.proofs.Common.{◌≡◌, ◌++◌, sym, ◌∙◌, subst}
+use Rattle.std.proofs.KnownBytes.{Keeps-refl}
+use Rattle.std.proofs.lemmas.Result.{err_from_is_err_and}
+use Rattle.hayagriva_query.specs.Output.{IsLineOf}
+use Rattle.hayagriva_query.proofs.Lines.{none_printed, one_printed, part_printed, piece_printed, at_any_fault}
 use Rattle.hayagriva_query.proofs.printing.print_hits.Goals as goal
 
-pub loop-hit-preserved : goal.loop-hit-preserved
-loop-hit-preserved g c =
-    let hits = c.args.hits.now in
-    let inv = c.loop-hit.invariant in
-    let hit = c.hit-item.result in
-    let line = string_bytes c.in_ok-line.line in
-    let here : hit ≡ get_or hits c.loop-hit.hit-index hit = search rules in
-    let more = take_more hits c.loop-hit.hit-index hit (search rules) ∙ ap (λ y. take c.loop-hit.hit-index hits ++ y ∷ []) (sym here) in
-    let written : Appends (g.W.Write.contents c.loop-hit.out) (g.W.Write.contents c.write_all.new.self) line = search rules in
-    (inv.0 ++ line, rw more (one_more_line (take c.loop-hit.hit-index hits) inv.0 hit line inv.1 c.in_ok-line.ensures.line), Appends-trans _ _ _ inv.0 line inv.2 written)
+pub hits-init : goal.hits-init
+hits-init g c = rw c.into_iter-hit-iterator.ensures.into_iter_gives (none_printed _ _)
+
+pub returns-in_err-hit-clause-part : goal.returns-in_err-hit-clause-part
+returns-in_err-hit-clause-part g c = at_any_fault c.from_residual.result _ (λ fault. part_printed _ _ _ _ _ c.hits.invariant fault (Keeps-refl _))
+
+pub returns-in_err-compose-clause-part : goal.returns-in_err-compose-clause-part
+returns-in_err-compose-clause-part g c = at_any_fault c.from_residual-in_err-compose.result _ (λ fault. part_printed _ _ _ _ _ c.hits.invariant fault (Keeps-refl _))
+
+pub hits-preserved : goal.hits-preserved
+hits-preserved g c =
+    one_printed _ _ _ _ _ c.hits.invariant c.in_ok-hit.field-0 _ _ (rw c.in_ok-hit.was at c.in-Some.ensures.steps) c.in_ok-compose.ensures.line (rw c.as_bytes.ensures.value at c.in_ok-write_line.ensures.written)
+
+pub returns-in_err-write_line-clause-part : goal.returns-in_err-write_line-clause-part
+returns-in_err-write_line-clause-part g c =
+    let p = err_from_is_err_and c.from_residual-in_err-write_line.result c.from_residual-in_err-write_line.ensures.1 in
+    let (piece, behind, line, taken) = c.in_err-write_line.ensures.begun in
+    rw (p.1, p.2, c.in_err-write_line.ensures.fault)
+    (piece_printed _ _ _ _ _ c.hits.invariant c.in_ok-hit.field-0 _ piece behind (rw c.in_ok-hit.was at c.in-Some.ensures.steps) (subst (IsLineOf c.in_ok-hit.field-0) (sym c.as_bytes.ensures.value ∙ line) c.in_ok-compose.ensures.line) taken)
+
+pub returns-clause-part : goal.returns-clause-part
+returns-clause-part g c = part_printed _ _ _ _ _ c.hits.invariant _ c.in-Err.ensures.bytes

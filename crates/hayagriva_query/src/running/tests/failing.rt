@@ -30,25 +30,33 @@ impl Read for FailingReader<'_> {
     }
 }
 
-/// Takes `room` bytes, and then fails, once or each time. Where `stuck` is set, it can't be
+/// Takes `room` bytes, at most `step` a write, and then fails, once or each time. Where `flickers`
+/// is set, every second write is interrupted and takes nothing; where `stuck` is set, it can't be
 /// flushed.
 #[derive(Drop)]
 pub struct FailingWriter {
     pub taken: Vec<u8>,
+    pub step: usize,
     pub room: usize,
     pub recovers: bool,
+    pub flickers: bool,
+    pub interrupted: bool,
     pub stuck: bool,
 }
 
 impl Write for FailingWriter {
     fn write(&mut self, buf: &[u8]) -> io::Result<usize> {
+        self.interrupted = self.flickers && !self.interrupted;
+        if self.interrupted {
+            return Err(io::Error::from(io::ErrorKind::Interrupted));
+        }
         if self.room == 0 {
             if self.recovers {
                 self.room = usize::MAX;
             }
             return Err(io::Error::from(io::ErrorKind::BrokenPipe));
         }
-        let n = buf.len().min(self.room);
+        let n = buf.len().min(self.room).min(self.step);
         self.taken.extend_from_slice(&buf[..n])?;
         self.room -= n;
         Ok(n)

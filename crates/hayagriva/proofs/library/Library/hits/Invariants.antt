@@ -1,15 +1,13 @@
-use Rattle.std.proofs.Common.{◌≡◌, ◌+◌, ◌*◌, ◌≤◌}
-use Rattle.std.specs.Prelude.{sum_by}
-use Rattle.haya_entry.specs.Tree.{size}
-use Rattle.hayagriva.specs.Calls.{calls}
-use Rattle.hayagriva.specs.Syntax.{syntax, nodes}
+use Rattle.std.proofs.Common.{length}
+use Rattle.hayagriva.specs.QueryState.{query_state}
+use Rattle.hayagriva.specs.Root.{compiled_syntax}
 use Rattle.hayagriva.proofs.Queries.{HitsSoFar}
 use Rattle.hayagriva.proofs.library.Library.hits.Given as goal
 
-abbrev pub invariant-entries : goal.invariant-entries
-invariant-entries l =
-    let s = syntax l.selector in
-    let left = l.entry-iterator in
-    HitsSoFar s l.self left l.hits.items
-    × (l.steps + sum_by (calls s) left ≡ l.fn.steps + sum_by (calls s) l.self)
-    × (l.steps + nodes s * sum_by size left ≤ l.fn.steps + nodes s * sum_by size l.self)
+abbrev pub invariant-hits : goal.invariant-hits
+invariant-hits l =
+    let s = compiled_syntax l.compiled in
+    HitsSoFar (query_state s l.self l.fn.steps) l.hits.items (query_state s l.rest l.steps)
+
+abbrev pub decreases-hits : goal.decreases-hits
+decreases-hits l = length l.rest

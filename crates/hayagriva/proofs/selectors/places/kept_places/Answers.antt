@@ -15,7 +15,7 @@ kept_of_some names xs (i ∷ is) e = refl
 
 pub returns : goal.returns
 returns c =
-    let names = map string_bytes c.args.names.now in
+    let names = c.args.names.now in
     let xs = map view c.args.parents.now in
     c.if_any.ensures
     ∙ ap some_places (filter_same _ _ _ (λ x b f h. search rules) _ _ c.retain.ensures.filtered)

@@ -3,25 +3,29 @@ use Rattle.std.specs.Prelude.{find, option_map, reverse}
 use Rattle.std.specs.Str.{bytes_eq}
 use Rattle.std.proofs.lemmas.Iterator.Adapters.{YieldsList-from_rev_slice}
 use Rattle.std.proofs.lemmas.Iterator.Search.{find_from_yields_List}
+use Rattle.std.proofs.lemmas.Simd.{map-map}
 use borrow.Author.Tests.{tests}
 use Rattle.haya_entry.specs.declared.entry.Entry.{Entry}
 use Rattle.hayagriva.specs.Binds.{last_of}
-use Rattle.hayagriva.specs.Evaluation.{EntryPairs}
+use Rattle.hayagriva.specs.Compiled.{name_of}
+use Rattle.hayagriva.specs.Evaluation.{EntryPairs, named_pairs}
+use Rattle.hayagriva.specs.Nodes.{slot_names}
 use Rattle.hayagriva.proofs.Lasts.{last_of-map, option_map-map}
 use Rattle.hayagriva.proofs.selectors.bindings.Bindings.last.Goals as goal
 
-last_found : (q : List ℕ) (items : List (Bor (List ℕ) × Bor Entry)) (found : EntryPairs) (o : Option (Bor (Bor (List ℕ) × Bor Entry))) (r : Option (Bor Entry))
-    → map (λ p. (p.0.now, p.1.now)) items ≡ found
-    → option_map (λ y. y.now) o ≡ find (λ p. bytes_eq p.0.now q) (reverse items)
+last_found : (q : List ℕ) (names : List (List ℕ)) (items : List (ℕ × Bor Entry)) (found : EntryPairs) (o : Option (Bor (ℕ × Bor Entry))) (r : Option (Bor Entry))
+    → map (λ p. (p.0, p.1.now)) items ≡ found
+    → option_map (λ y. y.now) o ≡ find (λ p. bytes_eq (name_of names p.0) q) (reverse items)
     → r ≡ option_map (λ y. y.now.1) o
-    → option_map (λ e. e.now) r ≡ last_of q found
-last_found q items found o r m e h =
-    rw (h, ← m, last_of-map q (λ p. p.0.now) (λ p. p.1.now) items, ← e, option_map-map, option_map-map)
+    → option_map (λ e. e.now) r ≡ last_of q (named_pairs names found)
+last_found q names items found o r m e h =
+    rw (h, ← m, map-map, last_of-map q (λ p. name_of names p.0) (λ p. p.1.now) items, ← e, option_map-map, option_map-map)
 
 pub returns : goal.returns
 returns c =
     let q = c.args.name.now in
+    let names = slot_names c.args.nodes.now in
     let items = c.self.inside.pairs.items in
-    let e = find_from_yields_List (λ p. bytes_eq p.0.now q) _ _ c.find-pair.result c.find-pair.ensures.ran
+    let e = find_from_yields_List (λ p. bytes_eq (name_of names p.0) q) _ _ c.find-pair.result c.find-pair.ensures.ran
     (YieldsList-from_rev_slice items (search rules)) (λ x b q k. search (rules, tests)) in
-    last_found q items c.args.self.now c.find-pair.result c.map.result c.self.view_is e (search rules)
+    last_found q names items c.args.self.now c.find-pair.result c.map.result c.self.view_is e (search rules)

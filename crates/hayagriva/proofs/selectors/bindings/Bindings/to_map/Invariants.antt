@@ -1,8 +1,10 @@
 use Rattle.std.proofs.Common.{◌≡◌, ℕ, List, map, option_map, take}
 use Rattle.std.specs.HashMap.{get_by_text}
 use Rattle.hayagriva.specs.Binds.{last_of}
+use Rattle.hayagriva.specs.Compiled.{name_of}
+use Rattle.hayagriva.specs.Nodes.{slot_names}
 use Rattle.hayagriva.proofs.selectors.bindings.Bindings.to_map.Given as goal
 
-abbrev pub invariant-loop-name : goal.invariant-loop-name
-invariant-loop-name l =
-    (q : List ℕ) → option_map (λ e. e.now) (get_by_text l.map q) ≡ last_of q (take l.name-index (map (λ p. (p.0.now, p.1.now)) l.name-items))
+abbrev pub invariant-loop-slot : goal.invariant-loop-slot
+invariant-loop-slot l =
+    (q : List ℕ) → option_map (λ e. e.now) (get_by_text l.map q) ≡ last_of q (take l.slot-index (map (λ p. (name_of (slot_names l.nodes) p.0, p.1.now)) l.slot-items))

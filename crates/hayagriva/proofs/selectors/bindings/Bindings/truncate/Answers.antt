@@ -3,4 +3,4 @@ use Rattle.std.proofs.lemmas.List.{take-map}
 use Rattle.hayagriva.proofs.selectors.bindings.Bindings.truncate.Goals as goal
 
 pub returns : goal.returns
-returns c = rw (c.truncate.ensures.items, ← c.self.view_is, take-map, take-map) refl
+returns c = rw (c.truncate.ensures.items, ← c.self.view_is, take-map) refl

@@ -9,7 +9,7 @@ use Rattle.hayagriva.specs.Library.{key_of}
 use Rattle.hayagriva.specs.Tree.{view}
 use Rattle.hayagriva_query.specs.Output.{binding_text}
 use Rattle.hayagriva_query.proofs.Names.{names_of, names-collected, names-ordered}
-use Rattle.hayagriva_query.proofs.printing.line_of.Goals as goal
+use Rattle.hayagriva_query.proofs.printing.compose.Goals as goal
 
 pub returns-clause-line : goal.returns-clause-line
 returns-clause-line c =

@@ -5,7 +5,7 @@ use Rattle.hayagriva.specs.Library.{key_of}
 use Rattle.hayagriva.specs.Tree.{view}
 use Rattle.hayagriva_query.specs.Output.{binding_text}
 use Rattle.hayagriva_query.proofs.Names.{names_of}
-use Rattle.hayagriva_query.proofs.printing.line_of.Given as goal
+use Rattle.hayagriva_query.proofs.printing.compose.Given as goal
 
 -- the key and the names so far
 abbrev pub invariant-loop-name : goal.invariant-loop-name

@@ -1,0 +1,24 @@
+use Rattle.std.proofs.Common.{◌≡◌, ◌∙◌, ◌++◌, ◌∷◌, [], ap, arith, map, refl, rules, sym, take}
+use Rattle.std.proofs.lemmas.List.{map-append}
+use Rattle.hayagriva.specs.Nodes.{node_count, syntax_at}
+use Rattle.hayagriva.specs.Syntax.{Neg, Binding, Attr, Ancestrage, Alt, Multi, syntax, syntaxes}
+use Rattle.hayagriva.proofs.Growth.{keeps_all, keeps_then, then_adds}
+use Rattle.hayagriva.proofs.NodeLists.{above_push, map_more}
+use Rattle.hayagriva.proofs.selectors.nodes.Nodes.+compile.Goals as goal
+
+pub add_all-members-preserved : goal.add_all-members-preserved
+add_all-members-preserved t c =
+    let a = c.members.self in
+    let b = c.add.new.self in
+    let numbers = c.members.numbers.items in
+    let n = c.in_ok-add.field-0 in
+    let h = c.in_ok-add.ensures in
+    let inv = c.members.invariant in
+    let e = c.in_ok-push.ensures.items in (
+      keeps_then c.args.self.now a b inv.0 h.keeps,
+      rw e (above_push numbers n (node_count b) (omega (arith, inv.1, h.keeps.count)) h.inside),
+      ap (map (syntax_at b)) e ∙ map-append (syntax_at b) numbers (n ∷ [])
+          ∙ ap (λ l. l ++ syntax_at b n ∷ []) (keeps_all a b numbers h.keeps inv.1 ∙ inv.2)
+          ∙ ap (λ s. map syntax (take c.members.member-index c.args.members.now) ++ s ∷ []) h.stands
+          ∙ sym (map_more syntax c.args.members.now c.members.member-index c.member-item.result (omega arith) (search rules)),
+    )

@@ -1,0 +1,12 @@
+use Rattle.std.proofs.Common.{◌≡◌, ◌≤◌, map, take}
+use Rattle.hayagriva.specs.Compiled.{above}
+use Rattle.hayagriva.specs.Nodes.{Keeps, node_count, syntax_at}
+use Rattle.hayagriva.specs.Syntax.{syntax}
+use Rattle.hayagriva.proofs.selectors.nodes.Nodes.+compile.Given as goal
+
+-- the numbers so far stand for the members so far
+abbrev pub invariant-add_all-members : goal.invariant-add_all-members
+invariant-add_all-members l =
+    Keeps l.fn.self l.self
+    × (above l.numbers.items ≤ node_count l.self)
+    × (map (syntax_at l.self) l.numbers.items ≡ map syntax (take l.member-index l.members))

@@ -1,0 +1,104 @@
+//! A compiled selector, asked of entries.
+ghost use Rattle.std.specs.Prelude.{◌≡◌, ◌+◌, ◌*◌, ◌<◌, ◌≤◌, [], IfOk, OnOk, if◌then◌else◌};
+ghost use Rattle.haya_entry.specs.Tree.{at, size, view};
+ghost use Rattle.hayagriva.specs.Binds.{binds, bound_select};
+ghost use Rattle.hayagriva.specs.Calls.{calls};
+ghost use Rattle.hayagriva.specs.Evaluation.{Ticks, pair_entries, pairs_view};
+ghost use Rattle.hayagriva.specs.Holds.{holds};
+ghost use Rattle.hayagriva.specs.Library.{entry_value};
+ghost use Rattle.hayagriva.specs.Nodes.{node_count, slot_names};
+ghost use Rattle.hayagriva.specs.Query.{Applied};
+ghost use Rattle.hayagriva.specs.Syntax.{nodes, syntax};
+
+use super::Selector;
+use super::bindings::Bindings;
+use super::evaluate::holds_at;
+use super::names::Asked;
+use super::nodes::Nodes;
+use haya_entry::{Entry, Steps};
+use haya_text::OutOfMemory;
+use std::alloc::Global;
+use std::collections::HashMap;
+
+// A selector as nodes, of which the root stands for the whole.
+#[derive(Drop)]
+pub(crate) struct Compiled {
+    nodes: Nodes,
+    root: usize,
+    ghost inside: { root < node_count nodes },
+}
+
+impl Compiled {
+    ghost use Rattle.hayagriva.specs.Root.{compiled_syntax};
+
+    // The compiled form of a selector.
+    pub(crate) fn new(alloc: Global, selector: &Selector) -> Result<Compiled, OutOfMemory>
+        ensures { IfOk result (λ compiled. compiled_syntax compiled ≡ syntax selector.now) }
+    {
+        let mut nodes = Nodes::new(alloc);
+        let root = nodes.add(alloc, selector)?;
+        Ok(Compiled { nodes, root })
+    }
+
+    // Whether it holds at an entry. What it binds there stands in `found` then, in the place of what
+    // was there.
+    pub(crate) fn holds<'e>(
+        &self,
+        alloc: Global,
+        entry: &'e Entry,
+        found: &mut Bindings<'e>,
+        steps: &mut Steps,
+    ) -> Result<bool, OutOfMemory>
+        ensures answer { IfOk result
+            (λ b. b ≡ holds (compiled_syntax self.now) (view entry.now)) }
+        ensures bound { IfOk result (λ b. pairs_view (slot_names self.now.nodes) found.new ≡
+            pair_entries (at (view entry.now))
+            (if b then binds (compiled_syntax self.now) (view entry.now) else [])) }
+        ensures ticks { Ticks result steps.old steps.new
+            (calls (compiled_syntax self.now) (view entry.now)) }
+    {
+        found.truncate(0);
+        let asked = Asked::new(entry, self.nodes.asked());
+        holds_at(&self.nodes, self.root, alloc, &asked, found, steps)
+    }
+
+    // What its names stand for at an entry, as `Selector::apply_counted` says. `found` is a buffer.
+    #[tactic(auto, using(crate::proofs::Bounds::calls_at_most))]
+    pub(crate) fn apply<'e>(
+        &self,
+        alloc: Global,
+        entry: &'e Entry,
+        found: &mut Bindings<'e>,
+        steps: &mut Steps,
+    ) -> Result<Option<HashMap<String, &'e Entry>>, OutOfMemory>
+        ensures answer { IfOk result (Applied (compiled_syntax self.now) (view entry.now)) }
+        ensures ticks { OnOk result
+            (steps.new ≡ steps.old + calls (compiled_syntax self.now) (view entry.now)) }
+        ensures most { steps.new ≤
+            steps.old + nodes (compiled_syntax self.now) * size (view entry.now) }
+    {
+        if self.holds(alloc, entry, found, steps)? {
+            Ok(Some(found.to_map(alloc, &self.nodes)?))
+        } else {
+            Ok(None)
+        }
+    }
+
+    // The entry that a name was bound to last at an entry, as `Selector::bound` says.
+    pub(crate) fn bound<'e>(
+        &self,
+        alloc: Global,
+        entry: &'e Entry,
+        name: &str,
+    ) -> Result<Option<&'e Entry>, OutOfMemory>
+        ensures { IfOk result (λ o. entry_value o ≡
+            bound_select (compiled_syntax self.now) (view entry.now) name.now) }
+    {
+        let mut found = Bindings::new(alloc);
+        if self.holds(alloc, entry, &mut found, &mut Steps::new())? {
+            Ok(found.last(&self.nodes, name))
+        } else {
+            Ok(None)
+        }
+    }
+}
