@@ -17,7 +17,8 @@ use haya_time::{Date, Duration, DurationRange};
 use haya_values::{MaybeTyped, Publisher, QualifiedUrl};
 use std::alloc::Global;
 
-/// A work of the literature: its key, its type, its fields, and the works that it stands in, its parents.
+/// A work of the literature: its key, its type, its fields, and the works that it stands in, its
+/// parents.
 #[derive(PartialEq, Eq, Hash, Debug, Drop)]
 pub struct Entry {
     /// The key, under which a library keeps the entry.
@@ -56,11 +57,11 @@ pub struct Entry {
     pub publisher: Option<Publisher>,
     /// Where the work is found on the web.
     pub url: Option<QualifiedUrl>,
-    /// The issue of its parent that the work is in, or its place among the episodes.
+    /// Its place among the issues of its parent, or among the episodes of a series.
     pub issue: Option<MaybeTyped<Numeric>>,
-    /// The chapter of its parent that the work is, or is in.
+    /// The chapter of its parent that the work is found in.
     pub chapter: Option<MaybeTyped<Numeric>>,
-    /// The volume of its parent that the work is, or is in.
+    /// Which volume, part or season of its parent the work is.
     pub volume: Option<MaybeTyped<Numeric>>,
     /// Which edition of the work it is.
     pub edition: Option<MaybeTyped<Numeric>>,
@@ -68,11 +69,11 @@ pub struct Entry {
     pub volume_total: Option<Numeric>,
     /// How many pages the work has.
     pub page_total: Option<Numeric>,
-    /// The pages of its parent that the work is on.
+    /// The pages of its parent that the work takes up.
     pub page_range: Option<MaybeTyped<PageRanges>>,
-    /// From when to when in its parent the work is heard or seen.
+    /// From when to when in its parent the work runs.
     pub time_range: Option<MaybeTyped<DurationRange>>,
-    /// How long the work takes to be heard or seen.
+    /// How long the work runs.
     pub runtime: Option<MaybeTyped<Duration>>,
     /// The numbers that catalogues know the work by.
     pub serial_number: Option<SerialNumber>,
@@ -146,12 +147,12 @@ impl Entry {
         self.parents = parents;
     }
 
-    /// Whether the entry has a name. It has the name of each field that is set: `title`, `location`,
-    /// `organization`, `archive`, `archive-location`, `call-number`, `note`, `abstract`, `genre`, `author`,
-    /// `editor`, `affiliated`, `date`, `publisher`, `url`, `issue`, `chapter`, `volume`, `edition`,
-    /// `volume-total`, `page-total`, `page-range`, `time-range`, `runtime`, `serial-number`, `language`;
-    /// and, of `doi`, `isbn`, `issn`, `pmid`, `pmcid` and `arxiv`, those under which a serial number is
-    /// kept. It has no other name.
+    /// Whether the entry has a name. It has the name of each field that is set: `title`,
+    /// `location`, `organization`, `archive`, `archive-location`, `call-number`, `note`,
+    /// `abstract`, `genre`, `author`, `editor`, `affiliated`, `date`, `publisher`, `url`, `issue`,
+    /// `chapter`, `volume`, `edition`, `volume-total`, `page-total`, `page-range`, `time-range`,
+    /// `runtime`, `serial-number`, `language`; and, of `doi`, `isbn`, `issn`, `pmid`, `pmcid` and
+    /// `arxiv`, those under which a serial number is kept. It has no other name.
     pub fn has(&self, name: &str) -> bool
         ensures { result ≡ has_name (view self.now) name.now }
     {

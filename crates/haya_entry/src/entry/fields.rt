@@ -243,7 +243,7 @@ impl Entry {
         self.url = Some(url);
     }
 
-    /// The issue of its parent that the work is in, or its place among the episodes.
+    /// Its place among the issues of its parent, or among the episodes of a series.
     pub fn issue(&self) -> Option<&MaybeTyped<Numeric>>
         ensures { option_map (λ v. maybe_typed_view numeric_view v.now) result
             ≡ (fields (view self.now)).issue }
@@ -259,7 +259,7 @@ impl Entry {
         self.issue = Some(issue);
     }
 
-    /// The chapter of its parent that the work is, or is in.
+    /// The chapter of its parent that the work is found in.
     pub fn chapter(&self) -> Option<&MaybeTyped<Numeric>>
         ensures { option_map (λ v. maybe_typed_view numeric_view v.now) result
             ≡ (fields (view self.now)).chapter }
@@ -275,7 +275,7 @@ impl Entry {
         self.chapter = Some(chapter);
     }
 
-    /// The volume of its parent that the work is, or is in.
+    /// Which volume, part or season of its parent the work is.
     pub fn volume(&self) -> Option<&MaybeTyped<Numeric>>
         ensures { option_map (λ v. maybe_typed_view numeric_view v.now) result
             ≡ (fields (view self.now)).volume }
@@ -339,7 +339,7 @@ impl Entry {
         self.page_total = Some(page_total);
     }
 
-    /// The pages of its parent that the work is on.
+    /// The pages of its parent that the work takes up.
     pub fn page_range(&self) -> Option<&MaybeTyped<PageRanges>>
         ensures { option_map (λ v. maybe_typed_view parts v.now) result
             ≡ (fields (view self.now)).page_range }
@@ -355,7 +355,7 @@ impl Entry {
         self.page_range = Some(page_range);
     }
 
-    /// From when to when in its parent the work is heard or seen.
+    /// From when to when in its parent the work runs.
     pub fn time_range(&self) -> Option<&MaybeTyped<DurationRange>>
         ensures { option_map (λ v. maybe_typed_view (λ range. range) v.now) result
             ≡ (fields (view self.now)).time_range }
@@ -363,7 +363,7 @@ impl Entry {
         self.time_range.as_ref()
     }
 
-    /// Sets that time. Nothing else changes.
+    /// Sets the range of times. Nothing else changes.
     pub fn set_time_range(&mut self, time_range: MaybeTyped<DurationRange>)
         ensures { Sets self.old self.new
             (λ f. record f { time_range = Some (maybe_typed_view (λ range. range) time_range) }) }
@@ -371,7 +371,7 @@ impl Entry {
         self.time_range = Some(time_range);
     }
 
-    /// How long the work takes to be heard or seen.
+    /// How long the work runs.
     pub fn runtime(&self) -> Option<&MaybeTyped<Duration>>
         ensures { option_map (λ v. maybe_typed_view (λ duration. duration) v.now) result
             ≡ (fields (view self.now)).runtime }
@@ -379,7 +379,7 @@ impl Entry {
         self.runtime.as_ref()
     }
 
-    /// Sets that time. Nothing else changes.
+    /// Sets the runtime. Nothing else changes.
     pub fn set_runtime(&mut self, runtime: MaybeTyped<Duration>)
         ensures { Sets self.old self.new
             (λ f. record f { runtime = Some (maybe_typed_view (λ duration. duration) runtime) }) }
