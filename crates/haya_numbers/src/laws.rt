@@ -40,10 +40,12 @@ pub fn kinds_equal_by_value()
 pub fn equal_numbers_hash_alike()
     ensures numeric { (a b : numeric.Numeric) → ⟦<Numeric as PartialEq>⟧.eq a b ≡ true →
         ⟦<Numeric as Hash>⟧.hash_input a ≡ ⟦<Numeric as Hash>⟧.hash_input b }
-    ensures value { (a b : numeric_value.NumericValue) → ⟦<NumericValue as PartialEq>⟧.eq a b ≡ true →
-        ⟦<NumericValue as Hash>⟧.hash_input a ≡ ⟦<NumericValue as Hash>⟧.hash_input b }
-    ensures delimiter { (a b : delimiter.NumericDelimiter) → ⟦<NumericDelimiter as PartialEq>⟧.eq a b ≡ true →
-        ⟦<NumericDelimiter as Hash>⟧.hash_input a ≡ ⟦<NumericDelimiter as Hash>⟧.hash_input b }
+    ensures value { (a b : numeric_value.NumericValue)
+        → ⟦<NumericValue as PartialEq>⟧.eq a b ≡ true
+        → ⟦<NumericValue as Hash>⟧.hash_input a ≡ ⟦<NumericValue as Hash>⟧.hash_input b }
+    ensures delimiter { (a b : delimiter.NumericDelimiter)
+        → ⟦<NumericDelimiter as PartialEq>⟧.eq a b ≡ true
+        → ⟦<NumericDelimiter as Hash>⟧.hash_input a ≡ ⟦<NumericDelimiter as Hash>⟧.hash_input b }
     ensures form { (a b : form.NumberForm) → ⟦<NumberForm as PartialEq>⟧.eq a b ≡ true →
         ⟦<NumberForm as Hash>⟧.hash_input a ≡ ⟦<NumberForm as Hash>⟧.hash_input b }
     ensures gender { (a b : gender.GrammarGender) → ⟦<GrammarGender as PartialEq>⟧.eq a b ≡ true →

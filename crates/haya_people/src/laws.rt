@@ -34,8 +34,9 @@ pub fn equal_persons_hash_alike()
         ⟦<Person as Hash>⟧.hash_input a ≡ ⟦<Person as Hash>⟧.hash_input b }
     ensures role { (a b : role.PersonRole) → ⟦<PersonRole as PartialEq>⟧.eq a b ≡ true →
         ⟦<PersonRole as Hash>⟧.hash_input a ≡ ⟦<PersonRole as Hash>⟧.hash_input b }
-    ensures persons { (a b : roles.PersonsWithRoles) → ⟦<PersonsWithRoles as PartialEq>⟧.eq a b ≡ true →
-        ⟦<PersonsWithRoles as Hash>⟧.hash_input a ≡ ⟦<PersonsWithRoles as Hash>⟧.hash_input b }
+    ensures persons { (a b : roles.PersonsWithRoles)
+        → ⟦<PersonsWithRoles as PartialEq>⟧.eq a b ≡ true
+        → ⟦<PersonsWithRoles as Hash>⟧.hash_input a ≡ ⟦<PersonsWithRoles as Hash>⟧.hash_input b }
 {}
 
 /// The words of a text, and those of a given name's graphemes, are its one cut into longest words
