@@ -10,11 +10,15 @@ ghost use Rattle.haya_numbers.specs.NumericPrinted.{shown_numeric};
 ghost use Rattle.haya_numbers.specs.NumericReading.{numeric_read};
 ghost use Rattle.haya_numbers.specs.declared.numeric.Numeric as numeric;
 ghost use Rattle.haya_numbers.specs.declared.numeric.NumericError.{NumericError};
+ghost use Rattle.haya_numbers.specs.declared.numeric.NumericDelimiter as delimiter;
 ghost use Rattle.haya_numbers.specs.declared.numeric.NumericValue as numeric_value;
+ghost use Rattle.haya_numbers.specs.declared.numeric.form.GrammarGender as gender;
+ghost use Rattle.haya_numbers.specs.declared.numeric.form.NumberForm as form;
 
 pub mod pages;
 
 use crate::{GrammarGender, NumberForm, Numeric, NumericDelimiter, NumericError, NumericValue};
+use std::hash::Hash;
 
 /// `==` of numbers and of their values holds exactly where both are equal by value.
 pub fn equal_by_value()
@@ -30,6 +34,22 @@ pub fn kinds_equal_by_value()
     ensures form { EqualsByValue ⟦<NumberForm as PartialEq>⟧.eq }
     ensures gender { EqualsByValue ⟦<GrammarGender as PartialEq>⟧.eq }
     ensures fault { EqualsByValue ⟦<NumericError as PartialEq>⟧.eq }
+{}
+
+/// Numbers and what they hold, and forms and genders, that are equal by `==` hash alike.
+pub fn equal_numbers_hash_alike()
+    ensures numeric { (a b : numeric.Numeric) → ⟦<Numeric as PartialEq>⟧.eq a b ≡ true →
+        ⟦<Numeric as Hash>⟧.hash_input a ≡ ⟦<Numeric as Hash>⟧.hash_input b }
+    ensures value { (a b : numeric_value.NumericValue)
+        → ⟦<NumericValue as PartialEq>⟧.eq a b ≡ true
+        → ⟦<NumericValue as Hash>⟧.hash_input a ≡ ⟦<NumericValue as Hash>⟧.hash_input b }
+    ensures delimiter { (a b : delimiter.NumericDelimiter)
+        → ⟦<NumericDelimiter as PartialEq>⟧.eq a b ≡ true
+        → ⟦<NumericDelimiter as Hash>⟧.hash_input a ≡ ⟦<NumericDelimiter as Hash>⟧.hash_input b }
+    ensures form { (a b : form.NumberForm) → ⟦<NumberForm as PartialEq>⟧.eq a b ≡ true →
+        ⟦<NumberForm as Hash>⟧.hash_input a ≡ ⟦<NumberForm as Hash>⟧.hash_input b }
+    ensures gender { (a b : gender.GrammarGender) → ⟦<GrammarGender as PartialEq>⟧.eq a b ≡ true →
+        ⟦<GrammarGender as Hash>⟧.hash_input a ≡ ⟦<GrammarGender as Hash>⟧.hash_input b }
 {}
 
 /// The order of numbers is total: of any two one is first or they tie, and it goes on along chains.

@@ -6,13 +6,16 @@ ghost use Rattle.haya_people.specs.Person.{person_view};
 ghost use Rattle.haya_people.specs.WordCuts.{AreWords};
 ghost use Rattle.haya_people.specs.Words.{Word, words};
 ghost use Rattle.haya_people.specs.declared.person.Person as person;
+ghost use Rattle.haya_people.specs.declared.role.PersonRole as role;
+ghost use Rattle.haya_people.specs.declared.role.PersonsWithRoles as roles;
 
 mod orders;
 
-use crate::{Person, PersonError};
+use crate::{Person, PersonError, PersonRole, PersonsWithRoles};
 pub use orders::{
     particles_are_longest, persons_in_order, roles_equal_by_value, styles_in_order, tables_in_order,
 };
+use std::hash::Hash;
 
 /// `==` of persons holds exactly where both are equal by value.
 pub fn equal_by_value()
@@ -23,6 +26,17 @@ pub fn equal_by_value()
 /// `==` of faults holds exactly where both are the same.
 pub fn faults_equal_by_value()
     ensures { EqualsByValue ⟦<PersonError as PartialEq>⟧.eq }
+{}
+
+/// Persons, roles, and persons with their role that are equal by `==` hash alike.
+pub fn equal_persons_hash_alike()
+    ensures person { (a b : person.Person) → ⟦<Person as PartialEq>⟧.eq a b ≡ true →
+        ⟦<Person as Hash>⟧.hash_input a ≡ ⟦<Person as Hash>⟧.hash_input b }
+    ensures role { (a b : role.PersonRole) → ⟦<PersonRole as PartialEq>⟧.eq a b ≡ true →
+        ⟦<PersonRole as Hash>⟧.hash_input a ≡ ⟦<PersonRole as Hash>⟧.hash_input b }
+    ensures persons { (a b : roles.PersonsWithRoles)
+        → ⟦<PersonsWithRoles as PartialEq>⟧.eq a b ≡ true
+        → ⟦<PersonsWithRoles as Hash>⟧.hash_input a ≡ ⟦<PersonsWithRoles as Hash>⟧.hash_input b }
 {}
 
 /// The words of a text, and those of a given name's graphemes, are its one cut into longest words

@@ -16,6 +16,7 @@ ghost use Rattle.haya_numbers.specs.declared.page.PageRangesPart as part;
 ghost use Rattle.haya_numbers.specs.declared.page.PageRangesPartErr as fault;
 
 use crate::{PageNumberError, PageRanges, PageRangesPart, PageRangesPartErr};
+use std::hash::Hash;
 
 /// The pieces of a text are the one list of separators and longest runs that makes up the text.
 pub fn pieces()
@@ -52,6 +53,14 @@ pub fn equal_by_value()
 pub fn faults_equal_by_value()
     ensures part { EqualsByValue ⟦<PageRangesPartErr as PartialEq>⟧.eq }
     ensures number { EqualsByValue ⟦<PageNumberError as PartialEq>⟧.eq }
+{}
+
+/// Parts and lists of pages that are equal by `==` hash alike.
+pub fn equal_pages_hash_alike()
+    ensures part { (a b : part.PageRangesPart) → ⟦<PageRangesPart as PartialEq>⟧.eq a b ≡ true →
+        ⟦<PageRangesPart as Hash>⟧.hash_input a ≡ ⟦<PageRangesPart as Hash>⟧.hash_input b }
+    ensures pages { (a b : pages.PageRanges) → ⟦<PageRanges as PartialEq>⟧.eq a b ≡ true →
+        ⟦<PageRanges as Hash>⟧.hash_input a ≡ ⟦<PageRanges as Hash>⟧.hash_input b }
 {}
 
 /// `csl_cmp` of parts and of lists of pages is a total preorder.

@@ -31,7 +31,7 @@ impl FromStr for Date {
 
     /// The date that the text writes, as ISO 8601 does: a year of four digits, with its month or
     /// without, or a full date, whose year may have two digits for 1950 to 2049. White space may
-    /// stand before each part, and a tilde before a date that is approximate. `MonthOutOfBounds`
+    /// stand round each part, and a tilde before a date that is approximate. `MonthOutOfBounds`
     /// and `DayOutOfBounds` tell of a month or a day that isn't there, whatever follows; any other
     /// text without a date has an `UnknownFormat`.
     fn from_str(text: &str) -> Result<Date, DateError> {

@@ -6,6 +6,7 @@ ghost use Rattle.std.specs.Str.{chars};
 ghost use Rattle.haya_text.specs.Equality.{EqualsByValue};
 ghost use Rattle.haya_time.specs.declared.date.Date as date;
 ghost use Rattle.haya_time.specs.declared.date.DateError as error;
+ghost use Rattle.haya_time.specs.declared.date.Season as season;
 ghost use Rattle.haya_time.specs.DateForms.{IsRefusedAs, ReadsAs};
 ghost use Rattle.haya_time.specs.DateOrder.{HasNoOrder, date_csl_cmp};
 ghost use Rattle.haya_time.specs.DatePrinted.{date_text};
@@ -13,6 +14,7 @@ ghost use Rattle.haya_time.specs.DateReadBack.{ReadsBack};
 ghost use Rattle.haya_time.specs.DateReading.{date_read};
 
 use crate::{Date, DateError, Season};
+use std::hash::Hash;
 
 /// The order is equal exactly where the dates are, and has no answer exactly where one side alone
 /// tells the month of the same year, or the day of the same month.
@@ -37,6 +39,14 @@ pub fn dates_equal_by_value()
 pub fn kinds_equal_by_value()
     ensures season { EqualsByValue ⟦<Season as PartialEq>⟧.eq }
     ensures fault { EqualsByValue ⟦<DateError as PartialEq>⟧.eq }
+{}
+
+/// Dates and seasons that are equal by `==` hash alike.
+pub fn equal_dates_hash_alike()
+    ensures date { (a b : date.Date) → ⟦<Date as PartialEq>⟧.eq a b ≡ true →
+        ⟦<Date as Hash>⟧.hash_input a ≡ ⟦<Date as Hash>⟧.hash_input b }
+    ensures season { (a b : season.Season) → ⟦<Season as PartialEq>⟧.eq a b ≡ true →
+        ⟦<Season as Hash>⟧.hash_input a ≡ ⟦<Season as Hash>⟧.hash_input b }
 {}
 
 /// A text has one value or one fault, and the forms of dates say which: each text

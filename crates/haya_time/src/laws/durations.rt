@@ -10,10 +10,12 @@ ghost use Rattle.haya_time.specs.DurationPrint.{duration_text, range_text};
 ghost use Rattle.haya_time.specs.DurationReading.{duration_read, range_read};
 ghost use Rattle.haya_time.specs.declared.duration.Duration as duration;
 ghost use Rattle.haya_time.specs.declared.duration.range.DurationRange as range;
+ghost use Rattle.haya_time.specs.declared.duration.reading.DurationError as fault;
 ghost use Rattle.haya_time.specs.declared.duration.reading.DurationError.TheVariants as error;
 
 use crate::{Duration, DurationError, DurationRange};
 use std::cmp::Ordering;
+use std::hash::Hash;
 
 /// A text reads as a duration exactly where its parts are that duration's and it isn't too large.
 /// It is too large exactly where its parts are those of a duration that is, and malformed exactly
@@ -57,6 +59,16 @@ pub fn order_of_durations()
 /// `==` of faults of durations holds exactly where both are the same.
 pub fn faults_equal_by_value()
     ensures { EqualsByValue ⟦<DurationError as PartialEq>⟧.eq }
+{}
+
+/// Durations, ranges and faults of them that are equal by `==` hash alike.
+pub fn equal_durations_hash_alike()
+    ensures duration { (a b : duration.Duration) → ⟦<Duration as PartialEq>⟧.eq a b ≡ true →
+        ⟦<Duration as Hash>⟧.hash_input a ≡ ⟦<Duration as Hash>⟧.hash_input b }
+    ensures range { (a b : range.DurationRange) → ⟦<DurationRange as PartialEq>⟧.eq a b ≡ true →
+        ⟦<DurationRange as Hash>⟧.hash_input a ≡ ⟦<DurationRange as Hash>⟧.hash_input b }
+    ensures fault { (a b : fault.DurationError) → ⟦<DurationError as PartialEq>⟧.eq a b ≡ true →
+        ⟦<DurationError as Hash>⟧.hash_input a ≡ ⟦<DurationError as Hash>⟧.hash_input b }
 {}
 
 /// What `Duration::reads_back` and `DurationRange::reads_back` accept is read back from its printed
