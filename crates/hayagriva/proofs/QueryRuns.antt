@@ -10,14 +10,11 @@ use Rattle.hayagriva.specs.declared.selectors.SelectorError.{SelectorError}
 use Rattle.hayagriva.specs.declared.selectors.SelectorError.TheVariants.{OutOfMemory}
 use Rattle.hayagriva.specs.Calls.{calls}
 use Rattle.hayagriva.specs.Holds.{holds}
-use Rattle.hayagriva.specs.QueryIter.{Asks, GivesHit, GivesNone, Stops, NextGives, GaveHits, GaveError, GaveAll, BeginsAnswer, EndsAnswer, StaysEnded, HitsInWords, EndInWords}
+use Rattle.hayagriva.specs.QueryIter.{Given, Asks, GivesHit, GivesNone, Stops, NextGives, GaveHits, GaveError, GaveAll, BeginsAnswer, EndsAnswer, StaysEnded, HitsInWords, EndInWords}
 use Rattle.hayagriva.specs.QueryState.{QueryState, query_state}
 use Rattle.hayagriva.specs.InWords.{picks, named_entry}
 use Rattle.hayagriva.proofs.InWords.{bound_to-named_entry, holds-picks, filter-same}
 use Rattle.hayagriva.proofs.Queries.{asks-none, asks-more, hits-append, hit-hits, all_hits}
-
-abbrev Given : Type 0
-Given = List (Result Hit SelectorError)
 
 not_empty : (xs ys : List Tree) (x : Tree) → (xs ++ x ∷ []) ++ ys ≢ []
 not_empty [] ys x e = cc

@@ -14,7 +14,8 @@ use Rattle.hayagriva.specs.Query.{IsHit, AreHits, hit_entry, hit_bound}
 use Rattle.hayagriva.specs.QueryState.{QueryState, query_state}
 use Rattle.hayagriva.specs.Reading.{TextReads, TextFails}
 
--- what may start for a text over entries: the query of the selector that it reads as, before its first entry
+-- what may start for a text over entries: the query of the selector that it reads as, before its
+-- first entry
 abbrev pub QueryStarts : List ℕ → List Tree → Result QueryState SelectorError → Type 0
 QueryStarts text xs (Ok q) = TextReads text q.selector × (q ≡ query_state q.selector xs 0)
 QueryStarts text xs (Err e) = IfSome (fault e) (TextFails text)
@@ -25,7 +26,8 @@ pub record Asks (q : QueryState) (asked : List Tree) (r : QueryState) : Type 0 w
   pub entries : q.left ≡ asked ++ r.left
   pub ticks : r.ticks ≡ q.ticks + sum_by (calls q.selector) asked
 
--- a hit comes: that of the first entry left where the selector holds, and the entries behind it aren't asked
+-- a hit comes: that of the first entry left where the selector holds, and the entries behind it
+-- aren't asked
 pub record GivesHit (q : QueryState) (hit : Hit) (r : QueryState) : Type 0 where
   pub missed : List Tree
   pub entry : Tree
@@ -59,8 +61,12 @@ SearchGives q (Err _) r = Stops q r
 
 -- ---- whole runs
 
+-- what calls of `next` gave, in turn
+abbrev pub Given : Type 0
+Given = List (Result Hit SelectorError)
+
 -- hits alone were given: those of the entries that were asked, up to the last hit's
-pub record GaveHits (q : QueryState) (given : List (Result Hit SelectorError)) (r : QueryState) : Type 0 where
+pub record GaveHits (q : QueryState) (given : Given) (r : QueryState) : Type 0 where
   pub hits : List Hit
   pub asked : List Tree
   pub only : given ≡ map Ok hits
@@ -69,7 +75,7 @@ pub record GaveHits (q : QueryState) (given : List (Result Hit SelectorError)) (
   pub last : IfSome (last_or None asked) (λ x. holds q.selector x ≡ true)
 
 -- the hits of a first part of the entries were given, then an error, and nothing comes behind it
-pub record GaveError (q : QueryState) (given : List (Result Hit SelectorError)) (r : QueryState) : Type 0 where
+pub record GaveError (q : QueryState) (given : Given) (r : QueryState) : Type 0 where
   pub hits : List Hit
   pub asked : List Tree
   pub left : List Tree
@@ -80,7 +86,7 @@ pub record GaveError (q : QueryState) (given : List (Result Hit SelectorError)) 
   pub ticks : r.ticks ≤ q.ticks + sum_by (calls q.selector) q.left
 
 -- all hits were given, and each entry was asked once
-pub record GaveAll (q : QueryState) (given : List (Result Hit SelectorError)) (r : QueryState) : Type 0 where
+pub record GaveAll (q : QueryState) (given : Given) (r : QueryState) : Type 0 where
   pub hits : List Hit
   pub only : given ≡ map Ok hits
   pub asks : Asks q q.left r
@@ -88,19 +94,23 @@ pub record GaveAll (q : QueryState) (given : List (Result Hit SelectorError)) (r
 
 -- what was given so far begins the answer
 abbrev pub BeginsAnswer : Type 0
-BeginsAnswer = (q r : QueryState) (given : List (Result Hit SelectorError)) → Yields NextGives q given r → GaveHits q given r ⊎ GaveError q given r
+BeginsAnswer = (q r : QueryState) (given : Given) → Yields NextGives q given r
+    → GaveHits q given r ⊎ GaveError q given r
 
 -- at the end it is the answer
 abbrev pub EndsAnswer : Type 0
-EndsAnswer = (q r : QueryState) (given : List (Result Hit SelectorError)) → YieldsThen NextGives q given None r → GaveAll q given r ⊎ GaveError q given r
+EndsAnswer = (q r : QueryState) (given : Given) → YieldsThen NextGives q given None r
+    → GaveAll q given r ⊎ GaveError q given r
 
 -- where no entry is left, nothing comes for good
 abbrev pub StaysEnded : Type 0
-StaysEnded = (q r : QueryState) (o : Option (Result Hit SelectorError)) → q.left ≡ [] → NextGives q o r → (o ≡ None) × (r ≡ q)
+StaysEnded = (q r : QueryState) (next : Option (Result Hit SelectorError)) → q.left ≡ []
+    → NextGives q next r → (next ≡ None) × (r ≡ q)
 
 -- ---- the same in words of entries, for a selector that stands in the code
 
--- a hit is that of the first entry left that is picked, and names stand there for what the selector says
+-- a hit is that of the first entry left that is picked, and names stand there for what the selector
+-- says
 pub record GivesPicked (q : QueryState) (hit : Hit) : Type 0 where
   pub entry : find (picks q.selector) q.left ≡ Some (hit_entry hit)
   pub names : (name : List ℕ) → hit_bound hit name ≡ named_entry q.selector name (hit_entry hit)

@@ -6,7 +6,8 @@ use Rattle.hayagriva.specs.Syntax.{Syntax}
 use Rattle.hayagriva.specs.SyntaxCode.{syntax_coded}
 use Rattle.hayagriva.specs.TreeCode.{tree_coded}
 
--- its selector, the entries that it has yet to ask, of which none is left after an error, and how often it has ticked
+-- its selector, the entries that it has yet to ask, of which none is left after an error, and how
+-- often it has ticked
 pub record QueryState : Type 0 where
   pub selector : Syntax
   pub left : List Tree
@@ -17,5 +18,6 @@ query_state s xs n = record { selector = s; left = xs; ticks = n }
 
 abbrev pub query_state_coded : Coded QueryState
 query_state_coded =
-    code_by (Syntax × (List Tree × ℕ)) (coded× syntax_coded (coded× (coded_list tree_coded) coded_ℕ))
+    code_by (Syntax × (List Tree × ℕ))
+    (coded× syntax_coded (coded× (coded_list tree_coded) coded_ℕ))
     (λ q. (q.selector, (q.left, q.ticks))) (λ p. query_state p.0 p.1.0 p.1.1) (λ _. refl)

@@ -86,16 +86,17 @@ pub fn names_in_words()
     ensures { (s : Syntax) (name : List ℕ) (x : Tree) → bound_to s x name ≡ named_entry s name x }
 {}
 
-/// What a query gives one at a time begins the list of hits, and at its end is that list; where an allocation
-/// failed, an error follows a first part of it, and then nothing. Where no entry is left, nothing comes for good.
+/// What a query gives one at a time begins the list of hits, and at its end is that list; where an
+/// allocation failed, an error follows a first part of it, and then nothing. Where no entry is
+/// left, nothing comes for good.
 pub fn hits_one_at_a_time()
     ensures begins { BeginsAnswer }
     ensures ends { EndsAnswer }
     ensures stays { StaysEnded }
 {}
 
-/// A query gives the first entry left that its selector picks, in words of entries, with what its names stand for;
-/// and nothing where none is left that it picks.
+/// A query gives the first entry left that its selector picks, in words of entries, with what its
+/// names stand for; and nothing where none is left that it picks.
 pub fn hits_in_words()
     ensures hit { HitsInWords }
     ensures end { EndInWords }

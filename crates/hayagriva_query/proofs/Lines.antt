@@ -1,5 +1,5 @@
 -- Lines that are printed one after another as a query gives its hits.
-use Rattle.std.proofs.Common.{◌≡◌, ◌≢◌, List, [], ◌∷◌, ◌++◌, ℕ, Option, None, Some, true, refl, ap, sym, ◌∙◌, append_assoc, append-nil, inl, inr, subst}
+use Rattle.std.proofs.Common.{◌≡◌, List, [], ◌∷◌, ◌++◌, ℕ, Option, None, Some, refl, ap, sym, ◌∙◌, append-nil, inl, inr}
 use Rattle.std.proofs.KnownBytes.{Appends-kept, Appends-nil, Appends-trans}
 use Rattle.std.specs.Io.KnownBytes.{Appends, Keeps}
 use Rattle.std.specs.Prelude.{IfErr, Result, Ok, Err, filter, option_map}
@@ -15,7 +15,7 @@ use Rattle.hayagriva.specs.Syntax.{Syntax}
 use Rattle.hayagriva.specs.Tree.{Tree, view}
 use Rattle.hayagriva.specs.declared.query.Hit.{Hit}
 use Rattle.hayagriva.proofs.Queries.{asks-none, asks-more}
-use Rattle.hayagriva_query.specs.Output.{AreLines, AreLinesAt, BeginsLineAt, IsLineAt, IsLineOf, PrintsPart, binding_text}
+use Rattle.hayagriva_query.specs.Output.{AreLines, AreLinesAt, IsLineAt, IsLineOf, PrintsPart, binding_text}
 use Rattle.hayagriva_query.specs.declared.fault.Fault.{Fault}
 use Rattle.hayagriva_query.specs.declared.fault.Fault.TheVariants.{CannotWrite}
 

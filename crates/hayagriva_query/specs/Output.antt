@@ -78,10 +78,11 @@ abbrev pub BeginsLineAt : Syntax → List Tree → List ℕ → Type 0
 BeginsLineAt s [] piece = ⊥
 BeginsLineAt s (x ∷ xs) piece = (behind : List ℕ) × IsLineAt s x (piece ++ behind)
 
--- what is printed at a fault: the lines of a first part of the entries of a library where a selector
--- holds, whole lines alone, but that a write that fails may have taken the beginning of the next
-pub record PrintsPart (s : Syntax) (library : List Tree) (before after : Option (List ℕ)) (fault : RunFault)
-    : Type 0 where
+-- what is printed at a fault: the lines of a first part of the entries of a library where a
+-- selector holds, whole lines alone, but that a write that fails may have taken the beginning of
+-- the next
+pub record PrintsPart (s : Syntax) (library : List Tree)
+    (before after : Option (List ℕ)) (fault : RunFault) : Type 0 where
   pub first : List Tree
   pub rest : List Tree
   pub printed : List ℕ
@@ -94,8 +95,8 @@ pub record PrintsPart (s : Syntax) (library : List Tree) (before after : Option 
 
 -- a run that ends with a fault while it prints: the word reads as a selector, all input that was
 -- left is UTF-8 and describes a library, and what is printed is a part of what `Answers` says
-pub record AnswersPart (word : List ℕ) (unread left before after : Option (List ℕ)) (fault : RunFault)
-    : Type 0 where
+pub record AnswersPart (word : List ℕ)
+    (unread left before after : Option (List ℕ)) (fault : RunFault) : Type 0 where
   pub text : List ℕ
   pub library : List Tree
   pub selector : Syntax
@@ -107,7 +108,8 @@ pub record AnswersPart (word : List ℕ) (unread left before after : Option (Lis
   pub prints : PrintsPart selector library before after fault
 
 -- what a run that ends with a fault leaves on the output: nothing more than was there, or a part
-abbrev pub Stands : List ℕ → Option (List ℕ) → Option (List ℕ) → Option (List ℕ) → Option (List ℕ) → RunFault → Type 0
+abbrev pub Stands : List ℕ → Option (List ℕ) → Option (List ℕ) → Option (List ℕ)
+    → Option (List ℕ) → RunFault → Type 0
 Stands word unread left before after fault =
     Keeps before after ⊎ AnswersPart word unread left before after fault
 
