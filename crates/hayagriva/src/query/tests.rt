@@ -3,6 +3,7 @@ use crate::works::{below, english, entry, string};
 use crate::{Hit, Library, Query, SelectorError};
 use haya_entry::{EntryType, Steps};
 use haya_text::OutOfMemory;
+use haya_values::QualifiedUrl;
 use std::alloc::Global;
 use std::process::Abort;
 
@@ -103,12 +104,16 @@ fn counts_the_calls_of_a_query(rt: HostRuntime) {
     drop(library);
 }
 
-// An article in a periodical, and one on a blog.
+// An article with a DOI in a periodical, and one with an address on a blog.
 fn articles(rt: &(impl Abort + AllocGlobal)) -> Library {
     let toplas = entry(rt, "toplas", EntryType::Periodical);
-    let dependence = below(rt, entry(rt, "dependence", EntryType::Article), toplas);
+    let mut dependence = below(rt, entry(rt, "dependence", EntryType::Article), toplas);
+    dependence
+        .set_doi(string(rt, "10.1145/24039.24041"))
+        .expect(rt, "memory");
     let aeon = entry(rt, "aeon", EntryType::Blog);
-    let feminism = below(rt, entry(rt, "feminism", EntryType::Article), aeon);
+    let mut feminism = below(rt, entry(rt, "feminism", EntryType::Article), aeon);
+    feminism.set_url(QualifiedUrl::new(string(rt, "https://aeon.co"), None));
     let mut library = Library::new(rt.alloc());
     library.push(&dependence).expect(rt, "memory");
     library.push(&feminism).expect(rt, "memory");
@@ -117,17 +122,25 @@ fn articles(rt: &(impl Abort + AllocGlobal)) -> Library {
     library
 }
 
-// At each article: `>`, its left side, the binding and its type on the parents, and the type at the parent.
+// Selectors over the two articles, how many hits they have, and how often the evaluator is called. At each
+// article the first asks `>`, its left side, the binding and its type on the parents, and the type at the parent.
+const COUNTS: &[(&str, usize, u64)] = &[
+    ("article > b:periodical", 1, 10),
+    ("*[url] | *[doi]", 2, 8),
+];
+
 #[test]
-fn counts_the_calls_on_parents(rt: HostRuntime) {
+fn counts_the_calls_over_articles(rt: HostRuntime) {
     let library = articles(&rt);
-    let mut steps = Steps::new();
-    let hits = library
-        .query(rt.alloc(), "article > b:periodical", &mut steps)
-        .expect(&rt, "memory");
-    assert_eq!(rt; hits.len(), 1);
-    drop(hits);
-    assert_eq!(rt; steps.seen(), 10);
+    for (text, number, calls) in COUNTS {
+        let mut steps = Steps::new();
+        let hits = library
+            .query(rt.alloc(), *text, &mut steps)
+            .expect(&rt, "memory");
+        assert_eq!(rt; hits.len(), *number, "{text}");
+        drop(hits);
+        assert_eq!(rt; steps.seen(), *calls, "{text}");
+    }
     drop(library);
 }
 
