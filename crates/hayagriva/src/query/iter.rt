@@ -78,7 +78,13 @@ impl<'s> Iterator for Query<'s> {
             return None;
         }
         let found = &mut self.found;
-        match next_hit(self.alloc, &self.compiled, &mut self.rest, found, &mut self.steps) {
+        match next_hit(
+            self.alloc,
+            &self.compiled,
+            &mut self.rest,
+            found,
+            &mut self.steps,
+        ) {
             Ok(Some(hit)) => Some(Ok(hit)),
             Ok(None) => None,
             Err(error) => {
