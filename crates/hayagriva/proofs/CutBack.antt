@@ -1,11 +1,11 @@
 -- A list of bindings that is cut back.
-use Rattle.std.proofs.Common.{◌≡◌, ◌≤◌, ℕ, List, [], ◌∷◌, ◌++◌, Some, length, map, take, refl, sym, ap, ◌∙◌, append-nil, append_assoc, arith}
+use Rattle.std.proofs.Common.{◌≡◌, ◌≤◌, ℕ, List, [], ◌∷◌, ◌++◌, Some, length, take, refl, sym, ap, ◌∙◌, arith}
 use Rattle.std.specs.Prelude.{Option, slice_get}
 use Rattle.std.proofs.Math.Seq.{take-length}
 use Rattle.std.proofs.lemmas.List.{length-map, length-take, map-append, take-map}
 use Rattle.haya_entry.specs.declared.entry.Entry.{Entry}
-use Rattle.haya_entry.specs.Tree.{Tree, view, at, at_list}
-use Rattle.hayagriva.specs.Binds.{Pairs, pair_of_first}
+use Rattle.haya_entry.specs.Tree.{Tree, view, at_list}
+use Rattle.hayagriva.specs.Binds.{pair_of_first}
 use Rattle.hayagriva.specs.Compiled.{name_of}
 use Rattle.hayagriva.specs.Evaluation.{EntryPairs, pair_entries, pairs_view}
 use Rattle.hayagriva.proofs.Greedy.{kept_next}
@@ -28,13 +28,7 @@ module _ (names : List (List ℕ)) (olds mids : EntryPairs) where
       let value : ℕ × Entry → List ℕ × Option Tree = λ p. (name_of names p.0, Some (view p.1)) in
       ap (pairs_view names) e ∙ sym (take-map value (length olds) mids) ∙ ap (λ n. take n (pairs_view names mids)) (sym (length-map olds value)) ∙ h
 
--- a binding that is added at an entry
-pub bound_here : (names : List (List ℕ)) (olds mids news : EntryPairs) (slot : ℕ) (e : Entry) (pairs : Pairs)
-    → pairs_view names mids ≡ pairs_view names olds ++ pair_entries (at (view e)) pairs → news ≡ mids ++ (slot, e) ∷ []
-    → pairs_view names news ≡ pairs_view names olds ++ pair_entries (at (view e)) (pairs ++ (name_of names slot, []) ∷ [])
-bound_here names olds mids news slot e pairs h k = rw (k, map-append, h, map-append, append_assoc) refl
-
--- one that is added at the first place of a list
+-- a binding that is added at the first place of a list
 pub bound_first : (names : List (List ℕ)) (xs : List Tree) (places : List ℕ) (i slot : ℕ) (e : Entry) (olds news : EntryPairs)
     → slice_get places 0 ≡ Some i → slice_get xs i ≡ Some (view e) → news ≡ olds ++ (slot, e) ∷ []
     → pairs_view names news ≡ pairs_view names olds ++ pair_entries (at_list xs) (pair_of_first (name_of names slot) (Some places))

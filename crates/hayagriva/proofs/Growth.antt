@@ -1,9 +1,9 @@
 -- How nodes grow.
-use Rattle.std.proofs.Common.{◌≡◌, ◌<◌, ◌≤◌, ℕ, List, Result, Ok, Err, map, refl, sym, ap, ◌∙◌, arith}
+use Rattle.std.proofs.Common.{◌≡◌, ◌≤◌, ℕ, List, Result, Ok, Err, map, refl, ◌∙◌, arith}
 use Rattle.std.specs.Prelude.{IfOk}
 use Rattle.hayagriva.specs.declared.selectors.nodes.Nodes.{Nodes}
 use Rattle.hayagriva.specs.Compiled.{above}
-use Rattle.hayagriva.specs.Nodes.{Adds, Keeps, node_count, slot_names, syntax_at}
+use Rattle.hayagriva.specs.Nodes.{Adds, Keeps, node_count, syntax_at}
 use Rattle.hayagriva.specs.Syntax.{Syntax}
 use Rattle.hayagriva.proofs.NodeLists.{map_same}
 

@@ -1,20 +1,20 @@
 -- Sets of the numbers of names.
-use Rattle.std.proofs.Common.{◌≡◌, ◌<◌, ℕ, ◌+◌, ◌*◌, ◌/◌, ◌%◌, ◌^◌, Bool, true, false, List, [], ◌∷◌, ◌++◌, Option, None, Some, length, map, get_or, take, Global, refl, sym, ap, ◌∙◌, subst, inl, inr, arith, w32}
-use Rattle.std.specs.Prelude.{◌↔◌, ◌&&◌, ◌==◌, String, bit_and, bit_or, not, nat_lt, string_bytes, unwrap_or}
+use Rattle.std.proofs.Common.{◌≡◌, ◌<◌, ℕ, ◌*◌, ◌%◌, ◌^◌, Bool, true, false, List, [], ◌∷◌, ◌++◌, None, Some, refl, sym, ap, ◌∙◌, inl, inr, arith, w32}
+use Rattle.std.specs.Prelude.{◌&&◌, ◌==◌, bit_and, bit_or, nat_lt, unwrap_or}
 use Rattle.std.specs.Int.{bit_at, bit_not}
 use Rattle.std.specs.List.{list_all, list_any}
 use Rattle.std.specs.Map.{keys_of, lookup}
 use Rattle.std.specs.Str.{bytes_eq}
+use Rattle.haya_text.proofs.Tells.{and-both}
 use Rattle.std.proofs.lemmas.Bool.{cases_eq}
 use Rattle.std.proofs.lemmas.Bool.Decides.{nat_tests}
-use Rattle.std.proofs.lemmas.List.{take_more, map-append}
 use Rattle.std.proofs.lemmas.List.Folds.{list_all-append}
 use Rattle.std.proofs.lemmas.Nat.{and_le_l}
 use Rattle.std.proofs.lemmas.Nat.Bits.{bit_at_and, bit_at_not, bit_at-zero, bit_at-lt, bit_at_set_same, bit_at_set_other, bit_at_clear_same, bit_at_clear_other, same_from_bits_below}
 use Rattle.std.proofs.lemmas.Slice.Eq.{bytes_eq-Decides}
 use Rattle.haya_entry.specs.Names.{has_name, has_all, name_table}
 use Rattle.haya_entry.specs.Tree.{Tree}
-use Rattle.hayagriva.specs.NameNumbers.{name_numbers, number_of, name_at, has_number, IsIn, HasNumbers, StandsForNames, IsHad}
+use Rattle.hayagriva.specs.NameNumbers.{name_numbers, number_of, name_at, IsIn, HasNumbers, StandsForNames, IsHad}
 
 -- ---- the table
 module _ (q : List ℕ) where
@@ -52,14 +52,10 @@ module _ (q : List ℕ) where
 abbrev numbered : List ℕ → ℕ → Bool
 numbered n k = nat_lt k 32 && bytes_eq (name_at k) n
 
-both : (a b : Bool) → (a && b) ≡ true → (a ≡ true) × (b ≡ true)
-both true b h = (refl, h)
-both false b h = absurd (cc)
-
 -- a name that has a number is the name of that number
 pub number_names : (q : List ℕ) (k : ℕ) → number_of q ≡ Some k → (k < 32) × (name_at k ≡ q)
 number_names q k e =
-    let h = both (nat_lt k 32) (bytes_eq (name_at k) q) (found_passes q numbered name_numbers k refl e) in
+    let h = and-both (nat_lt k 32) (bytes_eq (name_at k) q) (found_passes q numbered name_numbers k refl e) in
     (grind (arith, nat_tests, h.0), (bytes_eq-Decides (name_at k) q).0 h.1)
 
 -- no entry has a name that has no number
@@ -70,8 +66,8 @@ unnumbered q x e = ap (λ o. unwrap_or o false) (missing q name_numbers (name_ta
 module _ (set : ℕ) (unknown : Bool) (names : List (List ℕ)) (n : List ℕ) (stands : StandsForNames set unknown names) where
   split : (x : Tree) → has_all (names ++ n ∷ []) x ≡ true → (has_all names x ≡ true) × (has_name x n ≡ true)
   split x h =
-      let two = both (has_all names x) (has_all (n ∷ []) x) (sym (list_all-append (has_name x) names (n ∷ [])) ∙ h) in
-      (two.0, (both (has_name x n) true two.1).0)
+      let two = and-both (has_all names x) (has_all (n ∷ []) x) (sym (list_all-append (has_name x) names (n ∷ [])) ∙ h) in
+      (two.0, (and-both (has_name x n) true two.1).0)
 
   join : (x : Tree) → has_all names x ≡ true → has_name x n ≡ true → has_all (names ++ n ∷ []) x ≡ true
   join x h k = list_all-append (has_name x) names (n ∷ []) ∙ rw (h, k) refl

