@@ -121,12 +121,13 @@ abbrev pub Setting : Type 0
 Setting = List ℕ → Fields → Result Fields LineFault
 
 -- the fields with what the value reads as
-abbrev pub setting : {V : Type 0} → (List ℕ → Result V LineFault) → (V → Fields → Fields) → Setting
-setting read with_value value f = and_then (read value) (λ v. Ok (with_value v f))
+abbrev pub setting_of : {V : Type 0} → (List ℕ → Result V LineFault) → (V → Fields → Fields)
+    → Setting
+setting_of read with_value value f = and_then (read value) (λ v. Ok (with_value v f))
 
 -- the values of a list that begins with its first one, and one more
-abbrev pub appended : {V : Type 0} → Option (List V) → V → Option (List V)
-appended vs v = Some (unwrap_or vs [] ++ v ∷ [])
+abbrev pub with_one_more : {V : Type 0} → Option (List V) → V → Option (List V)
+with_one_more vs v = Some (unwrap_or vs [] ++ v ∷ [])
 
 -- the fields with one more serial number, or another in the place of that with its key
 abbrev pub with_number : List ℕ → List ℕ → Fields → Fields
@@ -135,41 +136,41 @@ with_number key value f = record f { serial_number = Some (with_serial key value
 -- each name, with what its values read as and what they change
 abbrev pub field_table : List (List ℕ × Setting)
 field_table =
-    (codes "title", setting text_of (λ v f. record f { title = Some v }))
-    ∷ (codes "location", setting text_of (λ v f. record f { location = Some v }))
-    ∷ (codes "organization", setting text_of (λ v f. record f { organization = Some v }))
-    ∷ (codes "archive", setting text_of (λ v f. record f { archive = Some v }))
-    ∷ (codes "archive-location", setting text_of (λ v f. record f { archive_location = Some v }))
-    ∷ (codes "call-number", setting text_of (λ v f. record f { call_number = Some v }))
-    ∷ (codes "note", setting text_of (λ v f. record f { note = Some v }))
-    ∷ (codes "abstract", setting text_of (λ v f. record f { abstract_ = Some v }))
-    ∷ (codes "genre", setting text_of (λ v f. record f { genre = Some v }))
-    ∷ (codes "author", setting person_of (λ v f. record f { authors = appended f.authors v }))
-    ∷ (codes "editor", setting person_of (λ v f. record f { editors = appended f.editors v }))
+    (codes "title", setting_of text_of (λ v f. record f { title = Some v }))
+    ∷ (codes "location", setting_of text_of (λ v f. record f { location = Some v }))
+    ∷ (codes "organization", setting_of text_of (λ v f. record f { organization = Some v }))
+    ∷ (codes "archive", setting_of text_of (λ v f. record f { archive = Some v }))
+    ∷ (codes "archive-location", setting_of text_of (λ v f. record f { archive_location = Some v }))
+    ∷ (codes "call-number", setting_of text_of (λ v f. record f { call_number = Some v }))
+    ∷ (codes "note", setting_of text_of (λ v f. record f { note = Some v }))
+    ∷ (codes "abstract", setting_of text_of (λ v f. record f { abstract_ = Some v }))
+    ∷ (codes "genre", setting_of text_of (λ v f. record f { genre = Some v }))
+    ∷ (codes "author", setting_of person_of (λ v f. record f { authors = with_one_more f.authors v }))
+    ∷ (codes "editor", setting_of person_of (λ v f. record f { editors = with_one_more f.editors v }))
     ∷ (
       codes "affiliated",
-      setting affiliated_of (λ v f. record f { affiliated = appended f.affiliated v }),
+      setting_of affiliated_of (λ v f. record f { affiliated = with_one_more f.affiliated v }),
     )
-    ∷ (codes "date", setting date_of (λ v f. record f { date = Some v }))
-    ∷ (codes "publisher", setting publisher_of (λ v f. record f { publisher = Some v }))
-    ∷ (codes "url", setting url_of (λ v f. record f { url = Some v }))
-    ∷ (codes "issue", setting number_or_text_of (λ v f. record f { issue = Some v }))
-    ∷ (codes "chapter", setting number_or_text_of (λ v f. record f { chapter = Some v }))
-    ∷ (codes "volume", setting number_or_text_of (λ v f. record f { volume = Some v }))
-    ∷ (codes "edition", setting number_or_text_of (λ v f. record f { edition = Some v }))
-    ∷ (codes "volume-total", setting number_of (λ v f. record f { volume_total = Some v }))
-    ∷ (codes "page-total", setting number_of (λ v f. record f { page_total = Some v }))
-    ∷ (codes "page-range", setting pages_or_text_of (λ v f. record f { page_range = Some v }))
-    ∷ (codes "time-range", setting range_or_text_of (λ v f. record f { time_range = Some v }))
-    ∷ (codes "runtime", setting duration_or_text_of (λ v f. record f { runtime = Some v }))
-    ∷ (codes "language", setting bytes_of (λ v f. record f { language = Some v }))
-    ∷ (codes "serial-number", setting bytes_of (with_number (codes "serial")))
-    ∷ (codes "doi", setting bytes_of (with_number (codes "doi")))
-    ∷ (codes "isbn", setting bytes_of (with_number (codes "isbn")))
-    ∷ (codes "issn", setting bytes_of (with_number (codes "issn")))
-    ∷ (codes "pmid", setting bytes_of (with_number (codes "pmid")))
-    ∷ (codes "pmcid", setting bytes_of (with_number (codes "pmcid")))
-    ∷ (codes "arxiv", setting bytes_of (with_number (codes "arxiv")))
+    ∷ (codes "date", setting_of date_of (λ v f. record f { date = Some v }))
+    ∷ (codes "publisher", setting_of publisher_of (λ v f. record f { publisher = Some v }))
+    ∷ (codes "url", setting_of url_of (λ v f. record f { url = Some v }))
+    ∷ (codes "issue", setting_of number_or_text_of (λ v f. record f { issue = Some v }))
+    ∷ (codes "chapter", setting_of number_or_text_of (λ v f. record f { chapter = Some v }))
+    ∷ (codes "volume", setting_of number_or_text_of (λ v f. record f { volume = Some v }))
+    ∷ (codes "edition", setting_of number_or_text_of (λ v f. record f { edition = Some v }))
+    ∷ (codes "volume-total", setting_of number_of (λ v f. record f { volume_total = Some v }))
+    ∷ (codes "page-total", setting_of number_of (λ v f. record f { page_total = Some v }))
+    ∷ (codes "page-range", setting_of pages_or_text_of (λ v f. record f { page_range = Some v }))
+    ∷ (codes "time-range", setting_of range_or_text_of (λ v f. record f { time_range = Some v }))
+    ∷ (codes "runtime", setting_of duration_or_text_of (λ v f. record f { runtime = Some v }))
+    ∷ (codes "language", setting_of bytes_of (λ v f. record f { language = Some v }))
+    ∷ (codes "serial-number", setting_of bytes_of (with_number (codes "serial")))
+    ∷ (codes "doi", setting_of bytes_of (with_number (codes "doi")))
+    ∷ (codes "isbn", setting_of bytes_of (with_number (codes "isbn")))
+    ∷ (codes "issn", setting_of bytes_of (with_number (codes "issn")))
+    ∷ (codes "pmid", setting_of bytes_of (with_number (codes "pmid")))
+    ∷ (codes "pmcid", setting_of bytes_of (with_number (codes "pmcid")))
+    ∷ (codes "arxiv", setting_of bytes_of (with_number (codes "arxiv")))
     ∷ []
 
 -- the fields after the value is set under this name, or why it can't be
