@@ -1,7 +1,8 @@
 -- A list of bindings that is cut back.
-use Rattle.std.proofs.Common.{◌≡◌, ◌≤◌, ℕ, List, [], ◌∷◌, ◌++◌, Some, length, take, refl, sym, ap, ◌∙◌, arith}
-use Rattle.std.specs.Prelude.{Option, slice_get}
+use Rattle.std.proofs.Common.{◌≡◌, ◌≤◌, ℕ, List, [], ◌∷◌, ◌++◌, Some, length, take, refl, sym, ap, ◌∙◌, arith, ◌<◌, subst}
+use Rattle.std.specs.Prelude.{All, Option, slice_get}
 use Rattle.std.proofs.Math.Seq.{take-length}
+use Rattle.std.proofs.lemmas.List.Elements.{All-head}
 use Rattle.std.proofs.lemmas.List.{length-map, length-take, map-append, take-map}
 use Rattle.haya_entry.specs.declared.entry.Entry.{Entry}
 use Rattle.haya_entry.specs.Tree.{Tree, view, at_list}
@@ -36,3 +37,8 @@ bound_first names xs [] i slot e olds news h k n = absurd (cc)
 bound_first names xs (j ∷ js) i slot e olds news h k n =
     let same : j ≡ i = cc in
     rw (n, map-append, same, k) refl
+
+-- the first of places is one of them
+pub first_in : (most : ℕ) (is : List ℕ) (i : ℕ) → All (λ j. j < most) is → slice_get is 0 ≡ Some i → i < most
+first_in most [] i h e = absurd (cc)
+first_in most (j ∷ js) i h e = let same : j ≡ i = cc in subst (λ n. n < most) same (All-head (λ n. n < most) j js h)

@@ -4,6 +4,7 @@ mod NameSets
 mod NodeLists
 mod Growth
 mod CutBack
+mod Kept
 mod Pushes
 mod Equal
 pub mod Cuts

@@ -160,10 +160,3 @@ pub bound_under : (l r : Syntax) (x : Tree) (xs : List Tree) (olds mids news : L
     → mids ≡ olds ++ pair_entries (at x) (binds l x) → news ≡ mids ++ pair_entries (at_list xs) (binds_on r xs)
     → news ≡ olds ++ pair_entries (at x) (binds (Ancestrage l r) x)
 bound_under l r x xs olds mids news p h k = rw (k, h, p, resolved_on r x, map-append, append_assoc) refl
-
-pub bound_named : (s : Syntax) (xs : List Tree) (n m : List ℕ) → m ≡ n → (is js : List ℕ) → js ≡ is → (olds mids news : List (List ℕ × Option Tree)) → Some is ≡ candidates s xs
-    → mids ≡ olds ++ pair_entries (at_list xs) (binds_on s xs) → news ≡ mids ++ pair_entries (at_list xs) (pair_of_first m (Some js))
-    → news ≡ olds ++ pair_entries (at_list xs) (binds_on (Binding n s) xs)
-bound_named s xs n m p is js q olds mids news e h k =
-    let first : pair_of_first m (Some js) ≡ pair_of_first n (candidates s xs) = λ i. pair_of_first (p i) ((ap Some q ∙ e) i) in
-    rw (k, h, first, map-append, append_assoc) refl

@@ -1,6 +1,5 @@
 -- What the evaluator's own contracts say: what a call has found, and how often it has ticked.
-use Rattle.std.specs.Prelude.{◌≡◌, ◌≤◌, ℕ, ◌+◌, List, ◌++◌, Option, Some, Result, MatchResult, IfOk, Vec, map, option_map}
-use Rattle.std.specs.declared.alloc.Global.{Global}
+use Rattle.std.specs.Prelude.{◌≡◌, ◌≤◌, ℕ, ◌+◌, List, ◌++◌, Option, Some, Result, MatchResult, map}
 use Rattle.haya_entry.specs.declared.entry.Entry.{Entry}
 use Rattle.haya_entry.specs.Tree.{Tree, view, at, at_list}
 use Rattle.hayagriva.specs.Binds.{Pairs}
@@ -32,10 +31,6 @@ AddsOn names xs old new pairs = pairs_view names new ≡ pairs_view names old ++
 -- a call that ends well has ticked n times, one that is out of memory at most n times
 abbrev pub Ticks : {T E : Type 0} → Result T E → ℕ → ℕ → ℕ → Type 0
 Ticks result old new n = MatchResult result (λ _. new ≡ old + n) (λ _. new ≤ old + n)
-
--- a call that ends well answers these places, or none
-abbrev pub GivesPlaces : {E : Type 0} → Result (Option (Vec ℕ Global)) E → Option (List ℕ) → Type 0
-GivesPlaces result places = IfOk result (λ o. option_map (λ v. v.items) o ≡ places)
 
 -- entries by value, in order
 abbrev pub views : List Entry → List Tree

@@ -46,3 +46,4 @@ pub mod Compiled
 pub mod Nodes
 pub mod Root
 pub mod Evaluation
+pub mod Candidates

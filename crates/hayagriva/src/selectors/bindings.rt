@@ -5,11 +5,13 @@ ghost use Rattle.std.specs.HashMap.{get_by_text};
 ghost use Rattle.haya_entry.specs.contracts.entry.Entry as the_entry;
 ghost use Rattle.haya_entry.specs.Tree.{view};
 ghost use Rattle.hayagriva.specs.Binds.{last_of, pair_of_first};
+ghost use Rattle.hayagriva.specs.Candidates.{candidate_places};
 ghost use Rattle.hayagriva.specs.Compiled.{name_of};
 ghost use Rattle.hayagriva.specs.Evaluation.{AddsOn, EntryPairs, named_pairs};
 ghost use Rattle.hayagriva.specs.Nodes.{slot_names};
 
 use super::nodes::Nodes;
+use super::places::{Candidates, first_place};
 use haya_entry::Entry;
 use haya_text::OutOfMemory;
 use std::alloc::Global;
@@ -55,20 +57,22 @@ impl<'e> Bindings<'e> {
         Ok(())
     }
 
-    // Adds one of the slot to the parent at the first place, where there is a place.
+    // Adds one of the slot to the first candidate, where there is one.
     pub(crate) fn bind_first(
         &mut self,
         slot: usize,
         parents: &'e [Entry],
-        places: &[usize],
+        candidates: &Candidates,
     ) -> Result<(), OutOfMemory>
-        requires { All (λ i. i < length parents.now) places.now }
+        requires { All (λ i. i < length parents.now)
+            (candidate_places (map view parents.now) candidates.now) }
         ensures { OnOk result ((names : List (List ℕ)) →
             AddsOn names (map view parents.now) self.old self.new
-            (pair_of_first (name_of names slot) (Some places.now))) }
+            (pair_of_first (name_of names slot)
+            (Some (candidate_places (map view parents.now) candidates.now)))) }
     {
-        if let Some(first) = places.first() {
-            self.bind(slot, &parents[*first])?;
+        if let Some(first) = first_place(candidates, parents) {
+            self.bind(slot, &parents[first])?;
         }
         Ok(())
     }

@@ -58,7 +58,7 @@ impl Compiled {
             (calls (compiled_syntax self.now) (view entry.now)) }
     {
         found.truncate(0);
-        let asked = Asked::new(entry, self.nodes.asked());
+        let asked = Asked::new(entry, self.nodes.asked_again());
         holds_at(&self.nodes, self.root, alloc, &asked, found, steps)
     }
 

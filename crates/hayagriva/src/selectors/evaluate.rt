@@ -6,7 +6,8 @@ ghost use Rattle.haya_entry.specs.Tree.{view};
 ghost use Rattle.hayagriva.specs.Compiled.{above};
 ghost use Rattle.hayagriva.specs.Binds.{binds, binds_on, each_binds, first_binds, first_binds_on, pairs_at_first, pairs_at};
 ghost use Rattle.hayagriva.specs.Calls.{calls, calls_on, first_calls, first_calls_on, free_calls, greedy_calls};
-ghost use Rattle.hayagriva.specs.Evaluation.{AddsAt, AddsOn, GivesPlaces, Ticks, views};
+ghost use Rattle.hayagriva.specs.Candidates.{GivesCandidates, candidate_places};
+ghost use Rattle.hayagriva.specs.Evaluation.{AddsAt, AddsOn, Ticks, views};
 ghost use Rattle.hayagriva.specs.Holds.{holds, some_holds, candidates, first_candidates, first_place as alone, greedy, least_free};
 ghost use Rattle.hayagriva.specs.Places.{items_up_to};
 ghost use Rattle.hayagriva.specs.Nodes.{members_at, node_count, slot_names, syntax_at};
@@ -15,7 +16,7 @@ use super::bindings::Bindings;
 use super::names::Asked;
 use super::node::Node;
 use super::nodes::Nodes;
-use super::places::{all_places, is_taken, kept_places};
+use super::places::{Candidates, all_places, is_taken, kept_places};
 use haya_entry::{Entry, Steps};
 use haya_text::OutOfMemory;
 use std::alloc::Global;
@@ -120,9 +121,9 @@ fn candidates_on<'e>(
     parents: &'e [Entry],
     found: &mut Bindings<'e>,
     steps: &mut Steps,
-) -> Result<Option<Vec<usize>>, OutOfMemory>
+) -> Result<Option<Candidates>, OutOfMemory>
     requires { number < node_count nodes.now }
-    ensures answer { GivesPlaces result (candidates (syntax_at nodes.now number) (views parents.now)) }
+    ensures answer { GivesCandidates (views parents.now) result (candidates (syntax_at nodes.now number) (views parents.now)) }
     ensures bound { IfOk result (λ o. AddsOn (slot_names nodes.now) (views parents.now) found.old found.new
         (if is_some o then binds_on (syntax_at nodes.now number) (views parents.now) else [])) }
     ensures ticks { Ticks result steps.old steps.new
@@ -130,7 +131,7 @@ fn candidates_on<'e>(
 {
     steps.tick();
     match nodes.at(number) {
-        Node::Wildcard => all_places(alloc, parents),
+        Node::Wildcard => Ok(all_places(parents)),
         Node::Entry(_) | Node::Ancestrage(_, _) => {
             first_alone(nodes, number, alloc, parents, found, steps)
         }
@@ -140,14 +141,14 @@ fn candidates_on<'e>(
                 found.truncate(before);
                 return Ok(None);
             }
-            Ok(Some(Vec::new(alloc)))
+            Ok(Some(Candidates::Nothing))
         }
         Node::Binding(slot, inner) => {
             match candidates_on(nodes, *inner, alloc, parents, found, steps)? {
                 None => Ok(None),
-                Some(places) => {
-                    found.bind_first(*slot, parents, &places)?;
-                    Ok(Some(Vec::new(alloc)))
+                Some(candidates) => {
+                    found.bind_first(*slot, parents, &candidates)?;
+                    Ok(Some(Candidates::Nothing))
                 }
             }
         }
@@ -155,7 +156,7 @@ fn candidates_on<'e>(
             let before = found.len();
             match candidates_on(nodes, *inner, alloc, parents, found, steps)? {
                 None => Ok(None),
-                Some(places) => match kept_places(names, parents, places) {
+                Some(candidates) => match kept_places(alloc, names, parents, candidates)? {
                     Some(left) => Ok(Some(left)),
                     None => {
                         found.truncate(before);
@@ -178,9 +179,9 @@ fn first_candidates_on<'e>(
     parents: &'e [Entry],
     found: &mut Bindings<'e>,
     steps: &mut Steps,
-) -> Result<Option<Vec<usize>>, OutOfMemory>
+) -> Result<Option<Candidates>, OutOfMemory>
     requires { above members.now ≤ node_count nodes.now }
-    ensures answer { GivesPlaces result
+    ensures answer { GivesCandidates (views parents.now) result
         (first_candidates (members_at nodes.now members.now) (views parents.now)) }
     ensures bound { IfOk result (λ o. AddsOn (slot_names nodes.now) (views parents.now) found.old found.new
         (if is_some o then first_binds_on (members_at nodes.now members.now) (views parents.now) else [])) }
@@ -188,9 +189,9 @@ fn first_candidates_on<'e>(
         (first_calls_on (members_at nodes.now members.now) (views parents.now)) }
 {
     for member in members {
-        let places = candidates_on(nodes, *member, alloc, parents, found, steps)?;
-        if places.is_some() {
-            return Ok(places);
+        let candidates = candidates_on(nodes, *member, alloc, parents, found, steps)?;
+        if candidates.is_some() {
+            return Ok(candidates);
         }
     }
     Ok(None)
@@ -206,12 +207,13 @@ fn each_takes_one<'e>(
     parents: &'e [Entry],
     found: &mut Bindings<'e>,
     steps: &mut Steps,
-) -> Result<Option<Vec<usize>>, OutOfMemory>
+) -> Result<Option<Candidates>, OutOfMemory>
     requires { above members.now ≤ node_count nodes.now }
-    ensures answer { GivesPlaces result (greedy (members_at nodes.now members.now) (views parents.now) []) }
+    ensures answer { GivesCandidates (views parents.now) result (greedy (members_at nodes.now members.now) (views parents.now) []) }
     ensures bound { IfOk result (λ o. AddsOn (slot_names nodes.now) (views parents.now) found.old found.new
         (option_map_or
-        (λ v. each_binds (members_at nodes.now members.now) (views parents.now) v.items) o [])) }
+        (λ v. each_binds (members_at nodes.now members.now) (views parents.now)
+        (candidate_places (views parents.now) v)) o [])) }
     ensures ticks { Ticks result steps.old steps.new
         (greedy_calls (members_at nodes.now members.now) (views parents.now) []) }
 {
@@ -226,10 +228,10 @@ fn each_takes_one<'e>(
             }
         }
     }
-    Ok(Some(taken))
+    Ok(Some(Candidates::Kept(taken)))
 }
 
-// The first place where the selector holds, as a list of one. The bindings at that parent are added
+// The first place where the selector holds, as the one candidate. The bindings at that parent are added
 // to `found`.
 #[cycle(evaluate)]
 #[tactic(auto, using(crate::proofs::FreePlaces::least_of_all, crate::proofs::FreePlaces::calls_of_all))]
@@ -240,9 +242,9 @@ fn first_alone<'e>(
     parents: &'e [Entry],
     found: &mut Bindings<'e>,
     steps: &mut Steps,
-) -> Result<Option<Vec<usize>>, OutOfMemory>
+) -> Result<Option<Candidates>, OutOfMemory>
     requires { number < node_count nodes.now }
-    ensures answer { GivesPlaces result (alone (holds (syntax_at nodes.now number)) (views parents.now)) }
+    ensures answer { GivesCandidates (views parents.now) result (alone (holds (syntax_at nodes.now number)) (views parents.now)) }
     ensures bound { IfOk result (λ o. AddsOn (slot_names nodes.now) (views parents.now) found.old found.new
         (if is_some o then
         pairs_at_first (holds (syntax_at nodes.now number)) (binds (syntax_at nodes.now number))
@@ -253,7 +255,7 @@ fn first_alone<'e>(
         (views parents.now))) }
 {
     match first_free(nodes, number, alloc, parents, &[], found, steps)? {
-        Some(place) => Ok(Some(vec![in alloc; place]?)),
+        Some(place) => Ok(Some(Candidates::One(place))),
         None => Ok(None),
     }
 }

@@ -9,13 +9,14 @@ use super::node::Node;
 use haya_text::OutOfMemory;
 use std::alloc::Global;
 
-// Nodes, children before parents, the names of their slots, and the numbers of all names that they
-// ask for.
+// Nodes, children before parents, the names of their slots, and the numbers of the names that they
+// ask for: all, and those that more than one asks for.
 #[derive(Drop)]
 pub(crate) struct Nodes {
     nodes: Vec<Node>,
     names: Vec<String>,
     asked: u32,
+    asked_again: u32,
     ghost fit: { IsTrue (all_fit (length names.items) 0 nodes.items) },
 }
 
@@ -30,6 +31,7 @@ impl Nodes {
             nodes: Vec::new(alloc),
             names: Vec::new(alloc),
             asked: 0,
+            asked_again: 0,
         }
     }
 
@@ -53,9 +55,9 @@ impl Nodes {
         }
     }
 
-    // The numbers of the names that nodes ask for.
-    pub(crate) fn asked(&self) -> u32 {
-        self.asked
+    // The numbers of the names that more than one node asks for.
+    pub(crate) fn asked_again(&self) -> u32 {
+        self.asked_again
     }
 
     // Adds a node, and answers its number.
@@ -103,6 +105,7 @@ impl Nodes {
             Selector::Attr(inner, names) => {
                 let inner = self.add(alloc, inner)?;
                 let names = NameSet::new(names);
+                self.asked_again |= self.asked & names.numbers();
                 self.asked |= names.numbers();
                 self.push(Node::Attr(inner, names))
             }

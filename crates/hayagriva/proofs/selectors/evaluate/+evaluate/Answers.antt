@@ -8,6 +8,7 @@ use Rattle.hayagriva.specs.Evaluation.{pairs_view}
 use Rattle.hayagriva.specs.Calls.{calls}
 use Rattle.hayagriva.specs.Holds.{holds, is_type, greedy, least_free}
 use Rattle.hayagriva.specs.Places.{items_up_to}
+use Rattle.hayagriva.specs.Candidates.{candidate_places}
 use Rattle.hayagriva.specs.Nodes.{members_at, slot_names, syntax_at}
 use Rattle.hayagriva.specs.Syntax.{Syntax, Entry, Ancestrage}
 use Rattle.hayagriva.proofs.Bounds.{ticks_more}
@@ -15,7 +16,7 @@ use Rattle.hayagriva.proofs.FreePlaces.{walked, passed, place_is, met_any, met_y
 use Rattle.hayagriva.proofs.Greedy.{bound_next, calls_part, calls_some, calls_none, kept_next, taken_none, taken_some, each-greedy}
 use Rattle.hayagriva.proofs.Paths.{bound_under, candidates_places, led_nothing, resolved_led}
 use Rattle.hayagriva.proofs.NodeLists.{above_at, left_more}
-use Rattle.hayagriva.proofs.CutBack.{leads_added, no_longer, cut_back}
+use Rattle.hayagriva.proofs.CutBack.{leads_added, cut_back}
 use Rattle.hayagriva.proofs.selectors.evaluate.+evaluate.Goals as goal
 
 pub first_free-loop-place-preserved-then-is_taken : goal.first_free-loop-place-preserved-then-is_taken
@@ -130,8 +131,9 @@ each_takes_one-returns-clause-bound t c =
 
 pub candidates_on-bind_first-requires : goal.candidates_on-bind_first-requires
 candidates_on-bind_first-requires t c =
+    let xs = map view c.args.parents.now in
     let e = rw c.in-Some.is at c.in_ok-candidates_on-in-Binding.ensures.answer in
-    rw c.deref.ensures.value (candidates_places (syntax_at c.args.nodes.now c.in-Binding.inner) c.args.parents.now c.in-Some.places.items e)
+    candidates_places (syntax_at c.args.nodes.now c.in-Binding.inner) c.args.parents.now (candidate_places xs c.in-Some.candidates) e
 
 pub candidates_on-returns-in-Entry-clause-answer : goal.candidates_on-returns-in-Entry-clause-answer
 candidates_on-returns-in-Entry-clause-answer t c =
@@ -189,16 +191,11 @@ each_takes_one-returns-in-None-clause-answer t c =
     let e : least_free (holds s) xs taken ≡ None = sym (rw c.deref.ensures.value at c.in_ok-place.ensures.answer) ∙ c.in-None.is in
     sym (taken_none s rest xs taken e) ∙ inv
 
-pub candidates_on-truncate-requires-in-None-kept_places : goal.candidates_on-truncate-requires-in-None-kept_places
-candidates_on-truncate-requires-in-None-kept_places t c =
-    let names = slot_names c.args.nodes.now in
-    rw c.len-before-in-Attr.ensures (no_longer names c.args.found.now c.candidates_on-in-Attr.new.found (leads_added names c.args.found.now c.candidates_on-in-Attr.new.found _ c.in_ok-candidates_on-in-Attr.ensures.bound))
-
-pub candidates_on-returns-in-None-kept_places-clause-bound : goal.candidates_on-returns-in-None-kept_places-clause-bound
-candidates_on-returns-in-None-kept_places-clause-bound t c =
+pub candidates_on-returns-in-None-3-clause-bound : goal.candidates_on-returns-in-None-3-clause-bound
+candidates_on-returns-in-None-3-clause-bound t c =
     let names = slot_names c.args.nodes.now in
     let leads = leads_added names c.args.found.now c.candidates_on-in-Attr.new.found _ c.in_ok-candidates_on-in-Attr.ensures.bound in
-    cut_back names c.args.found.now c.candidates_on-in-Attr.new.found leads _ (rw c.len-before-in-Attr.ensures at c.truncate-in-None-kept_places.ensures) ∙ sym (append-nil _)
+    cut_back names c.args.found.now c.candidates_on-in-Attr.new.found leads _ (rw c.len-before-in-Attr.ensures at c.truncate-in-None-3.ensures) ∙ sym (append-nil _)
 
 pub each_takes_one-returns-in-None-clause-bound : goal.each_takes_one-returns-in-None-clause-bound
 each_takes_one-returns-in-None-clause-bound t c =
