@@ -145,8 +145,14 @@ field_table =
     ∷ (codes "note", setting_of text_of (λ v f. record f { note = Some v }))
     ∷ (codes "abstract", setting_of text_of (λ v f. record f { abstract_ = Some v }))
     ∷ (codes "genre", setting_of text_of (λ v f. record f { genre = Some v }))
-    ∷ (codes "author", setting_of person_of (λ v f. record f { authors = with_one_more f.authors v }))
-    ∷ (codes "editor", setting_of person_of (λ v f. record f { editors = with_one_more f.editors v }))
+    ∷ (
+      codes "author",
+      setting_of person_of (λ v f. record f { authors = with_one_more f.authors v }),
+    )
+    ∷ (
+      codes "editor",
+      setting_of person_of (λ v f. record f { editors = with_one_more f.editors v }),
+    )
     ∷ (
       codes "affiliated",
       setting_of affiliated_of (λ v f. record f { affiliated = with_one_more f.affiliated v }),

@@ -11,12 +11,12 @@ use hayagriva::types::{Date, Person, PersonRole, PersonsWithRoles};
 use hayagriva::{Entry, ReadFault, ReadText};
 use std::alloc::{AllocError, Global};
 
-/// Sets the field with this name to what the value reads as. Authors, editors and affiliated persons
+/// Sets the field with this name to what the value reads as. Authors, editors and affiliated people
 /// are appended; any other value takes the place of what was there.
 pub fn set_field(alloc: Global, entry: &mut Entry, name: &str, value: &str) -> Result<(), LineFault>
     ensures ok { OnOk result (SetsFields
         (with_field name.now value.now (fields (view entry.old))) entry.old entry.new) }
-    ensures fault { IfErr result (FaultOf (with_field name.now value.now (fields (view entry.old)))) }
+    ensures err { IfErr result (FaultOf (with_field name.now value.now (fields (view entry.old)))) }
 {
     match name {
         "title" => entry.set_title(read_value(alloc, value)?),
