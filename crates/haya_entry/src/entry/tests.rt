@@ -190,7 +190,8 @@ fn has_no_name_for_another_key(rt: HostRuntime) {
     drop(entry);
 }
 
-// Keys of serial numbers that are kept one after another, each with the names that the entry then has.
+// Keys of serial numbers that are kept one after another, each with the names that the entry then
+// has.
 const NUMBERS_KEPT: &[(&str, &str)] = &[
     ("pmid", "serial-number pmid "),
     ("doi", "serial-number doi pmid "),

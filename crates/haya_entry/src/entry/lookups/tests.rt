@@ -370,8 +370,9 @@ fn people(rt: &(impl Abort + AllocGlobal), names: &[&str]) -> Vec<Person> {
 }
 
 fn add(rt: &(impl Abort + AllocGlobal), entry: &mut Entry, names: &[&str], role: PersonRole) {
-    let added = entry.add_affiliated_persons((people(rt, names), role));
-    assert!(rt; added.is_ok(), "memory");
+    entry
+        .add_affiliated_persons((people(rt, names), role))
+        .expect(rt, "memory");
 }
 
 fn in_words(rt: &(impl Abort + AllocGlobal), words: &str) -> PersonRole {
@@ -455,7 +456,7 @@ fn adds_the_first_persons(rt: HostRuntime) {
 fn add_both(rt: &(impl Abort + AllocGlobal), entry: &mut Entry, name: &str) {
     add(rt, entry, &[name], PersonRole::Narrator);
     let parent = self::entry(rt, name, EntryType::Web, none(rt));
-    assert!(rt; entry.add_parent(parent).is_ok(), "memory");
+    entry.add_parent(parent).expect(rt, "memory");
 }
 
 fn has_narrators(rt: &(impl Abort + AllocGlobal), entry: &Entry) {
