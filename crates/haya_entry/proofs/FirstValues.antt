@@ -2,7 +2,7 @@
 use Rattle.std.proofs.Common.{◌≡◌, ℕ, List, Option, refl}
 use Rattle.std.specs.Prelude.{option_and_then, option_map}
 use Rattle.std.specs.List.{filter_map}
-use Rattle.haya_entry.specs.Levels.{Asks, all_asked, answered, passed}
+use Rattle.haya_entry.specs.Levels.{Asks, all_asked, first_answers, rest_asked}
 use Rattle.haya_entry.specs.Lookups.{first}
 use Rattle.haya_entry.specs.Tree.{Tree, at}
 
@@ -12,5 +12,5 @@ pub asks-first : {S E T V : Type 0} {value : E → Tree} {step : S → E → Opt
     → {x : Tree} {s u : S} {paths : List (List ℕ)} {n : ℕ} {answer : Option T} → Asks value step x s paths n answer u
     → option_map seen answer ≡ first (filter_map (λ path. option_and_then found (at x path)) paths)
 asks-first found seen gives all_asked = refl
-asks-first found seen gives (answered here call) = let h = gives _ _ _ _ call in rw (here, ← h) refl
-asks-first found seen gives (passed here call rest) = let h = gives _ _ _ _ call in rw (here, ← h) (asks-first found seen gives rest)
+asks-first found seen gives (first_answers here call) = let h = gives _ _ _ _ call in rw (here, ← h) refl
+asks-first found seen gives (rest_asked here call rest) = let h = gives _ _ _ _ call in rw (here, ← h) (asks-first found seen gives rest)

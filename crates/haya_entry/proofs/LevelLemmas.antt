@@ -10,7 +10,7 @@ use Rattle.std.proofs.lemmas.List.Sums.{sum_by-cons}
 use Rattle.std.proofs.lemmas.Option.{get_or_from_slice_get, slice_get_within}
 use Rattle.std.specs.Borrow.{Bor}
 use Rattle.std.specs.Bool.{MatchBool}
-use Rattle.haya_entry.specs.Levels.{Asks, AsksAllWithin, all_asked, answered, passed, ancestors, height, heights, level, levels_from, parent_places}
+use Rattle.haya_entry.specs.Levels.{Asks, AsksAllWithin, all_asked, first_answers, rest_asked, ancestors, height, heights, level, levels_from, parent_places}
 use Rattle.haya_entry.specs.declared.entry.Entry.{Entry}
 use Rattle.haya_entry.specs.Tree.{Tree, Trees, node, no_trees, one_more, parents, tree_list, size, sizes, view}
 use Rattle.haya_entry.specs.declared.entry.ancestors.Depth.{Depth}
@@ -18,7 +18,7 @@ use Rattle.haya_entry.specs.declared.entry.ancestors.Depth.TheOpen as open'
 use Rattle.haya_entry.specs.declared.entry.ancestors.Depth.TheVariants as depth
 use Rattle.haya_entry.specs.declared.entry.ancestors.Depth.TheViews.{roll-Depth}
 use Rattle.haya_entry.specs.declared.entry.ancestors.Depth.TheFolds.{map-Depth, fold-roll-Depth}
-use Rattle.haya_entry.specs.Walks.{AsksWithin, further, further_step}
+use Rattle.haya_entry.specs.Walks.{AsksWithin, levels_further, levels_further_step}
 
 -- the paths of a level that lead over parents from place i on
 abbrev pub fronts : ℕ → ℕ → List Tree → List (List ℕ)
@@ -48,19 +48,19 @@ abbrev step_from : Tree → List ℕ → List (List ℕ)
 step_from x path = map (λ i. path ++ i ∷ []) (parent_places x path)
 
 module _ (x t : Tree) (i : ℕ) (e : slice_get (parents x) i ≡ Some t) where
-  step_led : (path : List ℕ) → step_from x (i ∷ path) ≡ map (λ p. i ∷ p) (step_from t path)
-  step_led path = rw e (sym (map-map (λ p. i ∷ p) (λ j. path ++ j ∷ []) (parent_places t path)))
+  step-under_parent : (path : List ℕ) → step_from x (i ∷ path) ≡ map (λ p. i ∷ p) (step_from t path)
+  step-under_parent path = rw e (sym (map-map (λ p. i ∷ p) (λ j. path ++ j ∷ []) (parent_places t path)))
 
-  steps_led : (paths : List (List ℕ)) → flat_map (step_from x) (map (λ p. i ∷ p) paths) ≡ map (λ p. i ∷ p) (flat_map (step_from t) paths)
-  steps_led [] = refl
-  steps_led (path ∷ paths) =
-      rw (step_led path, steps_led paths) (sym (map-append (λ p. i ∷ p) (step_from t path) (flat_map (step_from t) paths)))
+  steps-under_parent : (paths : List (List ℕ)) → flat_map (step_from x) (map (λ p. i ∷ p) paths) ≡ map (λ p. i ∷ p) (flat_map (step_from t) paths)
+  steps-under_parent [] = refl
+  steps-under_parent (path ∷ paths) =
+      rw (step-under_parent path, steps-under_parent paths) (sym (map-append (λ p. i ∷ p) (step_from t path) (flat_map (step_from t) paths)))
 
 next_level : (x : Tree) (d i : ℕ) (ts : List Tree) → drop i (parents x) ≡ ts → flat_map (step_from x) (fronts d i ts) ≡ fronts (suc d) i ts
 next_level x d i [] e = refl
 next_level x d i (t ∷ ts) e =
     let here = places_from (parents x) i t ts e in
-    rw (flat_map-append (step_from x) (map (λ p. i ∷ p) (level t d)) (fronts d (suc i) ts), steps_led x t i here.0 (level t d), next_level x d (suc i) ts here.1) refl
+    rw (flat_map-append (step_from x) (map (λ p. i ∷ p) (level t d)) (fronts d (suc i) ts), steps-under_parent x t i here.0 (level t d), next_level x d (suc i) ts here.1) refl
 
 -- a level goes over the parents
 pub level-first : (x : Tree) (d : ℕ) → level x (suc d) ≡ fronts d 0 (parents x)
@@ -69,23 +69,23 @@ level-first x (suc d) = ap (flat_map (step_from x)) (level-first x d) ∙ next_l
 
 module _ {S E T : Type 0} {value : E → Tree} {step : S → E → Option T → S → Type 0} where
   -- what is asked of a parent's ancestors is asked of its child's
-  pub Asks-led : (x t : Tree) (i : ℕ) → slice_get (parents x) i ≡ Some t → {s u : S} {paths : List (List ℕ)} {n : ℕ} {answer : Option T}
+  pub Asks-under_parent : (x t : Tree) (i : ℕ) → slice_get (parents x) i ≡ Some t → {s u : S} {paths : List (List ℕ)} {n : ℕ} {answer : Option T}
       → Asks value step t s paths n answer u → Asks value step x s (map (λ p. i ∷ p) paths) n answer u
-  Asks-led x t i e all_asked = all_asked
-  Asks-led x t i e (answered there did) = answered (rw e there) did
-  Asks-led x t i e (passed there did rest) = passed (rw e there) did (Asks-led x t i e rest)
+  Asks-under_parent x t i e all_asked = all_asked
+  Asks-under_parent x t i e (first_answers there did) = first_answers (rw e there) did
+  Asks-under_parent x t i e (rest_asked there did rest) = rest_asked (rw e there) did (Asks-under_parent x t i e rest)
 
   -- where none answers, the next are asked
   pub Asks-then : (x : Tree) {s u v : S} {ps qs : List (List ℕ)} {m n : ℕ} {answer : Option T}
       → Asks value step x s ps m None u → Asks value step x u qs n answer v → Asks value step x s (ps ++ qs) (m + n) answer v
   Asks-then x {n = n} all_asked next = rw (zero-add n) next
-  Asks-then x (passed {n = m} there did rest) next = rw (add_assoc 1 m _) (passed there did (Asks-then x rest next))
+  Asks-then x (rest_asked {n = m} there did rest) next = rw (add_assoc 1 m _) (rest_asked there did (Asks-then x rest next))
 
   -- after an answer nobody is asked
   pub Asks-answered : (x : Tree) {s u : S} {ps : List (List ℕ)} (qs : List (List ℕ)) {n : ℕ} {y : T}
       → Asks value step x s ps n (Some y) u → Asks value step x s (ps ++ qs) n (Some y) u
-  Asks-answered x qs (answered there did) = answered there did
-  Asks-answered x qs (passed there did rest) = passed there did (Asks-answered x qs rest)
+  Asks-answered x qs (first_answers there did) = first_answers there did
+  Asks-answered x qs (rest_asked there did rest) = rest_asked there did (Asks-answered x qs rest)
 
 sizes-tree_list : (ts : Trees) → sizes ts ≡ sum_by size (tree_list ts)
 sizes-tree_list no_trees = refl
@@ -94,23 +94,24 @@ sizes-tree_list (one_more t ts) = ap (λ n. size t + n) (sizes-tree_list ts) ∙
 pub size-parents : (x : Tree) → size x ≡ 1 + sum_by size (parents x)
 size-parents (node f ts) = ap (λ n. 1 + n) (sizes-tree_list ts)
 
-not_led : (i : ℕ) (ps qs : List (List ℕ)) → ps ≢ [] → map (λ path. i ∷ path) ps ++ qs ≢ []
-not_led i [] qs some = λ _. some refl
-not_led i (p ∷ ps) qs some = λ e. absurd (cc)
+some-under_parent : (i : ℕ) (ps qs : List (List ℕ)) → ps ≢ [] → map (λ path. i ∷ path) ps ++ qs ≢ []
+some-under_parent i [] qs some = λ _. some refl
+some-under_parent i (p ∷ ps) qs some = λ e. absurd (cc)
 
 -- who answers was asked
 pub Asks-some : {S E T : Type 0} {value : E → Tree} {step : S → E → Option T → S → Type 0} (x : Tree) {s u : S} {ps : List (List ℕ)} {n : ℕ} {y : T}
     → Asks value step x s ps n (Some y) u → ps ≢ []
-Asks-some x (answered there did) = λ e. absurd (cc)
-Asks-some x (passed there did rest) = λ e. absurd (cc)
+Asks-some x (first_answers there did) = λ e. absurd (cc)
+Asks-some x (rest_asked there did rest) = λ e. absurd (cc)
 
 -- nobody but the entry itself
 pub Asks-itself : {S E T : Type 0} (value : E → Tree) (step : S → E → Option T → S → Type 0) (s u : S) (e : E) (r : Option T)
     → step s e r u → Asks value step (value e) s ([] ∷ []) 1 r u
-Asks-itself value step s u e (Some y) did = answered refl did
-Asks-itself value step s u e None did = passed refl did all_asked
+Asks-itself value step s u e (Some y) did = first_answers refl did
+Asks-itself value step s u e None did = rest_asked refl did all_asked
 
--- where a walk over the parents stands: what asking the rest comes to for all, how often it has ticked at most, and whether somebody was reached
+-- where a walk over the parents stands: what asking the rest comes to for all, how often it has
+-- ticked at most, and whether somebody was reached
 pub record IsUnderWay {S E T : Type 0} (value : E → Tree) (step : S → E → Option T → S → Type 0) (x : Tree) (d : ℕ) (first now : S) (place from seen : ℕ) (is_reached : Bool) : Type 0 where
   pub count : ℕ
   pub ticked : from + count ≤ seen
@@ -141,7 +142,7 @@ module _ {S E T : Type 0} {value : E → Tree} {step : S → E → Option T → 
         → AsksWithin value step x first (fronts d 0 (parents x)) (Some y) later from then
     under_way_answered {y} {later} asks = (
       w.count + asks.0,
-      w.joins asks.0 (Some y) later (rw here (Asks-answered x (fronts d (suc place) (drop (suc place) (parents x))) (Asks-led x p place e asks.1))),
+      w.joins asks.0 (Some y) later (rw here (Asks-answered x (fronts d (suc place) (drop (suc place) (parents x))) (Asks-under_parent x p place e asks.1))),
       omega (arith, w.ticked, asks.2),
     )
 
@@ -156,7 +157,7 @@ module _ {S E T : Type 0} {value : E → Tree} {step : S → E → Option T → 
           rw one (record {
             count = w.count + asks.0;
             ticked = omega (arith, w.ticked, asks.2);
-            joins = λ n a u rest. rw (add_assoc w.count asks.0 n) (w.joins (asks.0 + n) a u (rw here (Asks-then x (Asks-led x p place e asks.1) rest)));
+            joins = λ n a u rest. rw (add_assoc w.count asks.0 n) (w.joins (asks.0 + n) a u (rw here (Asks-then x (Asks-under_parent x p place e asks.1) rest)));
             most = omega (arith, w.most, sizes_here, h);
             reached = r;
           })
@@ -173,7 +174,7 @@ module _ {S E T : Type 0} {value : E → Tree} {step : S → E → Option T → 
       pub under_way_asked : level p d ≢ [] → IsUnderWay value step x d first later (place + 1) from then true
       under_way_asked some = next true ((elim is_reached as (λ b. MatchBool b (fronts d 0 (parents x) ≢ []) (fronts d 0 (parents x) ≡ fronts d place (drop place (parents x))) → fronts d 0 (parents x) ≢ []) [
         | true ↦ λ r. r
-        | false ↦ λ r none. not_led place (level p d) (fronts d (suc place) (drop (suc place) (parents x))) some (sym (r ∙ here) ∙ none)
+        | false ↦ λ r none. some-under_parent place (level p d) (fronts d (suc place) (drop (suc place) (parents x))) some (sym (r ∙ here) ∙ none)
       ]) w.reached)
 
   -- after the last parent
@@ -195,14 +196,14 @@ module _ {S E T : Type 0} {value : E → Tree} {step : S → E → Option T → 
     pub under_way_end : seen + 1 ≤ from + size x
     under_way_end = omega (arith, w.most, size-parents x, ap (sum_by size) none_left)
 
-further_rolled : (x : open'.Depth-F Depth) → further (roll-Depth x) ≡ further_step (map-Depth Depth ℕ further x)
-further_rolled = fold-roll-Depth ℕ further_step
+levels_further_rolled : (x : open'.Depth-F Depth) → levels_further (roll-Depth x) ≡ levels_further_step (map-Depth Depth ℕ levels_further x)
+levels_further_rolled = fold-roll-Depth ℕ levels_further_step
 
-pub further-one : further depth.One ≡ 0
-further-one = ap further (sym depth.rolls-One) ∙ further_rolled open'.One
+pub levels_further-one : levels_further depth.One ≡ 0
+levels_further-one = ap levels_further (sym depth.rolls-One) ∙ levels_further_rolled open'.One
 
-pub further-next : (d : Bor Depth) → further (depth.Next d) ≡ suc (further d.now)
-further-next d = ap further (sym (depth.rolls-Next d)) ∙ further_rolled (open'.Next d)
+pub levels_further-next : (d : Bor Depth) → levels_further (depth.Next d) ≡ suc (levels_further d.now)
+levels_further-next d = ap levels_further (sym (depth.rolls-Next d)) ∙ levels_further_rolled (open'.Next d)
 
 -- no entry stands above the height
 mutual

@@ -36,10 +36,10 @@ tail_of : Path → Path
 tail_of [] = []
 tail_of (i ∷ p) = p
 
-apart-led : (i : ℕ) (ps : List Path) → AreApart ps → AreApart (map (λ p. i ∷ p) ps)
+apart-under_parent : (i : ℕ) (ps : List Path) → AreApart ps → AreApart (map (λ p. i ∷ p) ps)
 unfolding tail_of
-apart-led i [] h = tt
-apart-led i (p ∷ ps) h = (every-map (λ q. p ≢ q) (λ q. (i ∷ p) ≢ q) (λ q. i ∷ q) (λ q other same. other (ap tail_of same)) ps h.0, apart-led i ps h.1)
+apart-under_parent i [] h = tt
+apart-under_parent i (p ∷ ps) h = (every-map (λ q. p ≢ q) (λ q. (i ∷ p) ≢ q) (λ q. i ∷ q) (λ q other same. other (ap tail_of same)) ps h.0, apart-under_parent i ps h.1)
 
 -- the path begins with a place from i on
 abbrev BeginsFrom : ℕ → Path → Type 0
@@ -65,7 +65,7 @@ each_apart i (p ∷ ps) qs h = (later_apart i p qs h, each_apart i ps qs h)
 fronts_apart : (d i : ℕ) (ts : List Tree) → ((t : Tree) → AreApart (level t d)) → AreApart (fronts d i ts)
 fronts_apart d i [] h = tt
 fronts_apart d i (t ∷ ts) h =
-    apart-append (map (λ p. i ∷ p) (level t d)) (fronts d (suc i) ts) (apart-led i (level t d) (h t)) (fronts_apart d (suc i) ts h)
+    apart-append (map (λ p. i ∷ p) (level t d)) (fronts d (suc i) ts) (apart-under_parent i (level t d) (h t)) (fronts_apart d (suc i) ts h)
     (each_apart i (level t d) (fronts d (suc i) ts) (fronts_begin d (suc i) ts))
 
 level_apart : (x : Tree) (d : ℕ) → AreApart (level x d)

@@ -1,7 +1,8 @@
 -- Laws of the look-ups' lists of paths.
-use Rattle.std.proofs.Common.{◌≡◌, ℕ, suc, ◌+◌, ◌-◌, ◌<◌, ◌≤◌, Bool, true, false, cond, ◌||◌, List, [], ◌∷◌, ◌++◌, length, get_or, drop, drop-cons, map, Option, None, Some, refl, sym, ap, ◌∙◌, add-one, arith}
+use Rattle.std.proofs.Common.{◌≡◌, ℕ, suc, ◌+◌, ◌<◌, ◌≤◌, Bool, true, false, cond, ◌||◌, List, [], ◌∷◌, ◌++◌, length, get_or, drop, drop-cons, map, Option, None, Some, refl, sym, ap, ◌∙◌, add-one, arith}
 use Rattle.std.specs.Prelude.{option_and_then, option_map, slice_get, filter, find, flat_map}
 use Rattle.std.specs.Borrow.{Bor}
+use Rattle.std.specs.List.{last_or}
 use Rattle.std.specs.Option.{option_copied, option_or}
 use Rattle.std.proofs.Math.ListN.{drop_of_length-le}
 use Rattle.std.proofs.lemmas.List.{length-map}
@@ -12,7 +13,8 @@ use denote.Enum.Bare.{sameb}
 use Rattle.haya_entry.specs.contracts.types.EntryType.{the_type}
 use Rattle.haya_entry.specs.declared.types.EntryType.{EntryType}
 use Rattle.haya_entry.specs.declared.types.EntryType.TheVariants.{Anthology}
-use Rattle.haya_entry.specs.Lookups.{IsAt, collections, containers, depth_first_paths, collection_lists, depth_first_lists, entries_of_type, first, line_of_first_parents, line_above, full_path, is_collection_of, is_full, is_of_type, last, joined_paths, parents_passing, passes_at}
+use Rattle.haya_entry.specs.Lookups.{IsAt, collections, containers, depth_first_paths, collection_lists, depth_first_lists, entries_of_type, first, line_of_first_parents, line_above, full_path, is_collection_of, is_full, joined_paths, parents_passing, passes_at}
+use Rattle.haya_entry.specs.Names.{is_of_type}
 use Rattle.haya_entry.specs.ParentTypes.{container_types, is_collected}
 use Rattle.haya_entry.specs.Tree.{Tree, Trees, node, no_trees, one_more, at, fields_of, parents, tree_list, trees, view}
 use Rattle.haya_entry.proofs.LevelLemmas.{from_place, places_from}
@@ -24,15 +26,15 @@ path-none x None h = refl
 path-none x (Some p) h = cc
 
 -- where an entry gives no path, the next are asked
-led-none : (i : ℕ) (paths : List (List ℕ)) (rest : List (List (List ℕ))) → first paths ≡ None → first (joined_paths i (paths ∷ rest)) ≡ first (joined_paths (suc i) rest)
-led-none i [] rest h = refl
-led-none i (p ∷ ps) rest h = cc
+joined_paths-none : (i : ℕ) (paths : List (List ℕ)) (rest : List (List (List ℕ))) → first paths ≡ None → first (joined_paths i (paths ∷ rest)) ≡ first (joined_paths (suc i) rest)
+joined_paths-none i [] rest h = refl
+joined_paths-none i (p ∷ ps) rest h = cc
 
 -- where it gives one, that is the answer
-led-some : (x t : Tree) (i : ℕ) (paths : List (List ℕ)) (rest : List (List (List ℕ))) (answer : Bor Entry)
+joined_paths-some : (x t : Tree) (i : ℕ) (paths : List (List ℕ)) (rest : List (List (List ℕ))) (answer : Bor Entry)
     → slice_get (parents x) i ≡ Some t → IsAt t (first paths) (Some answer) → IsAt x (first (joined_paths i (paths ∷ rest))) (Some answer)
-led-some x t i [] rest answer s h = cc
-led-some x t i (p ∷ ps) rest answer s h = h ∙ ap (λ o. Some (option_and_then (λ q. at q p) o)) (sym s)
+joined_paths-some x t i [] rest answer s h = cc
+joined_paths-some x t i (p ∷ ps) rest answer s h = h ∙ ap (λ o. Some (option_and_then (λ q. at q p) o)) (sym s)
 
 -- the entries of a loop over parents are the parents by value
 pub parent_at : (x : Entry) (es : List Entry) (i : ℕ) (e : Entry) → es ≡ (out-Entry x).parents.items → i < length es → e ≡ get_or es i e → slice_get (parents (view x)) i ≡ Some (view e)
@@ -53,11 +55,11 @@ module _ (answers : Tree → List (List ℕ)) (paths : List (List ℕ)) (x : Ent
     here = searched ∙ ap (λ ts. first (joined_paths i (map answers ts))) (from_place (parents (view x)) i (view e) (parent_at x es i e s within r))
 
     pub searched-next : IsAt (view e) (first (answers (view e))) None → Searched answers paths (view x) (i + 1)
-    searched-next none = rw add-one (here ∙ led-none i (answers (view e)) (map answers (drop (suc i) (parents (view x)))) (path-none (view e) (first (answers (view e))) none))
+    searched-next none = rw add-one (here ∙ joined_paths-none i (answers (view e)) (map answers (drop (suc i) (parents (view x)))) (path-none (view e) (first (answers (view e))) none))
 
     pub searched-found : (answer : Bor Entry) → IsAt (view e) (first (answers (view e))) (Some answer) → IsAt (view x) (first paths) (Some answer)
     searched-found answer some =
-        led-some (view x) (view e) i (answers (view e)) (map answers (drop (suc i) (parents (view x)))) answer (parent_at x es i e s within r) some ∙ ap (option_map (at (view x))) (sym here)
+        joined_paths-some (view x) (view e) i (answers (view e)) (map answers (drop (suc i) (parents (view x)))) answer (parent_at x es i e s within r) some ∙ ap (option_map (at (view x))) (sym here)
 
   pub searched-all : length es ≤ i → IsAt (view x) (first paths) None
   searched-all past =
@@ -65,16 +67,16 @@ module _ (answers : Tree → List (List ℕ)) (paths : List (List ℕ)) (x : Ent
       let none : drop i (parents (view x)) ≡ [] = drop_of_length-le (parents (view x)) (omega (arith, many)) in
       ap (option_map (at (view x))) (sym (searched ∙ ap (λ ts. first (joined_paths i (map answers ts))) none))
 
-led-kept : (b : Bool) (p : List ℕ) (i : ℕ) (ps : List (List ℕ)) → cond b ((i ∷ p) ∷ map (λ path. i ∷ path) ps) (map (λ path. i ∷ path) ps) ≡ map (λ path. i ∷ path) (cond b (p ∷ ps) ps)
-led-kept true p i ps = refl
-led-kept false p i ps = refl
+kept-under_parent : (b : Bool) (p : List ℕ) (i : ℕ) (ps : List (List ℕ)) → cond b ((i ∷ p) ∷ map (λ path. i ∷ path) ps) (map (λ path. i ∷ path) ps) ≡ map (λ path. i ∷ path) (cond b (p ∷ ps) ps)
+kept-under_parent true p i ps = refl
+kept-under_parent false p i ps = refl
 
 -- a test at paths that lead over a parent is the test at the rest of them from this parent
-passes-led : (test : Tree → Bool) (x t : Tree) (i : ℕ) → slice_get (parents x) i ≡ Some t → (paths : List (List ℕ))
+filter-under_parent : (test : Tree → Bool) (x t : Tree) (i : ℕ) → slice_get (parents x) i ≡ Some t → (paths : List (List ℕ))
     → filter (passes_at test x) (map (λ path. i ∷ path) paths) ≡ map (λ path. i ∷ path) (filter (passes_at test t) paths)
-passes-led test x t i s [] = refl
-passes-led test x t i s (p ∷ ps) =
-    rw (s, passes-led test x t i s ps) (led-kept (passes_at test t p) p i (filter (passes_at test t) ps))
+filter-under_parent test x t i s [] = refl
+filter-under_parent test x t i s (p ∷ ps) =
+    rw (s, filter-under_parent test x t i s ps) (kept-under_parent (passes_at test t p) p i (filter (passes_at test t) ps))
 
 -- the entries above of a type are those of the parents
 types-above : (kind : EntryType) (x : Tree) (i : ℕ) (ts : Trees) → drop i (parents x) ≡ tree_list ts
@@ -84,7 +86,7 @@ types-above kind x i (one_more t ts) s =
     let test = is_of_type kind in
     let there = places_from (parents x) i t (tree_list ts) s in
     filter-append (passes_at test x) (map (λ path. i ∷ path) (depth_first_paths t)) (joined_paths (suc i) (depth_first_lists ts))
-    ∙ rw (passes-led test x t i there.0 (depth_first_paths t), types-above kind x (suc i) ts there.1) refl
+    ∙ rw (filter-under_parent test x t i there.0 (depth_first_paths t), types-above kind x (suc i) ts there.1) refl
 
 pub types-searched : (kind : EntryType) (x : Entry) → sameb the_type (out-Entry x).entry_type kind ≡ false → Searched (entries_of_type kind) (entries_of_type kind (view x)) (view x) 0
 types-searched kind x h = rw (view_is x, h) (ap first (types-above kind (node (fields_of (out-Entry x)) (above x)) 0 (above x) refl))
@@ -180,17 +182,15 @@ full-alone (node f no_trees) h = alone (is_full (node f no_trees))
     alone false = refl
 full-alone (node f (one_more t ts)) h = cc
 
-last-cons : (p q : List ℕ) (ps : List (List ℕ)) → last (p ∷ q ∷ ps) ≡ last (q ∷ ps)
-last-cons p q ps = let e : length (p ∷ q ∷ ps) - 1 ≡ suc (length (q ∷ ps) - 1) = omega arith in rw e refl
+last_or-map : {A B : Type 0} (f : A → B) (o : Option A) (xs : List A) → last_or (option_map f o) (map f xs) ≡ option_map f (last_or o xs)
+last_or-map f o [] = refl
+last_or-map f o (x ∷ xs) = last_or-map f (Some x) xs
 
-last-led : (i : ℕ) (ps : List (List ℕ)) → last (map (λ path. i ∷ path) ps) ≡ option_map (λ path. i ∷ path) (last ps)
-last-led i ps = rw (length-map ps (λ path. i ∷ path)) (slice_get-map (λ path. i ∷ path) ps (length ps - 1))
+last-line : (t : Tree) → last_or None ([] ∷ map (λ path. 0 ∷ path) (line_of_first_parents t)) ≡ option_map (λ path. 0 ∷ path) (last_or None (line_of_first_parents t))
+last-line (node f ps) = last_or-map (λ path. 0 ∷ path) (Some []) (map (λ path. 0 ∷ path) (line_above ps))
 
-last-line : (t : Tree) → last ([] ∷ map (λ path. 0 ∷ path) (line_of_first_parents t)) ≡ option_map (λ path. 0 ∷ path) (last (line_of_first_parents t))
-last-line (node f ps) = last-cons [] (0 ∷ []) (map (λ path. 0 ∷ path) (map (λ path. 0 ∷ path) (line_above ps))) ∙ last-led 0 (line_of_first_parents (node f ps))
-
-first-led : (i : ℕ) (ps : List (List ℕ)) → first (map (λ path. i ∷ path) ps) ≡ option_map (λ path. i ∷ path) (first ps)
-first-led i ps = slice_get-map (λ path. i ∷ path) ps 0
+first-under_parent : (i : ℕ) (ps : List (List ℕ)) → first (map (λ path. i ∷ path) ps) ≡ option_map (λ path. i ∷ path) (first ps)
+first-under_parent i ps = slice_get-map (λ path. i ∷ path) ps 0
 
 -- any other entry: its first parent stands for it
 pub full-above : (x t : Tree) → is_full x ≡ false → slice_get (parents x) 0 ≡ Some t → option_map (at x) (full_path x) ≡ option_map (at t) (full_path t)
@@ -198,8 +198,8 @@ full-above (node f no_trees) t h s = cc
 full-above (node f (one_more u ts)) t h s =
     let e : u ≡ t = cc in
     let x = node f (one_more u ts) in
-    rw (← e, h, passes-led is_full x u 0 refl (line_of_first_parents u), first-led 0 (filter (passes_at is_full u) (line_of_first_parents u)), last-line u)
-    (either (first (filter (passes_at is_full u) (line_of_first_parents u))) (last (line_of_first_parents u)))
+    rw (← e, h, filter-under_parent is_full x u 0 refl (line_of_first_parents u), first-under_parent 0 (filter (passes_at is_full u) (line_of_first_parents u)), last-line u)
+    (either (first (filter (passes_at is_full u) (line_of_first_parents u))) (last_or None (line_of_first_parents u)))
   where
     either : (a b : Option (List ℕ)) → option_map (at (node f (one_more u ts))) (option_or (option_map (λ path. 0 ∷ path) a) (option_map (λ path. 0 ∷ path) b)) ≡ option_map (at u) (option_or a b)
     either (Some p) b = refl

@@ -1,9 +1,16 @@
--- The names that an entry has.
+-- The type of an entry, and the names that it has.
 use Rattle.std.specs.Prelude.{ℕ, Bool, false, List, [], ◌∷◌, is_some, unwrap_or, codes}
 use Rattle.std.specs.List.{list_all}
 use Rattle.std.specs.Map.{lookup}
 use Rattle.std.specs.Str.{bytes_eq}
+use denote.Enum.Bare.{sameb}
+use Rattle.haya_entry.specs.contracts.types.EntryType.{the_type}
+use Rattle.haya_entry.specs.declared.types.EntryType.{EntryType}
 use Rattle.haya_entry.specs.Tree.{Tree, fields, keyed_serial_number}
+
+-- whether the entry has this type
+abbrev pub is_of_type : EntryType → Tree → Bool
+is_of_type kind t = sameb the_type (fields t).entry_type kind
 
 -- each name, with whether the entry has it: fields that are set, serial numbers that are kept
 abbrev pub name_table : Tree → List (List ℕ × Bool)

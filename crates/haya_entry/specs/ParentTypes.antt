@@ -20,7 +20,8 @@ default_parent _ = Misc
 
 -- the types of containers, the most fitting first
 abbrev pub container_types : EntryType → List EntryType
-container_types Article = Book ∷ Proceedings ∷ Conference ∷ Periodical ∷ Newspaper ∷ Blog ∷ Reference ∷ Web ∷ []
+container_types Article =
+    Book ∷ Proceedings ∷ Conference ∷ Periodical ∷ Newspaper ∷ Blog ∷ Reference ∷ Web ∷ []
 container_types Anthos = Book ∷ Anthology ∷ Reference ∷ Report ∷ []
 container_types Chapter = Book ∷ Anthology ∷ Reference ∷ Report ∷ []
 container_types Case = Book ∷ Anthology ∷ Reference ∷ Report ∷ []
@@ -31,7 +32,8 @@ container_types Post = Thread ∷ Blog ∷ Web ∷ []
 container_types Thread = Thread ∷ Web ∷ Blog ∷ []
 container_types _ = []
 
--- whether the parents of an entry of this type may be its collections; an entry of any other type has those of its parents
+-- whether the parents of an entry of this type may be its collections; an entry of any other type
+-- has those of its parents
 abbrev pub is_collected : EntryType → Bool
 is_collected Anthology = true
 is_collected Newspaper = true
@@ -43,7 +45,8 @@ is_collected Reference = true
 is_collected Exhibition = true
 is_collected _ = false
 
--- whether an entry of this type is a part of what it stands in, and may go without a title of its own
+-- whether an entry of this type is a part of what it stands in, and may go without a title of its
+-- own
 abbrev pub is_part : EntryType → Bool
 is_part Chapter = true
 is_part Scene = true

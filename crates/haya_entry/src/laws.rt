@@ -11,7 +11,8 @@ ghost use Rattle.haya_entry.specs.Tree.{Tree, view, keyed_serial_number, with_ke
 
 use crate::{Entry, EntryType, SerialNumber};
 
-/// `==` of two entries holds exactly where their values are equal, parents and all that is above them included.
+/// `==` of two entries holds exactly where their values are equal, parents and all that is above
+/// them included.
 pub fn entries_equal_by_value()
     ensures { (a b : EntryData) → (⟦<Entry as PartialEq>⟧.eq a b ≡ true) ↔ (view a ≡ view b) }
 {}
@@ -33,7 +34,8 @@ pub fn equal_entries_have_alike()
         (name : List ℕ) → has_name (view a) name ≡ has_name (view b) name }
 {}
 
-/// A serial number that is set is the one that its key then finds; any other key finds what it found before.
+/// A serial number that is set is the one that its key then finds; any other key finds what it
+/// found before.
 pub fn set_serial_number_is_found()
     ensures { (key text other : List ℕ) (entry : Tree) →
         keyed_serial_number other (with_keyed_serial_number key text entry)

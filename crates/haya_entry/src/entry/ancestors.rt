@@ -3,7 +3,7 @@ ghost use Rattle.std.specs.Prelude.{◌≡◌, ℕ, suc, ◌+◌, ◌-◌, ◌*�
 ghost use Rattle.haya_entry.specs.Tree.{Tree, fields, parents, size, view};
 ghost use Rattle.haya_entry.specs.Levels.{AsksAll, AsksAllWithin, ancestors, height, level, levels_from};
 ghost use Rattle.haya_entry.specs.Lookups.{first_value};
-ghost use Rattle.haya_entry.specs.Walks.{AsksWithin, IsReached, answer_of, further};
+ghost use Rattle.haya_entry.specs.Walks.{AsksWithin, IsReached, answer_of, levels_further};
 ghost use Rattle.haya_values.specs.Url.{url_view};
 
 use crate::{Entry, Steps};
@@ -41,7 +41,8 @@ enum Depth<'a> {
     Next(&'a Depth<'a>),
 }
 
-// How a walk ended: no entry stands so far away, all that do were asked and none answered, or one answered.
+// How a walk ended: no entry stands so far away, all that do were asked and none answered, or one
+// answered.
 enum Outcome<T> {
     Nobody,
     Asked,
@@ -58,10 +59,10 @@ fn ask<E: Node, T, F: FnMut(E) -> Option<T>>(
 ) -> Outcome<T>
     requires { F.IsAlwaysCallable f.old }
     ensures callable { F.IsAlwaysCallable f.new }
-    ensures asks { let paths = level (E.tree node) (further depth.now) in
+    ensures asks { let paths = level (E.tree node) (levels_further depth.now) in
         AsksWithin E.tree F.step (E.tree node) f.old paths (answer_of result)
         f.new steps.old steps.new }
-    ensures reached { IsReached result (level (E.tree node) (further depth.now)) }
+    ensures reached { IsReached result (level (E.tree node) (levels_further depth.now)) }
     ensures most { steps.new ≤ steps.old + size (E.tree node) }
 {
     steps.tick();
@@ -84,10 +85,10 @@ fn walk<E: Node, T, F: FnMut(E) -> Option<T>>(
 ) -> Outcome<T>
     requires { F.IsAlwaysCallable f.old }
     ensures callable { F.IsAlwaysCallable f.new }
-    ensures asks { let paths = level (E.tree node) (suc (further depth.now)) in
+    ensures asks { let paths = level (E.tree node) (suc (levels_further depth.now)) in
         AsksWithin E.tree F.step (E.tree node) f.old paths (answer_of result)
         f.new steps.old steps.new }
-    ensures reached { IsReached result (level (E.tree node) (suc (further depth.now))) }
+    ensures reached { IsReached result (level (E.tree node) (suc (levels_further depth.now))) }
     ensures most { steps.new + 1 ≤ steps.old + size (E.tree node) }
 {
     let mut is_reached = false;
@@ -113,11 +114,11 @@ fn walk_from<E: Node, T, F: FnMut(E) -> Option<T>>(
     steps: &mut Steps,
 ) -> Option<T>
     requires callable { F.IsAlwaysCallable f.old }
-    requires within { further depth.now ≤ height (E.tree node) }
-    ensures asks { let paths = levels_from (E.tree node) (suc (further depth.now)) in
+    requires within { levels_further depth.now ≤ height (E.tree node) }
+    ensures asks { let paths = levels_from (E.tree node) (suc (levels_further depth.now)) in
         AsksWithin E.tree F.step (E.tree node) f.old paths result f.new steps.old steps.new }
     ensures most { let x = E.tree node in
-        steps.new ≤ steps.old + (height x + 1 - further depth.now) * length (ancestors x) }
+        steps.new ≤ steps.old + (height x + 1 - levels_further depth.now) * length (ancestors x) }
 {
     match walk(node, depth, f, steps) {
         Outcome::Nobody => None,
@@ -127,8 +128,9 @@ fn walk_from<E: Node, T, F: FnMut(E) -> Option<T>>(
 }
 
 impl Entry {
-    /// What the first ancestor that answers makes of itself: the parents are asked in order, then all parents of these,
-    /// and so on, each once, until `f` answers. `None` says that all were asked.
+    /// What the first ancestor that answers makes of itself: the parents are asked in order, then
+    /// all parents of these, and so on, each once, until `f` answers. `None` says that all were
+    /// asked.
     pub fn map_parents<'a, T, F: FnMut(&'a Entry) -> Option<T> + Drop>(&'a self, f: F) -> Option<T>
         requires { F.IsAlwaysCallable f }
         ensures { AsksAll F.step (view self.now) f (ancestors (view self.now)) result }
@@ -136,8 +138,8 @@ impl Entry {
         self.map_parents_counted(f, &mut Steps::new())
     }
 
-    /// The same. `steps` ticks once for each entry that a walk reaches: at least once for each call of `f`, and at
-    /// most as often as the entry has ancestors, times their levels and one.
+    /// The same. `steps` ticks once for each entry that a walk reaches: at least once for each call
+    /// of `f`, and at most as often as the entry has ancestors, times their levels and one.
     pub fn map_parents_counted<'a, T, F: FnMut(&'a Entry) -> Option<T> + Drop>(
         &'a self,
         f: F,
@@ -168,7 +170,8 @@ impl Entry {
     /// The date of the entry, or else of its first ancestor that has one: the parents are looked at
     /// in order, then all parents of these, and so on. `None` where none has a date.
     pub fn date_any(&self) -> Option<&Date>
-        ensures { option_map (λ d. d.now) result ≡ first_value (λ t. (fields t).date) (view self.now) }
+        ensures { option_map (λ d. d.now) result
+            ≡ first_value (λ t. (fields t).date) (view self.now) }
     {
         self.map(|entry| entry.date())
     }

@@ -1,6 +1,7 @@
 //! Look-ups from an entry: of works above it, and of persons who had a part in it.
-ghost use Rattle.std.specs.Prelude.{◌≡◌, ◌∷◌, [], IfOk, IfErr, OnOk, Some, map};
-ghost use Rattle.haya_entry.specs.Lookups.{IsAt, add_affiliated_persons, add_parent, affiliated_with_role, collections, containers, entries_of_type, first, full_path, is_full, is_of_type, pair_view, parents_passing, persons_of_role};
+ghost use Rattle.std.specs.Prelude.{◌≡◌, ◌∷◌, ◌++◌, [], IfOk, IfErr, OnOk, Some, map, unwrap_or};
+ghost use Rattle.haya_entry.specs.Lookups.{IsAt, add_affiliated_persons, add_parent, affiliated_with_role, collections, containers, entries_of_type, first, full_path, is_full, lists_view, pair_view, parents_passing, persons_of_role};
+ghost use Rattle.haya_entry.specs.Names.{is_of_type};
 ghost use Rattle.haya_entry.specs.ParentTypes.{container_types, is_collected};
 ghost use Rattle.haya_entry.specs.Tree.{view};
 ghost use Rattle.haya_people.specs.Person.{person_view};
@@ -80,6 +81,34 @@ fn persons_of_role<'a>(
         persons.extend(list.names.iter())?;
     }
     Ok(persons)
+}
+
+// Puts persons with their role behind the lists that are there. When out of memory they are handed
+// back, and nothing has changed.
+fn add_list(
+    alloc: Global,
+    lists: &mut Option<Vec<PersonsWithRoles>>,
+    added: PersonsWithRoles,
+) -> Result<(), PersonsWithRoles>
+    ensures ok { OnOk result (lists_view lists.new
+        ≡ Some (unwrap_or (lists_view lists.old) [] ++ roles_view added ∷ [])) }
+    ensures same { IfErr result (λ _. lists_view lists.new ≡ lists_view lists.old) }
+    ensures back { IfErr result (λ back. roles_view back ≡ roles_view added) }
+{
+    if let Some(lists) = lists {
+        return match lists.push(added) {
+            Ok(()) => Ok(()),
+            Err(refused) => Err(refused.value),
+        };
+    }
+    let mut first = Vec::new(alloc);
+    match first.push(added) {
+        Ok(()) => {
+            *lists = Some(first);
+            Ok(())
+        }
+        Err(refused) => Err(refused.value),
+    }
 }
 
 impl Entry {
@@ -221,22 +250,15 @@ impl Entry {
         ensures same { IfErr result (λ _. view self.new ≡ view self.old) }
         ensures back { IfErr result (λ back. pair_view back ≡ pair_view persons) }
     {
+        let alloc = *self.parents.allocator();
         let (names, role) = persons;
-        let item = PersonsWithRoles::new(names, role);
-        let refused = match &mut self.affiliated {
-            Some(lists) => lists.push(item),
-            None => {
-                let mut lists = Vec::new(*self.parents.allocator());
-                let pushed = lists.push(item);
-                if pushed.is_ok() {
-                    self.affiliated = Some(lists);
-                }
-                pushed
-            }
-        };
-        match refused {
+        match add_list(
+            alloc,
+            &mut self.affiliated,
+            PersonsWithRoles::new(names, role),
+        ) {
             Ok(()) => Ok(()),
-            Err(refused) => Err((refused.value.names, refused.value.role)),
+            Err(back) => Err((back.names, back.role)),
         }
     }
 }

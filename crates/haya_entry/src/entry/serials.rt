@@ -16,9 +16,9 @@ impl Entry {
         Some(text.as_str())
     }
 
-    /// Keeps a serial number under a key, in the place of the one that was there. Any key is kept as it is
-    /// handed in. Nothing else changes, and nothing at all when out of memory: then the number that was handed
-    /// in is dropped.
+    /// Keeps a serial number under a key, in the place of the one that was there. Any key is kept
+    /// as it is handed in. Nothing else changes, and nothing at all when out of memory: then the
+    /// number that was handed in is dropped.
     pub fn set_keyed_serial_number(&mut self, key: &str, value: String) -> Result<(), OutOfMemory>
         ensures ok { OnOk result (SetsSerial self.old self.new key.now (string_bytes value)) }
         ensures err { OnErr result (view self.new ≡ view self.old) }

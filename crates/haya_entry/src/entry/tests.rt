@@ -95,41 +95,71 @@ fn is_text(rt: &(impl Abort + AllocGlobal), found: Option<&FormatString>, wanted
     found == Some(&text(rt, wanted))
 }
 
-#[test]
-fn has_a_text_once_it_is_set(rt: HostRuntime) {
-    let mut entry = entry(&rt, "key", EntryType::Book);
-    assert!(rt; has_names(&rt, &entry, ""));
-    entry.set_title(text(&rt, "title"));
-    assert!(rt; has_names(&rt, &entry, "title "));
-    entry.set_genre(text(&rt, "genre"));
-    assert!(rt; has_names(&rt, &entry, "title genre "));
-    entry.set_archive_location(text(&rt, "archive-location"));
-    assert!(rt; has_names(&rt, &entry, "title archive-location genre "));
-    entry.set_location(text(&rt, "location"));
-    assert!(rt; has_names(&rt, &entry, "title location archive-location genre "));
-    entry.set_abstract_(text(&rt, "abstract"));
-    assert!(rt;
-        has_names(
-            &rt,
-            &entry,
-            "title location archive-location abstract genre "
-        )
-    );
+// Sets the text field of a name to this name.
+fn set_text(rt: &(impl Abort + AllocGlobal), entry: &mut Entry, name: &str) {
+    match name {
+        "title" => entry.set_title(text(rt, name)),
+        "location" => entry.set_location(text(rt, name)),
+        "organization" => entry.set_organization(text(rt, name)),
+        "archive" => entry.set_archive(text(rt, name)),
+        "archive-location" => entry.set_archive_location(text(rt, name)),
+        "call-number" => entry.set_call_number(text(rt, name)),
+        "note" => entry.set_note(text(rt, name)),
+        "abstract" => entry.set_abstract_(text(rt, name)),
+        "genre" => entry.set_genre(text(rt, name)),
+        _ => {}
+    }
+}
+
+// The text field of a name.
+fn text_of<'e>(entry: &'e Entry, name: &str) -> Option<&'e FormatString> {
+    match name {
+        "title" => entry.title(),
+        "location" => entry.location(),
+        "organization" => entry.organization(),
+        "archive" => entry.archive(),
+        "archive-location" => entry.archive_location(),
+        "call-number" => entry.call_number(),
+        "note" => entry.note(),
+        "abstract" => entry.abstract_(),
+        "genre" => entry.genre(),
+        _ => None,
+    }
+}
+
+// Text fields that are set one after another, each with the names that the entry then has.
+const TEXTS_SET: &[(&str, &str)] = &[
+    ("title", "title "),
+    ("genre", "title genre "),
+    ("archive-location", "title archive-location genre "),
+    ("location", "title location archive-location genre "),
+    (
+        "abstract",
+        "title location archive-location abstract genre ",
+    ),
+];
+
+const OTHER_TEXTS_SET: &[(&str, &str)] = &[
+    ("note", "note "),
+    ("organization", "organization note "),
+    ("call-number", "organization call-number note "),
+    ("archive", "organization archive call-number note "),
+];
+
+fn set_texts(rt: &(impl Abort + AllocGlobal), texts: &[(&str, &str)]) {
+    let mut entry = entry(rt, "key", EntryType::Book);
+    assert!(rt; has_names(rt, &entry, ""));
+    for (name, names) in texts {
+        set_text(rt, &mut entry, *name);
+        assert!(rt; has_names(rt, &entry, *names), "{name}");
+    }
     drop(entry);
 }
 
 #[test]
-fn has_the_other_texts_once_they_are_set(rt: HostRuntime) {
-    let mut entry = entry(&rt, "key", EntryType::Book);
-    entry.set_note(text(&rt, "note"));
-    assert!(rt; has_names(&rt, &entry, "note "));
-    entry.set_organization(text(&rt, "organization"));
-    assert!(rt; has_names(&rt, &entry, "organization note "));
-    entry.set_call_number(text(&rt, "call-number"));
-    assert!(rt; has_names(&rt, &entry, "organization call-number note "));
-    entry.set_archive(text(&rt, "archive"));
-    assert!(rt; has_names(&rt, &entry, "organization archive call-number note "));
-    drop(entry);
+fn has_a_text_once_it_is_set(rt: HostRuntime) {
+    set_texts(&rt, TEXTS_SET);
+    set_texts(&rt, OTHER_TEXTS_SET);
 }
 
 #[test]
@@ -160,76 +190,95 @@ fn has_no_name_for_another_key(rt: HostRuntime) {
     drop(entry);
 }
 
+// Keys of serial numbers that are kept one after another, each with the names that the entry then
+// has.
+const NUMBERS_KEPT: &[(&str, &str)] = &[
+    ("pmid", "serial-number pmid "),
+    ("doi", "serial-number doi pmid "),
+    ("arxiv", "serial-number doi pmid arxiv "),
+    ("isbn", "serial-number doi isbn pmid arxiv "),
+    ("pmcid", "serial-number doi isbn pmid pmcid arxiv "),
+    ("issn", "serial-number doi isbn issn pmid pmcid arxiv "),
+];
+
 #[test]
 fn has_serial_numbers_by_their_names(rt: HostRuntime) {
     let mut entry = entry(&rt, "key", EntryType::Book);
-    keep(&rt, &mut entry, "pmid", "1");
-    assert!(rt; has_names(&rt, &entry, "serial-number pmid "));
-    keep(&rt, &mut entry, "doi", "1");
-    assert!(rt; has_names(&rt, &entry, "serial-number doi pmid "));
-    keep(&rt, &mut entry, "arxiv", "1");
-    assert!(rt; has_names(&rt, &entry, "serial-number doi pmid arxiv "));
-    keep(&rt, &mut entry, "isbn", "1");
-    assert!(rt; has_names(&rt, &entry, "serial-number doi isbn pmid arxiv "));
-    keep(&rt, &mut entry, "pmcid", "1");
-    assert!(rt; has_names(&rt, &entry, "serial-number doi isbn pmid pmcid arxiv "));
-    keep(&rt, &mut entry, "issn", "1");
-    assert!(rt; has_names(&rt, &entry, "serial-number doi isbn issn pmid pmcid arxiv "));
+    for (key, names) in NUMBERS_KEPT {
+        keep(&rt, &mut entry, *key, "1");
+        assert!(rt; has_names(&rt, &entry, *names), "{key}");
+    }
     drop(entry);
 }
 
-// An entry with a text in each text field, and one with each serial number that has a name.
+const TEXT_FIELDS: &[&str] = &[
+    "title",
+    "location",
+    "organization",
+    "archive",
+    "archive-location",
+    "call-number",
+    "note",
+    "abstract",
+    "genre",
+];
+
+// An entry with a text in each text field.
 fn with_texts(rt: &(impl Abort + AllocGlobal), key: &str) -> Entry {
     let mut entry = entry(rt, key, EntryType::Article);
-    entry.set_title(text(rt, "title"));
-    entry.set_location(text(rt, "location"));
-    entry.set_organization(text(rt, "organization"));
-    entry.set_archive(text(rt, "archive"));
-    entry.set_archive_location(text(rt, "archive-location"));
-    entry.set_call_number(text(rt, "call-number"));
-    entry.set_note(text(rt, "note"));
-    entry.set_abstract_(text(rt, "abstract"));
-    entry.set_genre(text(rt, "genre"));
+    for name in TEXT_FIELDS {
+        set_text(rt, &mut entry, *name);
+    }
     entry
 }
 
-fn with_serials(rt: &(impl Abort + AllocGlobal)) -> Entry {
-    let mut entry = entry(rt, "key", EntryType::Article);
+const NUMBERS: &[&str] = &["doi", "isbn", "issn", "pmid", "pmcid", "arxiv"];
+
+// Sets each serial number that has a name to this name.
+fn set_serials(rt: &(impl Abort + AllocGlobal), entry: &mut Entry) {
     entry.set_doi(string(rt, "doi")).expect(rt, "memory");
     entry.set_isbn(string(rt, "isbn")).expect(rt, "memory");
     entry.set_issn(string(rt, "issn")).expect(rt, "memory");
     entry.set_pmid(string(rt, "pmid")).expect(rt, "memory");
     entry.set_pmcid(string(rt, "pmcid")).expect(rt, "memory");
     entry.set_arxiv(string(rt, "arxiv")).expect(rt, "memory");
+}
+
+// The serial number of a name.
+fn number_of<'e>(entry: &'e Entry, name: &str) -> Option<&'e str> {
+    match name {
+        "doi" => entry.doi(),
+        "isbn" => entry.isbn(),
+        "issn" => entry.issn(),
+        "pmid" => entry.pmid(),
+        "pmcid" => entry.pmcid(),
+        "arxiv" => entry.arxiv(),
+        _ => None,
+    }
+}
+
+// An entry with each serial number that has a name.
+fn with_serials(rt: &(impl Abort + AllocGlobal)) -> Entry {
+    let mut entry = entry(rt, "key", EntryType::Article);
+    set_serials(rt, &mut entry);
     entry
 }
 
 #[test]
 fn gets_the_texts_that_were_set(rt: HostRuntime) {
     let entry = with_texts(&rt, "key");
-    assert!(rt; is_text(&rt, entry.title(), "title"));
-    assert!(rt; is_text(&rt, entry.location(), "location"));
-    assert!(rt; is_text(&rt, entry.organization(), "organization"));
-    assert!(rt; is_text(&rt, entry.archive(), "archive"));
-    assert!(rt; is_text(&rt, entry.archive_location(), "archive-location"));
-    assert!(rt; is_text(&rt, entry.call_number(), "call-number"));
-    assert!(rt; is_text(&rt, entry.note(), "note"));
-    assert!(rt; is_text(&rt, entry.abstract_(), "abstract"));
-    assert!(rt; is_text(&rt, entry.genre(), "genre"));
+    for name in TEXT_FIELDS {
+        assert!(rt; is_text(&rt, text_of(&entry, *name), *name), "{name}");
+    }
     drop(entry);
 }
 
 #[test]
 fn gets_the_serial_numbers_that_were_set(rt: HostRuntime) {
     let entry = with_serials(&rt);
-    assert!(rt; is(entry.doi(), "doi"));
-    assert!(rt; is(entry.isbn(), "isbn"));
-    assert!(rt; is(entry.issn(), "issn"));
-    assert!(rt; is(entry.pmid(), "pmid"));
-    assert!(rt; is(entry.pmcid(), "pmcid"));
-    assert!(rt; is(entry.arxiv(), "arxiv"));
-    for key in ["doi", "isbn", "issn", "pmid", "pmcid", "arxiv"] {
-        assert!(rt; is(entry.keyed_serial_number(key), key));
+    for name in NUMBERS {
+        assert!(rt; is(number_of(&entry, *name), *name), "{name}");
+        assert!(rt; is(entry.keyed_serial_number(*name), *name), "{name}");
     }
     drop(entry);
 }
@@ -247,19 +296,30 @@ fn replaces_a_serial_number(rt: HostRuntime) {
 #[test]
 fn gets_the_other_fields(rt: HostRuntime) {
     let mut entry = entry(&rt, "tolkien", EntryType::Book);
-    assert!(rt; entry.key() == "tolkien");
-    assert!(rt; entry.entry_type() == EntryType::Book);
-    assert!(rt; entry.parents().is_empty());
-    assert!(rt; entry.serial_number().is_none());
-    assert!(rt; entry.language().is_none());
-    entry.set_language(string(&rt, "en"));
-    assert!(rt; is(entry.language(), "en"));
-    entry.set_language(string(&rt, "de"));
-    assert!(rt; is(entry.language(), "de"));
-    let serial = one_number(&rt);
-    entry.set_serial_number(serial.try_clone(rt.alloc()).expect(&rt, "memory"));
-    assert!(rt; is_serial(entry.serial_number(), &serial));
+    assert!(rt; is_new(&entry));
+    set_language(&rt, &mut entry, "en");
+    set_language(&rt, &mut entry, "de");
+    set_serial(&rt, &mut entry);
     drop(entry);
+}
+
+fn is_new(entry: &Entry) -> bool {
+    entry.key() == "tolkien"
+        && entry.entry_type() == EntryType::Book
+        && entry.parents().is_empty()
+        && entry.serial_number().is_none()
+        && entry.language().is_none()
+}
+
+fn set_language(rt: &(impl Abort + AllocGlobal), entry: &mut Entry, language: &str) {
+    entry.set_language(string(rt, language));
+    assert!(rt; is(entry.language(), language), "{language}");
+}
+
+fn set_serial(rt: &(impl Abort + AllocGlobal), entry: &mut Entry) {
+    let serial = one_number(rt);
+    entry.set_serial_number(serial.try_clone(rt.alloc()).expect(rt, "memory"));
+    assert!(rt; is_serial(entry.serial_number(), &serial));
 }
 
 fn is_serial(found: Option<&SerialNumber>, wanted: &SerialNumber) -> bool {
@@ -300,17 +360,26 @@ fn article(rt: &(impl Abort + AllocGlobal), site: &str) -> Entry {
     under(rt, with_texts(rt, "article"), journal)
 }
 
+// A copy, which is equal, and has equal parents.
+fn copy_of(rt: &(impl Abort + AllocGlobal), entry: &Entry) -> Entry {
+    let copy = entry.try_clone(rt.alloc()).expect(rt, "memory");
+    assert!(rt; copy == *entry, "a copy");
+    assert!(rt; copy.parents() == entry.parents(), "the parents of a copy");
+    copy
+}
+
 #[test]
 fn is_equal_to_its_copy_alone(rt: HostRuntime) {
     let here = article(&rt, "here");
-    let copy = here.try_clone(rt.alloc()).expect(&rt, "memory");
-    assert!(rt; copy == here, "a copy");
-    assert!(rt; copy.parents() == here.parents(), "the parents of a copy");
-    let there = article(&rt, "there");
-    assert!(rt; there != here, "the sites differ, two levels above");
-    drop(copy);
-    drop(there);
+    drop(copy_of(&rt, &here));
+    differs_elsewhere(&rt, &here);
     drop(here);
+}
+
+fn differs_elsewhere(rt: &(impl Abort + AllocGlobal), here: &Entry) {
+    let there = article(rt, "there");
+    assert!(rt; there != *here, "the sites differ, two levels above");
+    drop(there);
 }
 
 fn people(rt: &(impl Abort + AllocGlobal), text: &str) -> Vec<Person> {
@@ -330,13 +399,11 @@ fn translators(rt: &(impl Abort + AllocGlobal), text: &str) -> Vec<PersonsWithRo
     lists
 }
 
-// A book with people of three parts, and the first author's name.
-fn with_people(rt: &(impl Abort + AllocGlobal)) -> Entry {
-    let mut entry = entry(rt, "key", EntryType::Book);
+// Sets people of three parts.
+fn set_people(rt: &(impl Abort + AllocGlobal), entry: &mut Entry) {
     entry.set_authors(people(rt, "Doe, Jane"));
     entry.set_editors(people(rt, "van Dissmer, Courtney"));
     entry.set_affiliated(translators(rt, "Kwan, Kevin"));
-    entry
 }
 
 fn names_person(found: Option<&[Person]>, name: &str) -> bool {
@@ -346,32 +413,42 @@ fn names_person(found: Option<&[Person]>, name: &str) -> bool {
     }
 }
 
+fn has_people(rt: &(impl Abort + AllocGlobal), entry: &Entry) -> bool {
+    has_names(rt, entry, "author editor affiliated ")
+        && names_person(entry.authors(), "Doe")
+        && names_person(entry.editors(), "Dissmer")
+        && matches!(entry.affiliated(), Some(lists) if lists.len() == 1)
+}
+
 #[test]
 fn gets_the_people_that_were_set(rt: HostRuntime) {
-    let entry = with_people(&rt);
-    assert!(rt; has_names(&rt, &entry, "author editor affiliated "));
-    assert!(rt; names_person(entry.authors(), "Doe"));
-    assert!(rt; names_person(entry.editors(), "Dissmer"));
-    assert!(rt; matches!(entry.affiliated(), Some(lists) if lists.len() == 1));
-    let copy = entry.try_clone(rt.alloc()).expect(&rt, "memory");
-    assert!(rt; copy == entry);
-    drop(copy);
+    let mut entry = entry(&rt, "key", EntryType::Book);
+    set_people(&rt, &mut entry);
+    assert!(rt; has_people(&rt, &entry));
+    drop(copy_of(&rt, &entry));
     drop(entry);
+}
+
+fn has_date_and_totals(entry: &Entry) -> bool {
+    entry.date() == Some(&Date::from_year(1987))
+        && entry.volume_total() == Some(&Numeric::new(3))
+        && entry.page_total() == Some(&Numeric::new(500))
+}
+
+fn set_totals(rt: &(impl Abort + AllocGlobal), entry: &mut Entry) {
+    entry.set_volume_total(Numeric::new(3));
+    assert!(rt; has_names(rt, entry, "date volume-total "));
+    entry.set_page_total(Numeric::new(500));
+    assert!(rt; has_names(rt, entry, "date volume-total page-total "));
 }
 
 #[test]
 fn gets_the_date_and_the_totals_that_were_set(rt: HostRuntime) {
     let mut entry = entry(&rt, "key", EntryType::Book);
     entry.set_date(Date::from_year(1987));
-    entry.set_volume_total(Numeric::new(3));
-    assert!(rt; has_names(&rt, &entry, "date volume-total "));
-    entry.set_page_total(Numeric::new(500));
-    assert!(rt; has_names(&rt, &entry, "date volume-total page-total "));
-    assert!(rt; entry.date() == Some(&Date::from_year(1987)));
-    assert!(rt; entry.volume_total() == Some(&Numeric::new(3)));
-    assert!(rt; entry.page_total() == Some(&Numeric::new(500)));
-    let copy = entry.try_clone(rt.alloc()).expect(&rt, "memory");
-    assert!(rt; copy == entry);
+    set_totals(&rt, &mut entry);
+    assert!(rt; has_date_and_totals(&entry));
+    let copy = copy_of(&rt, &entry);
     entry.set_date(Date::from_year(1988));
     assert!(rt; copy != entry);
     drop(copy);
@@ -454,18 +531,26 @@ fn url(rt: &(impl Abort + AllocGlobal)) -> QualifiedUrl {
     )
 }
 
+fn set_numbers(entry: &mut Entry) {
+    entry.set_issue(number(1));
+    entry.set_chapter(number(2));
+    entry.set_volume(number(3));
+}
+
+fn set_times(entry: &mut Entry) {
+    entry.set_time_range(MaybeTyped::Typed(DurationRange::new(minutes(1), Some(minutes(3)))));
+    entry.set_runtime(MaybeTyped::Typed(minutes(90)));
+}
+
 // An article with each of these fields.
 fn with_values(rt: &(impl Abort + AllocGlobal)) -> Entry {
     let mut entry = entry(rt, "key", EntryType::Article);
     entry.set_publisher(publisher(rt));
     entry.set_url(url(rt));
-    entry.set_issue(number(1));
-    entry.set_chapter(number(2));
-    entry.set_volume(number(3));
+    set_numbers(&mut entry);
     entry.set_edition(words(rt, "second"));
     entry.set_page_range(MaybeTyped::Typed(page(rt, 5)));
-    entry.set_time_range(MaybeTyped::Typed(DurationRange::new(minutes(1), Some(minutes(3)))));
-    entry.set_runtime(MaybeTyped::Typed(minutes(90)));
+    set_times(&mut entry);
     entry
 }
 
@@ -481,31 +566,46 @@ fn is_page(
     found == Some(&MaybeTyped::Typed(page(rt, number)))
 }
 
+fn has_numbers(entry: &Entry) -> bool {
+    is_number(entry.issue(), 1) && is_number(entry.chapter(), 2) && is_number(entry.volume(), 3)
+}
+
+fn has_texts(rt: &(impl Abort + AllocGlobal), entry: &Entry) -> bool {
+    entry.publisher() == Some(&publisher(rt))
+        && entry.url() == Some(&url(rt))
+        && entry.edition() == Some(&words(rt, "second"))
+}
+
+fn has_times(entry: &Entry) -> bool {
+    let range = DurationRange::new(minutes(1), Some(minutes(3)));
+    entry.time_range() == Some(&MaybeTyped::Typed(range))
+        && entry.runtime() == Some(&MaybeTyped::Typed(minutes(90)))
+}
+
 #[test]
 fn gets_the_values_that_were_set(rt: HostRuntime) {
     let entry = with_values(&rt);
-    assert!(rt; entry.publisher() == Some(&publisher(&rt)));
-    assert!(rt; entry.url() == Some(&url(&rt)));
-    assert!(rt; is_number(entry.issue(), 1));
-    assert!(rt; is_number(entry.chapter(), 2));
-    assert!(rt; is_number(entry.volume(), 3));
-    assert!(rt; entry.edition() == Some(&words(&rt, "second")));
+    assert!(rt; has_numbers(&entry));
+    assert!(rt; has_texts(&rt, &entry));
     assert!(rt; is_page(&rt, entry.page_range(), 5));
-    let range = DurationRange::new(minutes(1), Some(minutes(3)));
-    assert!(rt; entry.time_range() == Some(&MaybeTyped::Typed(range)));
-    assert!(rt; entry.runtime() == Some(&MaybeTyped::Typed(minutes(90))));
+    assert!(rt; has_times(&entry));
     drop(entry);
+}
+
+// Whether a copy is no longer equal once the field of a name is set to another text.
+fn differs_by(rt: &(impl Abort + AllocGlobal), entry: &Entry, name: &str) -> bool {
+    let mut other = copy_of(rt, entry);
+    set_value(rt, &mut other, name, "a few");
+    let differs = other != *entry;
+    drop(other);
+    differs
 }
 
 #[test]
 fn is_equal_where_all_values_are(rt: HostRuntime) {
     let entry = with_values(&rt);
     for name in VALUES {
-        let mut other = entry.try_clone(rt.alloc()).expect(&rt, "memory");
-        assert!(rt; other == entry, "a copy");
-        set_value(&rt, &mut other, *name, "a few");
-        assert!(rt; other != entry, "{name}");
-        drop(other);
+        assert!(rt; differs_by(&rt, &entry, *name), "{name}");
     }
     drop(entry);
 }

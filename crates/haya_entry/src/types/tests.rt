@@ -3,7 +3,8 @@ use crate::{EntryType, UnknownType};
 use std::process::Abort;
 use std::str::FromStr;
 
-// Whether the type is read from its name as written and in lower case, and not from it in upper case.
+// Whether the type is read from its name as written and in lower case, and not from it in upper
+// case.
 fn is_read(rt: &(impl Abort + AllocGlobal), name: &str, entry_type: EntryType) -> bool {
     let lower = name.to_ascii_lowercase(rt.alloc()).expect(rt, "memory");
     let upper = name.to_ascii_uppercase(rt.alloc()).expect(rt, "memory");

@@ -16,7 +16,7 @@ fn none(rt: &(impl Abort + AllocGlobal)) -> Vec<Entry> {
 
 fn one(rt: &(impl Abort + AllocGlobal), parent: Entry) -> Vec<Entry> {
     let mut parents = Vec::new(rt.alloc());
-    let _ = parents.push(parent);
+    parents.push(parent).expect(rt, "memory");
     parents
 }
 
@@ -24,7 +24,8 @@ fn one(rt: &(impl Abort + AllocGlobal), parent: Entry) -> Vec<Entry> {
 fn child(rt: &(impl Abort + AllocGlobal)) -> Entry {
     let c = entry(rt, "c", none(rt));
     let mut parents = one(rt, entry(rt, "a", one(rt, c)));
-    let _ = parents.push(entry(rt, "b", none(rt)));
+    let b = entry(rt, "b", none(rt));
+    parents.push(b).expect(rt, "memory");
     entry(rt, "child", parents)
 }
 
@@ -137,7 +138,8 @@ fn finds_the_date_above(rt: HostRuntime) {
 fn finds_the_nearest_date(rt: HostRuntime) {
     let above = dated(entry(&rt, "above", none(&rt)), 1900);
     let mut parents = one(&rt, entry(&rt, "first", one(&rt, above)));
-    let _ = parents.push(dated(entry(&rt, "second", none(&rt)), 2000));
+    let second = dated(entry(&rt, "second", none(&rt)), 2000);
+    parents.push(second).expect(&rt, "memory");
     let child = entry(&rt, "child", parents);
     assert!(rt; is_of_year(child.date_any(), 2000));
     drop(child);

@@ -200,15 +200,18 @@ const CONTAINERS: &[(EntryType, &[EntryType], Option<&str>)] = &[
     (EntryType::Misc, &[EntryType::Book, EntryType::Web], None),
 ];
 
+// An entry of a type, with parents of these types.
+fn child(rt: &(impl Abort + AllocGlobal), entry_type: EntryType, types: &[EntryType]) -> Entry {
+    entry(rt, "child", entry_type, parents(rt, types))
+}
+
 #[test]
 fn finds_containers(rt: HostRuntime) {
     for (entry_type, types, place) in CONTAINERS {
-        let child = entry(&rt, "child", *entry_type, parents(&rt, *types));
-        assert!(rt;
-            has_key(child.get_container(), *place),
-            "{entry_type:?} in {types:?}"
-        );
+        let child = child(&rt, *entry_type, *types);
+        let is_found = has_key(child.get_container(), *place);
         drop(child);
+        assert!(rt; is_found, "{entry_type:?} in {types:?}");
     }
 }
 
@@ -251,12 +254,10 @@ const COLLECTIONS: &[(EntryType, &[EntryType], Option<&str>)] = &[
 #[test]
 fn finds_collections_among_the_parents(rt: HostRuntime) {
     for (entry_type, types, place) in COLLECTIONS {
-        let child = entry(&rt, "child", *entry_type, parents(&rt, *types));
-        assert!(rt;
-            has_key(child.get_collection(), *place),
-            "{entry_type:?} in {types:?}"
-        );
+        let child = child(&rt, *entry_type, *types);
+        let is_found = has_key(child.get_collection(), *place);
         drop(child);
+        assert!(rt; is_found, "{entry_type:?} in {types:?}");
     }
 }
 
@@ -280,15 +281,22 @@ fn finds_collections_of_the_parents(rt: HostRuntime) {
     drop(article);
 }
 
+// The types that are looked for above the article, and the key of what is found.
+const DEPTH_FIRST: &[(EntryType, Option<&str>)] = &[
+    (EntryType::Article, Some("article")),
+    (EntryType::Web, Some("page")),
+    (EntryType::Book, Some("book")),
+    (EntryType::Report, Some("0")),
+    (EntryType::Anthology, Some("2")),
+    (EntryType::Thread, None),
+];
+
 #[test]
 fn finds_types_depth_first(rt: HostRuntime) {
     let article = article(&rt);
-    assert!(rt; has_key(article.dfs_parent(EntryType::Article), Some("article")));
-    assert!(rt; has_key(article.dfs_parent(EntryType::Web), Some("page")));
-    assert!(rt; has_key(article.dfs_parent(EntryType::Book), Some("book")));
-    assert!(rt; has_key(article.dfs_parent(EntryType::Report), Some("0")));
-    assert!(rt; has_key(article.dfs_parent(EntryType::Anthology), Some("2")));
-    assert!(rt; has_key(article.dfs_parent(EntryType::Thread), None));
+    for (kind, key) in DEPTH_FIRST {
+        assert!(rt; has_key(article.dfs_parent(*kind), *key), "{kind:?}");
+    }
     assert!(rt; has_key(article.get_original(), None));
     drop(article);
 }
@@ -323,21 +331,29 @@ fn chapter(rt: &(impl Abort + AllocGlobal)) -> Entry {
     entry(rt, "chapter", EntryType::Chapter, one(rt, scene))
 }
 
+fn is_full(entry: &Entry, key: &str) -> bool {
+    entry.get_full().key() == key
+}
+
 #[test]
 fn finds_full_works(rt: HostRuntime) {
     let part = chapter(&rt);
-    assert_eq!(rt; part.get_full().key(), "video");
+    assert!(rt; is_full(&part, "video"));
     let part = titled(&rt, part);
-    assert_eq!(rt; part.get_full().key(), "chapter");
+    assert!(rt; is_full(&part, "chapter"));
     let part = entry(&rt, "part", EntryType::Scene, one(&rt, part));
-    assert_eq!(rt; part.get_full().key(), "chapter");
+    assert!(rt; is_full(&part, "chapter"));
     let book = entry(&rt, "book", EntryType::Book, one(&rt, part));
-    assert_eq!(rt; book.get_full().key(), "book");
+    assert!(rt; is_full(&book, "book"));
     drop(book);
+}
+
+#[test]
+fn finds_full_works_that_lack_a_title(rt: HostRuntime) {
     let alone = entry(&rt, "alone", EntryType::Chapter, none(&rt));
-    assert_eq!(rt; alone.get_full().key(), "alone");
+    assert!(rt; is_full(&alone, "alone"));
     let above = entry(&rt, "above", EntryType::Scene, one(&rt, alone));
-    assert_eq!(rt; above.get_full().key(), "alone");
+    assert!(rt; is_full(&above, "alone"));
     drop(above);
 }
 
@@ -354,8 +370,9 @@ fn people(rt: &(impl Abort + AllocGlobal), names: &[&str]) -> Vec<Person> {
 }
 
 fn add(rt: &(impl Abort + AllocGlobal), entry: &mut Entry, names: &[&str], role: PersonRole) {
-    let added = entry.add_affiliated_persons((people(rt, names), role));
-    assert!(rt; added.is_ok(), "memory");
+    entry
+        .add_affiliated_persons((people(rt, names), role))
+        .expect(rt, "memory");
 }
 
 fn in_words(rt: &(impl Abort + AllocGlobal), words: &str) -> PersonRole {
@@ -375,28 +392,53 @@ fn names(rt: &(impl Abort + AllocGlobal), entry: &Entry, role: PersonRole) -> St
     names
 }
 
+// Whether these are the names of the persons with a role.
+fn has_persons(
+    rt: &(impl Abort + AllocGlobal),
+    entry: &Entry,
+    role: PersonRole,
+    wanted: &str,
+) -> bool {
+    names(rt, entry, role).as_str() == wanted
+}
+
+fn add_persons(rt: &(impl Abort + AllocGlobal), film: &mut Entry) {
+    add(rt, film, &["Kwan", "Scheinert"], PersonRole::Director);
+    add(rt, film, &["Yeoh", "Quan"], PersonRole::CastMember);
+    add(rt, film, &["Hsu"], in_words(rt, "stunts"));
+    add(rt, film, &[], PersonRole::Director);
+    add(rt, film, &["Wang"], PersonRole::Director);
+}
+
+fn has_added_persons(rt: &(impl Abort + AllocGlobal), film: &Entry) {
+    assert!(rt; has_persons(rt, film, PersonRole::Director, "Kwan Scheinert Wang "));
+    assert!(rt; has_persons(rt, film, PersonRole::CastMember, "Yeoh Quan "));
+    assert!(rt; has_persons(rt, film, in_words(rt, "stunts"), "Hsu "));
+    assert!(rt; has_persons(rt, film, in_words(rt, "food"), ""));
+    assert!(rt; has_persons(rt, film, PersonRole::Producer, ""));
+}
+
+fn has_lists(entry: &Entry, count: usize) -> bool {
+    matches!(entry.affiliated(), Some(lists) if lists.len() == count)
+}
+
 #[test]
 fn finds_persons_with_a_role(rt: HostRuntime) {
     let mut film = entry(&rt, "film", EntryType::Video, none(&rt));
-    assert_eq!(rt; names(&rt, &film, PersonRole::Director).as_str(), "");
-    add(&rt, &mut film, &["Kwan", "Scheinert"], PersonRole::Director);
-    add(&rt, &mut film, &["Yeoh", "Quan"], PersonRole::CastMember);
-    add(&rt, &mut film, &["Hsu"], in_words(&rt, "stunts"));
-    add(&rt, &mut film, &[], PersonRole::Director);
-    add(&rt, &mut film, &["Wang"], PersonRole::Director);
-    assert_eq!(rt;
-        names(&rt, &film, PersonRole::Director).as_str(),
-        "Kwan Scheinert Wang "
-    );
-    assert_eq!(rt;
-        names(&rt, &film, PersonRole::CastMember).as_str(),
-        "Yeoh Quan "
-    );
-    assert_eq!(rt; names(&rt, &film, in_words(&rt, "stunts")).as_str(), "Hsu ");
-    assert_eq!(rt; names(&rt, &film, in_words(&rt, "food")).as_str(), "");
-    assert_eq!(rt; names(&rt, &film, PersonRole::Producer).as_str(), "");
-    assert_eq!(rt; film.affiliated().map(|lists| lists.len()), Some(5));
+    assert!(rt; has_persons(&rt, &film, PersonRole::Director, ""));
+    add_persons(&rt, &mut film);
+    has_added_persons(&rt, &film);
+    assert!(rt; has_lists(&film, 5));
     drop(film);
+}
+
+fn set_translators(rt: &(impl Abort + AllocGlobal), entry: &mut Entry) {
+    let mut lists = Vec::new(rt.alloc());
+    let kwan = people(rt, &["Kwan, Kevin"]);
+    lists
+        .push(PersonsWithRoles::new(kwan, PersonRole::Translator))
+        .expect(rt, "memory");
+    entry.set_affiliated(lists);
 }
 
 #[test]
@@ -404,15 +446,28 @@ fn adds_the_first_persons(rt: HostRuntime) {
     let mut added = entry(&rt, "key", EntryType::Book, none(&rt));
     add(&rt, &mut added, &["Kwan, Kevin"], PersonRole::Translator);
     let mut set = entry(&rt, "key", EntryType::Book, none(&rt));
-    let mut lists = Vec::new(rt.alloc());
-    let kwan = people(&rt, &["Kwan, Kevin"]);
-    lists
-        .push(PersonsWithRoles::new(kwan, PersonRole::Translator))
-        .expect(&rt, "memory");
-    set.set_affiliated(lists);
+    set_translators(&rt, &mut set);
     assert!(rt; added == set);
     drop(added);
     drop(set);
+}
+
+// Adds a narrator and a parent of this name.
+fn add_both(rt: &(impl Abort + AllocGlobal), entry: &mut Entry, name: &str) {
+    add(rt, entry, &[name], PersonRole::Narrator);
+    let parent = self::entry(rt, name, EntryType::Web, none(rt));
+    entry.add_parent(parent).expect(rt, "memory");
+}
+
+fn has_narrators(rt: &(impl Abort + AllocGlobal), entry: &Entry) {
+    let narrators = entry
+        .affiliated_with_role(rt.alloc(), PersonRole::Narrator)
+        .expect(rt, "memory");
+    assert_eq!(rt; narrators.len(), 100);
+    for (parent, person) in entry.parents().iter().zip(&narrators) {
+        assert!(rt; parent.key() == person.name.as_str());
+    }
+    assert!(rt; has_key(entry.parents().last(), Some("99")));
 }
 
 #[test]
@@ -420,18 +475,8 @@ fn adds_many_persons_and_parents(rt: HostRuntime) {
     let mut large = entry(&rt, "large", EntryType::Book, none(&rt));
     for place in 0..100u8 {
         let name = format!(in rt.alloc(); "{place}").expect(&rt, "memory");
-        add(&rt, &mut large, &[name.as_str()], PersonRole::Narrator);
-        let parent = entry(&rt, name.as_str(), EntryType::Web, none(&rt));
-        assert!(rt; large.add_parent(parent).is_ok(), "memory");
+        add_both(&rt, &mut large, name.as_str());
     }
-    let narrators = large.affiliated_with_role(rt.alloc(), PersonRole::Narrator);
-    let narrators = narrators.expect(&rt, "memory");
-    assert_eq!(rt; narrators.len(), 100);
-    for (parent, person) in large.parents().iter().zip(&narrators) {
-        assert!(rt; parent.key() == person.name.as_str());
-    }
-    let last = large.parents().last();
-    assert!(rt; has_key(last, Some("99")));
-    drop(narrators);
+    has_narrators(&rt, &large);
     drop(large);
 }

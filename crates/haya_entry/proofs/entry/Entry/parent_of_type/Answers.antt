@@ -4,7 +4,7 @@ use Rattle.std.proofs.lemmas.Iterator.Search.{find_from_yields_List}
 use denote.Enum.Bare.{sameb}
 use Rattle.haya_entry.specs.contracts.types.EntryType.{the_type}
 use Rattle.haya_entry.specs.declared.entry.Entry.{Entry, out-Entry}
-use Rattle.haya_entry.specs.Lookups.{is_of_type}
+use Rattle.haya_entry.specs.Names.{is_of_type}
 use Rattle.haya_entry.proofs.LookupLemmas.{is_of_type-view, passing-found}
 use Rattle.haya_entry.proofs.entry.Entry.parent_of_type.Goals as goal
 

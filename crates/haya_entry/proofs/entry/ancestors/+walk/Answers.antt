@@ -1,24 +1,24 @@
 use Rattle.std.proofs.Common.{rules, of_calls, arith}
-use Rattle.haya_entry.proofs.LevelLemmas.{Asks-itself, further-one, further-next, size-parents, level-first, under_way_first, under_way_answered, under_way_most, under_way_nobody, under_way_asked, under_way_asks, under_way_reached, under_way_end}
+use Rattle.haya_entry.proofs.LevelLemmas.{Asks-itself, levels_further-one, levels_further-next, size-parents, level-first, under_way_first, under_way_answered, under_way_most, under_way_nobody, under_way_asked, under_way_asks, under_way_reached, under_way_end}
 use Rattle.haya_entry.proofs.entry.ancestors.+walk.Goals.{walk-in-Nobody, walk-in-Asked}
 use Rattle.haya_entry.proofs.entry.ancestors.+walk.Goals as goal
 
 pub ask-returns-in-Some-clause-asks : goal.ask-returns-in-Some-clause-asks
 ask-returns-in-Some-clause-asks g t c =
-    rw (c.in-One.is, further-one) (1, Asks-itself _ _ _ _ _ _ (rw c.in-Some.is at c.f.ensures), search rules)
+    rw (c.in-One.is, levels_further-one) (1, Asks-itself _ _ _ _ _ _ (rw c.in-Some.is at c.f.ensures), search rules)
 
 pub ask-returns-in-Some-clause-most : goal.ask-returns-in-Some-clause-most
 ask-returns-in-Some-clause-most g t c = omega (arith, size-parents (g.E.Node.tree c.args.node), c.tick.ensures)
 
 pub ask-returns-in-None-clause-asks : goal.ask-returns-in-None-clause-asks
 ask-returns-in-None-clause-asks g t c =
-    rw (c.in-One.is, further-one) (1, Asks-itself _ _ _ _ _ _ (rw c.in-None.is at c.f.ensures), search rules)
+    rw (c.in-One.is, levels_further-one) (1, Asks-itself _ _ _ _ _ _ (rw c.in-None.is at c.f.ensures), search rules)
 
 pub ask-returns-in-None-clause-most : goal.ask-returns-in-None-clause-most
 ask-returns-in-None-clause-most g t c = omega (arith, size-parents (g.E.Node.tree c.args.node), c.tick.ensures)
 
 pub ask-returns-in-Next-clause-asks : goal.ask-returns-in-Next-clause-asks
-ask-returns-in-Next-clause-asks g t c = rw (c.in-Next.is, further-next c.in-Next.shallower) (c.walk.ensures.asks.0, c.walk.ensures.asks.1, omega (arith, c.walk.ensures.asks.2, c.tick.ensures))
+ask-returns-in-Next-clause-asks g t c = rw (c.in-Next.is, levels_further-next c.in-Next.shallower) (c.walk.ensures.asks.0, c.walk.ensures.asks.1, omega (arith, c.walk.ensures.asks.2, c.tick.ensures))
 
 pub walk-parents-init : goal.walk-parents-init
 walk-parents-init g t c = (c.requires, under_way_first _ _ _ _)
