@@ -3,6 +3,7 @@ mod TableLemmas
 mod Beginnings
 mod AnyAnswers
 pub mod RoleEqual
+mod RoleNames
 mod Styles
 mod OrderRows
 mod Families

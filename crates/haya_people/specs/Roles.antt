@@ -1,7 +1,6 @@
 -- Roles by value: by their names.
-use Rattle.std.specs.Prelude.{◌≡◌, ◌≢◌, ℕ, List, Result, MatchResult, codes, map, string_bytes}
-use Rattle.haya_people.specs.declared.person.PersonError.{PersonError}
-use Rattle.haya_people.specs.declared.person.PersonError.TheVariants as error
+use Rattle.std.specs.Prelude.{ℕ, Bool, false, List, [], ◌∷◌, Option, codes, find, map, string_bytes}
+use Rattle.std.specs.Str.{bytes_eq}
 use Rattle.haya_people.specs.Person.{PersonView, person_view}
 use Rattle.haya_people.specs.declared.role.PersonsWithRoles.{PersonsWithRoles}
 use Rattle.haya_people.specs.declared.role.PersonRole.{PersonRole}
@@ -35,12 +34,39 @@ role_view role.Illustrator = role_named (codes "illustrator")
 role_view role.Narrator = role_named (codes "narrator")
 role_view (role.Unknown text) = role_in_words (string_bytes text)
 
--- what a text is read as: the role of this name, and no role where none has it
-abbrev pub IsRoleRead : List ℕ → Result PersonRole PersonError → Type 0
-IsRoleRead text read = MatchResult read
-    (λ role. role_view role ≡ role_named text)
-    (λ fault. (fault ≡ error.UnknownRole)
-    × ((role : PersonRole) → role_view role ≢ role_named text))
+-- the roles that have names
+abbrev pub named_roles : List PersonRole
+named_roles =
+    role.Translator
+    ∷ role.Afterword
+    ∷ role.Foreword
+    ∷ role.Introduction
+    ∷ role.Annotator
+    ∷ role.Commentator
+    ∷ role.Holder
+    ∷ role.Compiler
+    ∷ role.Founder
+    ∷ role.Collaborator
+    ∷ role.Organizer
+    ∷ role.CastMember
+    ∷ role.Composer
+    ∷ role.Producer
+    ∷ role.ExecutiveProducer
+    ∷ role.Writer
+    ∷ role.Cinematography
+    ∷ role.Director
+    ∷ role.Illustrator
+    ∷ role.Narrator
+    ∷ []
+
+-- whether this is the role's name
+abbrev pub is_name_of : List ℕ → RoleView → Bool
+is_name_of text (role_named name) = bytes_eq text name
+is_name_of text (role_in_words words) = false
+
+-- the role with this name
+abbrev pub role_read : List ℕ → Option PersonRole
+role_read text = find (λ r. is_name_of text (role_view r)) named_roles
 
 -- persons and their role, by value
 pub record RolesView : Type 0 where

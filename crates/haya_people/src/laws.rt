@@ -13,7 +13,8 @@ mod orders;
 
 use crate::{Person, PersonError, PersonRole, PersonsWithRoles};
 pub use orders::{
-    particles_are_longest, persons_in_order, roles_equal_by_value, styles_in_order, tables_in_order,
+    particles_are_longest, persons_in_order, roles_equal_by_value, roles_read_by_name,
+    styles_in_order, tables_in_order,
 };
 use std::hash::Hash;
 

@@ -1,7 +1,8 @@
 //! What persons did for a work.
-ghost use Rattle.std.specs.Prelude.{◌≡◌, IfOk, map};
+ghost use Rattle.std.specs.Prelude.{◌≡◌, IfOk, map, ok_or};
 ghost use Rattle.haya_people.specs.Person.{person_view};
-ghost use Rattle.haya_people.specs.Roles.{RoleView, RolesView, role_view, roles_view, IsRoleRead};
+ghost use Rattle.haya_people.specs.Roles.{RoleView, RolesView, role_view, roles_view, role_read};
+ghost use Rattle.haya_people.specs.declared.person.PersonError.TheVariants.{UnknownRole};
 
 use crate::{Person, PersonError};
 use haya_text::{OutOfMemory, TryClone};
@@ -99,7 +100,7 @@ impl TryClone for PersonRole {
 impl FromStr for PersonRole {
     type Err = PersonError;
 
-    ghost from_str_gives = { IsRoleRead };
+    ghost from_str_gives = { λ text read. read ≡ ok_or (role_read text) UnknownRole };
 
     /// The role of this name: its name here in lower case, words joined by hyphens, as
     /// `cast-member`. Any other text is an `UnknownRole`, also `unknown`; the text isn't trimmed.

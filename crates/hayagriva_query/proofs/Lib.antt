@@ -1,7 +1,6 @@
 mod Depths
 mod FieldRows
 mod FieldsRead
-mod RoleNames
 mod Rows
 mod Chains
 mod Faults

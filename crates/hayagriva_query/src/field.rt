@@ -3,7 +3,7 @@ ghost use Rattle.std.specs.Prelude.{◌≡◌, Err, Ok, Some, option_map, IfOk, 
 ghost use Rattle.hayagriva.specs.Person.{person_view};
 ghost use Rattle.hayagriva.specs.Roles.{role_view, roles_view};
 ghost use Rattle.hayagriva.specs.Tree.{Sets, view, fields};
-ghost use Rattle.hayagriva_query.specs.FieldTable.{affiliated_of, with_one_more, date_of, role_of, unless_refused, with_field, with_number};
+ghost use Rattle.hayagriva_query.specs.FieldTable.{affiliated_of, date_of, ok_or_refused, role_of, with_field, with_last, with_number};
 ghost use Rattle.hayagriva_query.specs.LineReading.{FaultOf, SetsFields};
 
 use crate::fault::LineFault;
@@ -56,7 +56,7 @@ pub fn set_field(alloc: Global, entry: &mut Entry, name: &str, value: &str) -> R
 // What the value reads as, or why it isn't read.
 fn read_value<T: ReadText>(alloc: Global, value: &str) -> Result<T, LineFault>
     ensures ok { IfOk result (λ v. T.reads value.now ≡ Some (T.value v)) }
-    ensures fault { IfErr result (FaultOf (unless_refused (T.reads value.now))) }
+    ensures fault { IfErr result (FaultOf (ok_or_refused (T.reads value.now))) }
 {
     match T::from_str(alloc, value) {
         Ok(read) => Ok(read),
@@ -102,7 +102,7 @@ fn read_role(name: &str) -> Result<PersonRole, LineFault>
 // One more author.
 fn add_author(alloc: Global, entry: &mut Entry, person: Person) -> Result<(), AllocError>
     ensures { OnOk result (Sets entry.old entry.new
-        (λ f. record f { authors = with_one_more f.authors (person_view person) })) }
+        (λ f. record f { authors = with_last f.authors (person_view person) })) }
 {
     append(alloc, &mut entry.authors, person)
 }
@@ -110,7 +110,7 @@ fn add_author(alloc: Global, entry: &mut Entry, person: Person) -> Result<(), Al
 // One more editor.
 fn add_editor(alloc: Global, entry: &mut Entry, person: Person) -> Result<(), AllocError>
     ensures { OnOk result (Sets entry.old entry.new
-        (λ f. record f { editors = with_one_more f.editors (person_view person) })) }
+        (λ f. record f { editors = with_last f.editors (person_view person) })) }
 {
     append(alloc, &mut entry.editors, person)
 }
@@ -122,7 +122,7 @@ fn add_affiliated(
     persons: PersonsWithRoles,
 ) -> Result<(), AllocError>
     ensures { OnOk result (Sets entry.old entry.new
-        (λ f. record f { affiliated = with_one_more f.affiliated (roles_view persons) })) }
+        (λ f. record f { affiliated = with_last f.affiliated (roles_view persons) })) }
 {
     append(alloc, &mut entry.affiliated, persons)
 }
@@ -130,7 +130,7 @@ fn add_affiliated(
 // Appends to a list that begins with its first item.
 fn append<T: Drop>(alloc: Global, list: &mut Option<Vec<T>>, item: T) -> Result<(), AllocError>
     ensures { OnOk result (option_map (λ v. v.items) list.new
-        ≡ with_one_more (option_map (λ v. v.items) list.old) item) }
+        ≡ with_last (option_map (λ v. v.items) list.old) item) }
 {
     list.get_or_insert(Vec::new(alloc)).push(item)?;
     Ok(())

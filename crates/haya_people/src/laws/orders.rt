@@ -5,7 +5,7 @@ ghost use Rattle.haya_people.specs.Tables.{is_sorted_table};
 ghost use Rattle.std.specs.Cmp.{IsTotalOrder};
 ghost use Rattle.haya_text.specs.declared.strings.format.LongShortForm.{LongShortForm};
 ghost use Rattle.haya_people.specs.Orders.{csl_cmp_by, text_cmp};
-ghost use Rattle.haya_people.specs.Roles.{role_view, roles_view};
+ghost use Rattle.haya_people.specs.Roles.{role_named, role_read, role_view, roles_view};
 ghost use Rattle.haya_people.specs.declared.person.Person as person;
 ghost use Rattle.haya_people.specs.declared.role.PersonRole as role;
 ghost use Rattle.haya_people.specs.declared.role.PersonsWithRoles as roles;
@@ -19,6 +19,13 @@ pub fn roles_equal_by_value()
         (⟦<PersonRole as PartialEq>⟧.eq a b ≡ true) ↔ (role_view a ≡ role_view b) }
     ensures persons { (a b : roles.PersonsWithRoles) →
         (⟦<PersonsWithRoles as PartialEq>⟧.eq a b ≡ true) ↔ (roles_view a ≡ roles_view b) }
+{}
+
+/// A text is read as a role exactly where it is the role's name: so as none only where no role has
+/// that name.
+pub fn roles_read_by_name()
+    ensures { (text : List ℕ) (r : role.PersonRole) →
+        (role_read text ≡ Some r) ↔ (role_view r ≡ role_named text) }
 {}
 
 /// The order of persons is total, and ties exactly the persons that are equal.

@@ -1,5 +1,14 @@
-use Rattle.hayagriva_query.proofs.RoleNames.{role_of-refused}
+use Rattle.std.proofs.Common.{◌≡◌, Option, None, Some, Ok, ap, sym, ◌∙◌}
+use Rattle.std.specs.Prelude.{ok_or, option_map}
+use Rattle.hayagriva.specs.Roles.{role_read, role_view}
+use Rattle.hayagriva.specs.declared.types.PersonError.TheVariants.{UnknownRole}
+use Rattle.hayagriva_query.specs.declared.fault.LineFault.TheVariants.{RefusedValue}
 use Rattle.hayagriva_query.proofs.field.read_role.Goals as goal
 
-pub returns-in_default-clause-fault : goal.returns-in_default-clause-fault
-returns-in_default-clause-fault c = role_of-refused c.args.name.now c.in_default.ensures.value.1
+-- what is read is read with another fault beside it too, and seen by value
+ok_or-map : {T V E D : Type 0} (view : T → V) (e : E) (d : D) (read : Option T) (x : T) → ok_or read e ≡ Ok x → ok_or (option_map view read) d ≡ Ok (view x)
+ok_or-map view e d None x h = cc
+ok_or-map view e d (Some y) x h = let same : y ≡ x = cc in ap (λ z. Ok (view z)) same
+
+pub returns-clause-ok : goal.returns-clause-ok
+returns-clause-ok c = ok_or-map role_view UnknownRole RefusedValue (role_read c.args.name.now) c.in-Ok.role (sym c.parse.ensures.value ∙ c.in-Ok.is)
