@@ -1,6 +1,6 @@
 -- What the members of `&` take is an assignment; where at most one holds at each parent, they find one if there is one.
 use Rattle.std.proofs.Common.{◌≡◌, ◌≢◌, ℕ, suc, zero, ◌+◌, ◌<◌, ◌≤◌, Bool, true, false, cond, List, [], ◌∷◌, ◌++◌, length, map, Option, None, Some, refl, sym, ap, ◌∙◌, subst, arith}
-use Rattle.std.specs.Prelude.{All, AllPairs, not, ◌||◌, ◌==◌, filter, find, is_some, option_and_then, option_map, slice_get}
+use Rattle.std.specs.Prelude.{AllPairs, not, ◌||◌, ◌==◌, filter, find, is_some, option_and_then, option_map, slice_get}
 use Rattle.std.specs.List.{AllByRecursion, AllZip, list_any, range_with_len}
 use Rattle.std.specs.Option.{option_map_or}
 use Rattle.std.proofs.lemmas.Bool.Decides.{Decides-eqb}
@@ -12,7 +12,7 @@ use Rattle.haya_entry.specs.Tree.{Tree}
 use Rattle.hayagriva.specs.Assignment.{Table, table_of, IsTrueAt, IsAssignment, IsExclusive, GreedyAssigns, GreedyFinds}
 use Rattle.hayagriva.specs.Holds.{holds, greedy, least_free}
 use Rattle.hayagriva.specs.Places.{places, at_place}
-use Rattle.hayagriva.specs.Syntax.{Syntax, Syntaxes, none, more}
+use Rattle.hayagriva.specs.Syntax.{Syntaxes, none, more}
 
 -- a position that isn't taken
 abbrev IsFree : List ℕ → ℕ → Type 0

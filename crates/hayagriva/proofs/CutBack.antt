@@ -1,33 +1,56 @@
 -- A list of bindings that is cut back.
-use Rattle.std.proofs.Common.{◌≡◌, ◌≤◌, ℕ, List, [], ◌∷◌, ◌++◌, Some, length, take, refl, sym, ap, ◌∙◌, arith, ◌<◌, subst}
-use Rattle.std.specs.Prelude.{All, Option, slice_get}
+use Rattle.std.proofs.Common.{◌≡◌, ◌≤◌, ℕ, Bool, true, false, List, [], ◌∷◌, ◌++◌, Some, length, take, refl, sym, ap, ◌∙◌, arith, ◌<◌, subst}
+use Rattle.std.specs.Prelude.{All, IfOk, OnSome, Option, None, Result, Ok, Err, slice_get}
+use Rattle.std.specs.Bool.{OnTrue}
 use Rattle.std.proofs.Math.Seq.{take-length}
 use Rattle.std.proofs.lemmas.List.Elements.{All-head}
 use Rattle.std.proofs.lemmas.List.{length-map, length-take, map-append, take-map}
 use Rattle.haya_entry.specs.declared.entry.Entry.{Entry}
 use Rattle.haya_entry.specs.Tree.{Tree, view, at_list}
-use Rattle.hayagriva.specs.Binds.{pair_of_first}
+use Rattle.hayagriva.specs.Binds.{Pairs, pair_of_first}
 use Rattle.hayagriva.specs.Compiled.{name_of}
-use Rattle.hayagriva.specs.Evaluation.{EntryPairs, pair_entries, pairs_view}
+use Rattle.hayagriva.specs.declared.selectors.nodes.Nodes.{Nodes}
+use Rattle.hayagriva.specs.Evaluation.{AddsAt, AddsAtIf, AddsOn, AddsOnIf, EntryPairs, KeepsFound, pair_entries, pairs_view}
+use Rattle.hayagriva.specs.Nodes.{slot_names}
 use Rattle.hayagriva.proofs.Greedy.{kept_next}
 
-module _ (names : List (List ℕ)) (olds mids : EntryPairs) where
-  -- what was there at first still leads
-  abbrev pub Leads : Type 0
-  Leads = take (length (pairs_view names olds)) (pairs_view names mids) ≡ pairs_view names olds
+module _ (nodes : Nodes) (olds : EntryPairs) where
+  abbrev value : ℕ × Entry → List ℕ × Option Tree
+  value p = (name_of (slot_names nodes) p.0, Some (view p.1))
 
-  pub leads_added : (added : List (List ℕ × Option Tree)) → pairs_view names mids ≡ pairs_view names olds ++ added → Leads
-  leads_added added h = kept_next (pairs_view names olds) (pairs_view names olds) (pairs_view names mids) added (take-length (pairs_view names olds)) h
+  abbrev found : EntryPairs → List (List ℕ × Option Tree)
+  found = pairs_view (slot_names nodes)
 
-  pub no_longer : Leads → length olds ≤ length mids
-  no_longer h =
-      let value : ℕ × Entry → List ℕ × Option Tree = λ p. (name_of names p.0, Some (view p.1)) in
-      omega (arith, ap length h, length-take (length (pairs_view names olds)) (pairs_view names mids), length-map olds value, length-map mids value)
+  -- pairs that are added stand behind what was found
+  pub kept_more : (mids news : EntryPairs) (added : List (List ℕ × Option Tree)) → KeepsFound nodes olds mids
+      → pairs_view (slot_names nodes) news ≡ pairs_view (slot_names nodes) mids ++ added → KeepsFound nodes olds news
+  kept_more mids news added h k =
+      let l = length-map olds value in
+      ap (λ n. take n (found news)) (sym l) ∙ kept_next (found olds) (found mids) (found news) added (ap (λ n. take n (found mids)) l ∙ h) k
 
-  pub cut_back : Leads → (news : EntryPairs) → news ≡ take (length olds) mids → pairs_view names news ≡ pairs_view names olds
-  cut_back h news e =
-      let value : ℕ × Entry → List ℕ × Option Tree = λ p. (name_of names p.0, Some (view p.1)) in
-      ap (pairs_view names) e ∙ sym (take-map value (length olds) mids) ∙ ap (λ n. take n (pairs_view names mids)) (sym (length-map olds value)) ∙ h
+  pub kept_added : (news : EntryPairs) (added : List (List ℕ × Option Tree))
+      → pairs_view (slot_names nodes) news ≡ pairs_view (slot_names nodes) olds ++ added → KeepsFound nodes olds news
+  kept_added news added k = kept_more olds news added (ap (λ n. take n (found olds)) (sym (length-map olds value)) ∙ take-length (found olds)) k
+
+  pub no_longer : (mids : EntryPairs) → KeepsFound nodes olds mids → length olds ≤ length mids
+  no_longer mids h = omega (arith, ap length h, length-take (length olds) (found mids), length-map olds value, length-map mids value)
+
+  pub cut_back : (mids news : EntryPairs) → KeepsFound nodes olds mids → news ≡ take (length olds) mids
+      → pairs_view (slot_names nodes) news ≡ pairs_view (slot_names nodes) olds
+  cut_back mids news h e = ap found e ∙ sym (take-map value (length olds) mids) ∙ h
+
+  -- what was added where a selector holds
+  pub added_at : {E : Type 0} (r : Result Bool E) (news : EntryPairs) (x : Tree) (pairs : Tree → Pairs) (same : Pairs) → pairs x ≡ same
+      → IfOk r (AddsAtIf nodes x olds news pairs) → IfOk r (λ b. OnTrue b (AddsAt (slot_names nodes) x olds news same))
+  added_at (Ok true) news x pairs same e h = rw (← e) h
+  added_at (Ok false) news x pairs same e h = tt
+  added_at (Err f) news x pairs same e h = tt
+
+  pub added_on : {A E : Type 0} (r : Result (Option A) E) (news : EntryPairs) (xs : List Tree) (pairs : List Tree → Pairs) (same : Pairs) → pairs xs ≡ same
+      → IfOk r (AddsOnIf nodes xs olds news pairs) → IfOk r (λ o. OnSome o (AddsOn (slot_names nodes) xs olds news same))
+  added_on (Ok (Some o)) news xs pairs same e h = rw (← e) h
+  added_on (Ok None) news xs pairs same e h = tt
+  added_on (Err f) news xs pairs same e h = tt
 
 -- a binding that is added at the first place of a list
 pub bound_first : (names : List (List ℕ)) (xs : List Tree) (places : List ℕ) (i slot : ℕ) (e : Entry) (olds news : EntryPairs)

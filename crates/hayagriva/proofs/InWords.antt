@@ -1,5 +1,5 @@
 -- A selector holds, and binds its names, as its words say.
-use Rattle.std.proofs.Common.{◌≡◌, ℕ, zero, suc, ◌+◌, ◌<◌, Bool, true, false, cond, List, [], ◌∷◌, ◌++◌, Option, Some, None, length, map, refl, sym, ap, subst, ◌∙◌, arith, drop}
+use Rattle.std.proofs.Common.{◌≡◌, ℕ, zero, suc, ◌+◌, ◌<◌, Bool, true, false, cond, List, [], ◌∷◌, ◌++◌, Option, Some, None, length, refl, sym, ap, subst, ◌∙◌, arith, drop}
 use Rattle.std.specs.Prelude.{⊤, not, ◌||◌, ◌&&◌, ◌==◌, filter, find, is_some, option_and_then, option_map, position, reverse, slice_get, unwrap_or}
 use Rattle.std.specs.List.{list_any, range_with_len}
 use Rattle.std.specs.Option.{option_map_or, option_or}
@@ -10,13 +10,13 @@ use Rattle.std.proofs.lemmas.List.{map-append, reverse-append}
 use Rattle.std.proofs.lemmas.List.Folds.{list_any-append}
 use Rattle.haya_entry.specs.Names.{has_all, has_name}
 use Rattle.haya_entry.specs.Tree.{Tree, at, at_list, parents}
-use Rattle.hayagriva.specs.Binds.{Pairs, binds, binds_on, bound_to, each_binds, first_binds, first_binds_on, last_of, pair_of_first, pairs_at, pairs_at_first}
+use Rattle.hayagriva.specs.Binds.{Pairs, binds, binds_on, bound_to, each_binds, first_binds, first_binds_on, last_of, pair_of_first, pairs_at}
 use Rattle.hayagriva.specs.Evaluation.{pair_entries}
-use Rattle.hayagriva.specs.Holds.{holds, some_holds, is_type, candidates, first_candidates, first_place, greedy, kept_places, least_free, some_places}
+use Rattle.hayagriva.specs.Holds.{holds, some_holds, is_type, candidates, first_candidates, greedy, kept_places, least_free, some_places}
 use Rattle.hayagriva.specs.InWords.{has_names, some_entries, with_names, first_entry, without_first, or_before, picks, some_picks, stands, some_stands, each_stands, candidate_entries, first_entries, entries_in_turn, first_candidate, binds_name, some_binds_name, within, at_first, entry_called, called_by_first, parent_called, parent_called_by_first, called_in_turn, named_entry}
 use Rattle.hayagriva.specs.Places.{places, free_places, at_place}
 use Rattle.hayagriva.specs.Syntax.{Syntax, Wildcard, Entry, Neg, Binding, Attr, Alt, Multi, Ancestrage, Syntaxes, none, more}
-use Rattle.hayagriva.proofs.FreePlaces.{at_drop, position-cons, least_of_all, filter_of_all}
+use Rattle.hayagriva.proofs.FreePlaces.{at_drop, least_of_all, filter_of_all}
 use Rattle.hayagriva.proofs.Lasts.{is_some-map, last_of-second}
 use Rattle.hayagriva.proofs.Paths.{resolved_led, resolved_on}
 

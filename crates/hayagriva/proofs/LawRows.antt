@@ -1,8 +1,8 @@
 -- The laws of parents and of `&` used for selectors written out.
-use Rattle.std.proofs.Common.{◌≡◌, ◌≢◌, ℕ, suc, zero, ◌<◌, Bool, true, false, List, [], ◌∷◌, Some, length, refl, arith}
+use Rattle.std.proofs.Common.{◌≡◌, ◌≢◌, ℕ, suc, zero, Bool, true, false, List, [], ◌∷◌, refl, arith}
 use Rattle.std.specs.Prelude.{not, ◌||◌, ◌&&◌, codes, is_some}
 use Rattle.std.specs.List.{list_any}
-use Rattle.haya_entry.specs.declared.types.EntryType.TheVariants.{Article, Blog, Book, Periodical, Web}
+use Rattle.haya_entry.specs.declared.types.EntryType.TheVariants.{Article, Blog, Periodical, Web}
 use Rattle.haya_entry.specs.Names.{has_all}
 use Rattle.haya_entry.specs.Tree.{Tree, new_entry, parents}
 use Rattle.hayagriva.specs.Assignment.{IsAssignment, IsExclusive, table_of}

@@ -2,6 +2,7 @@ pub mod Syntaxes
 mod Maps
 mod NameSets
 mod NodeLists
+mod SlotNames
 mod Growth
 mod CutBack
 mod Kept

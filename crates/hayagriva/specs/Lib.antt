@@ -43,6 +43,7 @@ pub use Rattle.haya_values.specs.MaybeTyped
 pub use Rattle.haya_values.specs.Publisher
 pub use Rattle.haya_values.specs.Url
 pub mod Compiled
+pub mod BoundNames
 pub mod Nodes
 pub mod Root
 pub mod Evaluation

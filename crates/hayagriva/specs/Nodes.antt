@@ -1,5 +1,7 @@
 -- A list of compiled nodes with the names of its slots, and how it grows.
-use Rattle.std.specs.Prelude.{◌≡◌, ◌<◌, ◌≤◌, ℕ, List, length, map, string_bytes}
+use Rattle.std.specs.Prelude.{◌≡◌, ◌<◌, ◌≤◌, ℕ, List, [], ◌∷◌, length, map, string_bytes}
+use Rattle.std.specs.Str.{bytes_eq}
+use Rattle.indexmap.specs.IndexSet.{insert_all}
 use Rattle.hayagriva.specs.Compiled.{name_of, node_syntaxes, syntax_in}
 use Rattle.hayagriva.specs.Syntax.{Syntax, Syntaxes, syntaxes}
 use Rattle.hayagriva.specs.declared.selectors.nodes.Nodes.{Nodes}
@@ -23,8 +25,14 @@ members_at nodes numbers = syntaxes (map (syntax_at nodes) numbers)
 pub record Keeps (old new : Nodes) : Type 0 where
   pub count : node_count old ≤ node_count new
   pub slots : length (slot_names old) ≤ length (slot_names new)
-  pub names : (slot : ℕ) → slot < length (slot_names old) → name_of (slot_names new) slot ≡ name_of (slot_names old) slot
-  pub syntaxes : (number : ℕ) → number < node_count old → syntax_at new number ≡ syntax_at old number
+  pub names : (slot : ℕ) → slot < length (slot_names old) →
+      name_of (slot_names new) slot ≡ name_of (slot_names old) slot
+  pub syntaxes : (number : ℕ) → number < node_count old →
+      syntax_at new number ≡ syntax_at old number
+
+-- each of the names was added in turn, where it wasn't there yet
+abbrev pub AddsNames : Nodes → Nodes → List (List ℕ) → Type 0
+AddsNames old new names = slot_names new ≡ insert_all bytes_eq (slot_names old) names
 
 -- the node of the number was added, and stands for the selector
 pub record Adds (old new : Nodes) (s : Syntax) (number : ℕ) : Type 0 where
@@ -38,3 +46,4 @@ pub record NamesSlot (old new : Nodes) (name : List ℕ) (slot : ℕ) : Type 0 w
   pub count : node_count new ≡ node_count old
   pub inside : slot < length (slot_names new)
   pub named : name_of (slot_names new) slot ≡ name
+  pub added : AddsNames old new (name ∷ [])

@@ -23,7 +23,8 @@ pub fn one_cut()
     ensures { OneCut }
 {}
 
-/// A form of the grammar reads a list of tokens in one way, or has one fault; so does a bracket list.
+/// A form of the grammar reads a list of tokens in one way, or has one fault; so does a bracket
+/// list.
 pub fn one_outcome()
     ensures forms { OneOutcome }
     ensures lists { OneListOutcome }
@@ -39,8 +40,8 @@ pub fn reading_is_computed()
     ensures { IsComputed }
 {}
 
-/// A selector is what its fully parenthesised text reads as, where each `|` and `&` has at least two members and its
-/// names are identifiers.
+/// A selector is what its fully parenthesised text reads as, where each `|` and `&` has at least
+/// two members and its names are identifiers.
 pub fn read_again()
     ensures { ReadAgain }
 {}
@@ -61,7 +62,8 @@ pub fn holds_at_some_parent()
     ensures { HoldsAtSomeParent }
 {}
 
-/// `l > !r` then holds where `l` does and `r` holds at no parent, so also where there are no parents.
+/// `l > !r` then holds where `l` does and `r` holds at no parent, so also where there are no
+/// parents.
 pub fn holds_at_no_parent()
     ensures { HoldsAtNoParent }
 {}
@@ -71,7 +73,8 @@ pub fn names_change_no_answer()
     ensures { NamesChangeNoAnswer }
 {}
 
-/// The candidates of `&` are an assignment: distinct parents, one a member, each member holding at its parent.
+/// The candidates of `&` are an assignment: distinct parents, one a member, each member holding at
+/// its parent.
 pub fn greedy_assigns()
     ensures { GreedyAssigns }
 {}
@@ -102,7 +105,8 @@ pub fn hits_in_words()
     ensures end { EndInWords }
 {}
 
-/// `==` of two libraries holds exactly where they have the same keys with equal entries, in whatever order.
+/// `==` of two libraries holds exactly where they have the same keys with equal entries, in
+/// whatever order.
 pub fn libraries_equal_by_value()
     ensures { (a b : List Tree) → (⟦<Library as PartialEq>⟧.eq a b ≡ true) ↔ AreEqual a b }
 {}

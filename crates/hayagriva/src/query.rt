@@ -31,10 +31,11 @@ pub struct Hit<'s> {
 }
 
 impl Library {
-    /// The entries that the selector of the text picks, in the library's order, each with its bindings.
+    /// The entries that the selector of the text picks, in the library's order, each with its
+    /// bindings.
     ///
-    /// The error is the grammar's first fault where the text is no selector, and `OutOfMemory` else.
-    /// `steps` ticks once for each call of the evaluator: at most as often as the selector
+    /// The error is the grammar's first fault where the text is no selector, and `OutOfMemory`
+    /// else. `steps` ticks once for each call of the evaluator: at most as often as the selector
     /// has forms times the library has entries, with all their ancestors.
     pub fn query<'s>(
         &'s self,

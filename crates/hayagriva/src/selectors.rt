@@ -47,8 +47,8 @@ pub enum Selector {
 }
 
 impl Selector {
-    /// The selector at the front of a text; what follows it is ignored. An error is the first fault from the left, or
-    /// out of memory.
+    /// The selector at the front of a text; what follows it is ignored. An error is the first fault
+    /// from the left, or out of memory.
     pub fn parse(alloc: Global, text: &str) -> Result<Selector, SelectorError>
         ensures grammar { TextGives (chars text.now) result }
         ensures computed { IsRead (chars text.now) result }

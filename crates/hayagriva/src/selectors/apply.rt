@@ -31,8 +31,8 @@ impl Selector {
     }
 
     /// The same, with a tick for each call of the evaluator, one for a form of the selector at an
-    /// entry, or a list of parents, that it is asked of: never more than the selector has forms times
-    /// the entry has entries.
+    /// entry, or a list of parents, that it is asked of: never more than the selector has forms
+    /// times the entry has entries.
     #[tactic(auto, using(crate::proofs::Bounds::calls_at_most))]
     pub fn apply_counted<'e>(
         &self,

@@ -2,6 +2,7 @@
 ghost use Rattle.std.specs.Prelude.{◌≡◌, ◌+◌, ◌<◌, ◌≤◌, [], IfOk, OnOk, if◌then◌else◌};
 ghost use Rattle.haya_entry.specs.Tree.{at, view};
 ghost use Rattle.hayagriva.specs.Binds.{binds, bound_select};
+ghost use Rattle.hayagriva.specs.BoundNames.{bound_names, distinct_names};
 ghost use Rattle.hayagriva.specs.Calls.{calls};
 ghost use Rattle.hayagriva.specs.Evaluation.{Ticks, pair_entries, pairs_view};
 ghost use Rattle.hayagriva.specs.Holds.{holds};
@@ -31,17 +32,19 @@ pub(crate) struct Compiled {
 impl Compiled {
     ghost use Rattle.hayagriva.specs.Root.{compiled_syntax};
 
-    // The compiled form of a selector.
+    // The compiled form of a selector: it has one slot for each name that is bound.
     pub(crate) fn new(alloc: Global, selector: &Selector) -> Result<Compiled, OutOfMemory>
-        ensures { IfOk result (λ compiled. compiled_syntax compiled ≡ syntax selector.now) }
+        ensures stands { IfOk result (λ compiled. compiled_syntax compiled ≡ syntax selector.now) }
+        ensures names { IfOk result (λ compiled. slot_names compiled.nodes ≡
+            distinct_names (bound_names (syntax selector.now))) }
     {
         let mut nodes = Nodes::new(alloc);
         let root = nodes.add(alloc, selector)?;
         Ok(Compiled { nodes, root })
     }
 
-    // Whether it holds at an entry. What it binds there stands in `found` then, in the place of what
-    // was there.
+    // Whether it holds at an entry. What it binds there stands in `found` then, in the place of
+    // what was there.
     pub(crate) fn holds<'e>(
         &self,
         alloc: Global,

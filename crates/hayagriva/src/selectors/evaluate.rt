@@ -1,13 +1,13 @@
-//! The evaluator: one function at an entry, one on a list of parents, and what they share. Each goes by
-//! the number of a node, and from a node to its children alone, whose numbers are smaller.
-ghost use Rattle.std.specs.Prelude.{◌≡◌, ◌<◌, ◌≤◌, [], IfOk, if◌then◌else◌, is_some, map, option_map, sum_by};
-ghost use Rattle.std.specs.Option.{option_map_or};
+//! The evaluator: one function at an entry, one on a list of parents, and what they share. Each
+//! goes by the number of a node, and from a node to its children alone, whose numbers are smaller.
+ghost use Rattle.std.specs.Prelude.{◌≡◌, ◌<◌, ◌≤◌, [], IfOk, OnSome, sum_by};
+ghost use Rattle.std.specs.Bool.{OnTrue};
 ghost use Rattle.haya_entry.specs.Tree.{view};
 ghost use Rattle.hayagriva.specs.Compiled.{above};
 ghost use Rattle.hayagriva.specs.Binds.{binds, binds_on, each_binds, first_binds, first_binds_on, pairs_at_first, pairs_at};
 ghost use Rattle.hayagriva.specs.Calls.{calls, calls_on, first_calls, first_calls_on, free_calls, greedy_calls};
 ghost use Rattle.hayagriva.specs.Candidates.{GivesCandidates, candidate_places};
-ghost use Rattle.hayagriva.specs.Evaluation.{AddsAt, AddsOn, Ticks, views};
+ghost use Rattle.hayagriva.specs.Evaluation.{AddsAt, AddsAtIf, AddsOn, AddsOnFor, AddsOnIf, KeepsFound, Ticks, views};
 ghost use Rattle.hayagriva.specs.Holds.{holds, some_holds, candidates, first_candidates, first_place as alone, greedy, least_free};
 ghost use Rattle.hayagriva.specs.Places.{items_up_to};
 ghost use Rattle.hayagriva.specs.Nodes.{members_at, node_count, slot_names, syntax_at};
@@ -33,8 +33,34 @@ pub(crate) fn holds_at<'e>(
 ) -> Result<bool, OutOfMemory>
     requires { number < node_count nodes.now }
     ensures answer { IfOk result (λ b. b ≡ holds (syntax_at nodes.now number) (view asked.now)) }
-    ensures bound { IfOk result (λ b. AddsAt (slot_names nodes.now) (view asked.now) found.old found.new
-        (if b then binds (syntax_at nodes.now number) (view asked.now) else [])) }
+    ensures bound { IfOk result (AddsAtIf nodes.now (view asked.now) found.old found.new
+        (binds (syntax_at nodes.now number))) }
+    ensures ticks { Ticks result steps.old steps.new
+        (calls (syntax_at nodes.now number) (view asked.now)) }
+{
+    let before = found.len();
+    if form_holds_at(nodes, number, alloc, asked, found, steps)? {
+        return Ok(true);
+    }
+    found.truncate(before);
+    Ok(false)
+}
+
+// The same, but where it doesn't hold, what its parts have bound may be left in `found`.
+#[cycle(evaluate)]
+fn form_holds_at<'e>(
+    nodes: &Nodes,
+    number: usize,
+    alloc: Global,
+    asked: &Asked<'e>,
+    found: &mut Bindings<'e>,
+    steps: &mut Steps,
+) -> Result<bool, OutOfMemory>
+    requires { number < node_count nodes.now }
+    ensures answer { IfOk result (λ b. b ≡ holds (syntax_at nodes.now number) (view asked.now)) }
+    ensures bound { IfOk result (λ b. OnTrue b (AddsAt (slot_names nodes.now) (view asked.now)
+        found.old found.new (binds (syntax_at nodes.now number) (view asked.now)))) }
+    ensures kept { IfOk result (λ _. KeepsFound nodes.now found.old found.new) }
     ensures ticks { Ticks result steps.old steps.new
         (calls (syntax_at nodes.now number) (view asked.now)) }
 {
@@ -42,14 +68,7 @@ pub(crate) fn holds_at<'e>(
     match nodes.at(number) {
         Node::Wildcard => Ok(true),
         Node::Entry(entry_type) => Ok(asked.entry().entry_type() == *entry_type),
-        Node::Neg(inner) => {
-            let before = found.len();
-            if !holds_at(nodes, *inner, alloc, asked, found, steps)? {
-                return Ok(true);
-            }
-            found.truncate(before);
-            Ok(false)
-        }
+        Node::Neg(inner) => Ok(!holds_at(nodes, *inner, alloc, asked, found, steps)?),
         Node::Binding(slot, inner) => {
             if !holds_at(nodes, *inner, alloc, asked, found, steps)? {
                 return Ok(false);
@@ -58,29 +77,16 @@ pub(crate) fn holds_at<'e>(
             Ok(true)
         }
         Node::Attr(inner, names) => {
-            let before = found.len();
-            if !holds_at(nodes, *inner, alloc, asked, found, steps)? {
-                return Ok(false);
-            }
-            if asked.has(names) {
-                return Ok(true);
-            }
-            found.truncate(before);
-            Ok(false)
+            Ok(holds_at(nodes, *inner, alloc, asked, found, steps)? && asked.has(names))
         }
         Node::Alt(members) => any_holds(nodes, members, alloc, asked, found, steps),
         Node::Multi(_) => Ok(false),
         Node::Ancestrage(child, parent) => {
-            let before = found.len();
             if !holds_at(nodes, *child, alloc, asked, found, steps)? {
                 return Ok(false);
             }
             let parents = asked.entry().parents();
-            if candidates_on(nodes, *parent, alloc, parents, found, steps)?.is_some() {
-                return Ok(true);
-            }
-            found.truncate(before);
-            Ok(false)
+            Ok(candidates_on(nodes, *parent, alloc, parents, found, steps)?.is_some())
         }
     }
 }
@@ -98,8 +104,8 @@ fn any_holds<'e>(
     requires { above members.now ≤ node_count nodes.now }
     ensures answer { IfOk result
         (λ b. b ≡ some_holds (members_at nodes.now members.now) (view asked.now)) }
-    ensures bound { IfOk result (λ b. AddsAt (slot_names nodes.now) (view asked.now) found.old found.new
-        (if b then first_binds (members_at nodes.now members.now) (view asked.now) else [])) }
+    ensures bound { IfOk result (AddsAtIf nodes.now (view asked.now) found.old found.new
+        (first_binds (members_at nodes.now members.now))) }
     ensures ticks { Ticks result steps.old steps.new
         (first_calls (members_at nodes.now members.now) (view asked.now)) }
 {
@@ -123,9 +129,39 @@ fn candidates_on<'e>(
     steps: &mut Steps,
 ) -> Result<Option<Candidates>, OutOfMemory>
     requires { number < node_count nodes.now }
-    ensures answer { GivesCandidates (views parents.now) result (candidates (syntax_at nodes.now number) (views parents.now)) }
-    ensures bound { IfOk result (λ o. AddsOn (slot_names nodes.now) (views parents.now) found.old found.new
-        (if is_some o then binds_on (syntax_at nodes.now number) (views parents.now) else [])) }
+    ensures answer { GivesCandidates (views parents.now) result
+        (candidates (syntax_at nodes.now number) (views parents.now)) }
+    ensures bound { IfOk result (AddsOnIf nodes.now (views parents.now) found.old found.new
+        (binds_on (syntax_at nodes.now number))) }
+    ensures ticks { Ticks result steps.old steps.new
+        (calls_on (syntax_at nodes.now number) (views parents.now)) }
+{
+    let before = found.len();
+    let candidates = form_candidates_on(nodes, number, alloc, parents, found, steps)?;
+    if candidates.is_some() {
+        return Ok(candidates);
+    }
+    found.truncate(before);
+    Ok(None)
+}
+
+// The same, but where it doesn't hold, what its parts have bound may be left in `found`.
+#[cycle(evaluate)]
+fn form_candidates_on<'e>(
+    nodes: &Nodes,
+    number: usize,
+    alloc: Global,
+    parents: &'e [Entry],
+    found: &mut Bindings<'e>,
+    steps: &mut Steps,
+) -> Result<Option<Candidates>, OutOfMemory>
+    requires { number < node_count nodes.now }
+    ensures answer { GivesCandidates (views parents.now) result
+        (candidates (syntax_at nodes.now number) (views parents.now)) }
+    ensures bound { IfOk result (λ o. OnSome o (AddsOn (slot_names nodes.now)
+        (views parents.now) found.old found.new
+        (binds_on (syntax_at nodes.now number) (views parents.now)))) }
+    ensures kept { IfOk result (λ _. KeepsFound nodes.now found.old found.new) }
     ensures ticks { Ticks result steps.old steps.new
         (calls_on (syntax_at nodes.now number) (views parents.now)) }
 {
@@ -135,35 +171,24 @@ fn candidates_on<'e>(
         Node::Entry(_) | Node::Ancestrage(_, _) => {
             first_alone(nodes, number, alloc, parents, found, steps)
         }
-        Node::Neg(inner) => {
-            let before = found.len();
-            if candidates_on(nodes, *inner, alloc, parents, found, steps)?.is_some() {
-                found.truncate(before);
+        Node::Neg(inner) => match candidates_on(nodes, *inner, alloc, parents, found, steps)? {
+            Some(_) => Ok(None),
+            None => Ok(Some(Candidates::Nothing)),
+        },
+        Node::Binding(slot, inner) => {
+            let Some(candidates) = candidates_on(nodes, *inner, alloc, parents, found, steps)?
+            else {
                 return Ok(None);
-            }
+            };
+            found.bind_first(*slot, parents, &candidates)?;
             Ok(Some(Candidates::Nothing))
         }
-        Node::Binding(slot, inner) => {
-            match candidates_on(nodes, *inner, alloc, parents, found, steps)? {
-                None => Ok(None),
-                Some(candidates) => {
-                    found.bind_first(*slot, parents, &candidates)?;
-                    Ok(Some(Candidates::Nothing))
-                }
-            }
-        }
         Node::Attr(inner, names) => {
-            let before = found.len();
-            match candidates_on(nodes, *inner, alloc, parents, found, steps)? {
-                None => Ok(None),
-                Some(candidates) => match kept_places(alloc, names, parents, candidates)? {
-                    Some(left) => Ok(Some(left)),
-                    None => {
-                        found.truncate(before);
-                        Ok(None)
-                    }
-                },
-            }
+            let Some(candidates) = candidates_on(nodes, *inner, alloc, parents, found, steps)?
+            else {
+                return Ok(None);
+            };
+            kept_places(alloc, names, parents, candidates)
         }
         Node::Alt(members) => first_candidates_on(nodes, members, alloc, parents, found, steps),
         Node::Multi(members) => each_takes_one(nodes, members, alloc, parents, found, steps),
@@ -183,8 +208,8 @@ fn first_candidates_on<'e>(
     requires { above members.now ≤ node_count nodes.now }
     ensures answer { GivesCandidates (views parents.now) result
         (first_candidates (members_at nodes.now members.now) (views parents.now)) }
-    ensures bound { IfOk result (λ o. AddsOn (slot_names nodes.now) (views parents.now) found.old found.new
-        (if is_some o then first_binds_on (members_at nodes.now members.now) (views parents.now) else [])) }
+    ensures bound { IfOk result (AddsOnIf nodes.now (views parents.now) found.old found.new
+        (first_binds_on (members_at nodes.now members.now))) }
     ensures ticks { Ticks result steps.old steps.new
         (first_calls_on (members_at nodes.now members.now) (views parents.now)) }
 {
@@ -209,11 +234,11 @@ fn each_takes_one<'e>(
     steps: &mut Steps,
 ) -> Result<Option<Candidates>, OutOfMemory>
     requires { above members.now ≤ node_count nodes.now }
-    ensures answer { GivesCandidates (views parents.now) result (greedy (members_at nodes.now members.now) (views parents.now) []) }
-    ensures bound { IfOk result (λ o. AddsOn (slot_names nodes.now) (views parents.now) found.old found.new
-        (option_map_or
-        (λ v. each_binds (members_at nodes.now members.now) (views parents.now)
-        (candidate_places (views parents.now) v)) o [])) }
+    ensures answer { GivesCandidates (views parents.now) result
+        (greedy (members_at nodes.now members.now) (views parents.now) []) }
+    ensures bound { IfOk result (AddsOnFor nodes.now (views parents.now) found.old found.new
+        (λ taken. each_binds (members_at nodes.now members.now) (views parents.now)
+        (candidate_places (views parents.now) taken))) }
     ensures ticks { Ticks result steps.old steps.new
         (greedy_calls (members_at nodes.now members.now) (views parents.now) []) }
 {
@@ -231,8 +256,8 @@ fn each_takes_one<'e>(
     Ok(Some(Candidates::Kept(taken)))
 }
 
-// The first place where the selector holds, as the one candidate. The bindings at that parent are added
-// to `found`.
+// The first place where the selector holds, as the one candidate. The bindings at that parent are
+// added to `found`.
 #[cycle(evaluate)]
 #[tactic(auto, using(crate::proofs::FreePlaces::least_of_all, crate::proofs::FreePlaces::calls_of_all))]
 fn first_alone<'e>(
@@ -244,15 +269,14 @@ fn first_alone<'e>(
     steps: &mut Steps,
 ) -> Result<Option<Candidates>, OutOfMemory>
     requires { number < node_count nodes.now }
-    ensures answer { GivesCandidates (views parents.now) result (alone (holds (syntax_at nodes.now number)) (views parents.now)) }
-    ensures bound { IfOk result (λ o. AddsOn (slot_names nodes.now) (views parents.now) found.old found.new
-        (if is_some o then
-        pairs_at_first (holds (syntax_at nodes.now number)) (binds (syntax_at nodes.now number))
-        (views parents.now)
-        else [])) }
+    ensures answer { GivesCandidates (views parents.now) result
+        (alone (holds (syntax_at nodes.now number)) (views parents.now)) }
+    ensures bound { IfOk result (AddsOnIf nodes.now (views parents.now) found.old found.new
+        (pairs_at_first (holds (syntax_at nodes.now number))
+        (binds (syntax_at nodes.now number)))) }
     ensures ticks { Ticks result steps.old steps.new
-        (sum_by (calls (syntax_at nodes.now number)) (items_up_to (holds (syntax_at nodes.now number))
-        (views parents.now))) }
+        (sum_by (calls (syntax_at nodes.now number))
+        (items_up_to (holds (syntax_at nodes.now number)) (views parents.now))) }
 {
     match first_free(nodes, number, alloc, parents, &[], found, steps)? {
         Some(place) => Ok(Some(Candidates::One(place))),
@@ -273,10 +297,10 @@ fn first_free<'e>(
     steps: &mut Steps,
 ) -> Result<Option<usize>, OutOfMemory>
     requires { number < node_count nodes.now }
-    ensures answer { IfOk result
-        (λ o. o ≡ least_free (holds (syntax_at nodes.now number)) (views parents.now) taken.now) }
-    ensures bound { IfOk result (λ o. AddsOn (slot_names nodes.now) (views parents.now) found.old found.new
-        (option_map_or (pairs_at (binds (syntax_at nodes.now number)) (views parents.now)) o [])) }
+    ensures answer { IfOk result (λ o.
+        o ≡ least_free (holds (syntax_at nodes.now number)) (views parents.now) taken.now) }
+    ensures bound { IfOk result (AddsOnFor nodes.now (views parents.now) found.old found.new
+        (pairs_at (binds (syntax_at nodes.now number)) (views parents.now))) }
     ensures ticks { Ticks result steps.old steps.new
         (free_calls (holds (syntax_at nodes.now number)) (calls (syntax_at nodes.now number))
         (views parents.now) taken.now) }

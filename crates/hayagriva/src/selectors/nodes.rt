@@ -1,5 +1,6 @@
 //! The nodes of a compiled selector, and how a selector is compiled.
-ghost use Rattle.std.specs.Prelude.{◌≡◌, ◌<◌, ◌≤◌, IfOk, IsTrue, length, map};
+ghost use Rattle.std.specs.Prelude.{◌≡◌, ◌<◌, ◌≤◌, [], IfOk, IsTrue, length, map};
+ghost use Rattle.hayagriva.specs.BoundNames.{all_bound_names, bound_names};
 ghost use Rattle.hayagriva.specs.Compiled.{above, all_fit, fits, name_of, node_syntax};
 ghost use Rattle.hayagriva.specs.Syntax.{members_of, syntax, syntaxes};
 
@@ -21,11 +22,12 @@ pub(crate) struct Nodes {
 }
 
 impl Nodes {
-    ghost use Rattle.hayagriva.specs.Nodes.{Adds, Keeps, NamesSlot, node_count, slot_names, syntax_at};
+    ghost use Rattle.hayagriva.specs.Nodes.{Adds, AddsNames, Keeps, NamesSlot, node_count, slot_names, syntax_at};
 
     // No nodes.
     pub(crate) fn new(alloc: Global) -> Nodes
-        ensures { node_count result ≡ 0 }
+        ensures nodes { node_count result ≡ 0 }
+        ensures names { slot_names result ≡ [] }
     {
         Nodes {
             nodes: Vec::new(alloc),
@@ -63,8 +65,9 @@ impl Nodes {
     // Adds a node, and answers its number.
     fn push(&mut self, node: Node) -> Result<usize, OutOfMemory>
         requires { IsTrue (fits (length (slot_names self.old)) (node_count self.old) node) }
-        ensures { IfOk result (Adds self.old self.new
+        ensures stands { IfOk result (Adds self.old self.new
             (node_syntax (name_of (slot_names self.old)) (syntax_at self.old) node)) }
+        ensures names { slot_names self.new ≡ slot_names self.old }
     {
         let number = self.nodes.len();
         self.nodes.push(node)?;
@@ -75,10 +78,9 @@ impl Nodes {
     fn slot_of(&mut self, alloc: Global, name: &str) -> Result<usize, OutOfMemory>
         ensures { IfOk result (NamesSlot self.old self.new name.now) }
     {
-        'slots: for (slot, other) in self.names.iter().enumerate() {
-            if other.as_str() == name {
-                return Ok(slot);
-            }
+        let known = self.names.iter().position(|other| name == other.as_str());
+        if let Some(slot) = known {
+            return Ok(slot);
         }
         let slot = self.names.len();
         self.names.push(String::from_str(alloc, name)?)?;
@@ -88,7 +90,9 @@ impl Nodes {
     // Adds the nodes of a selector, and answers the number of the last, which stands for it.
     #[cycle(compile)]
     pub(crate) fn add(&mut self, alloc: Global, selector: &Selector) -> Result<usize, OutOfMemory>
-        ensures { IfOk result (Adds self.old self.new (syntax selector.now)) }
+        ensures stands { IfOk result (Adds self.old self.new (syntax selector.now)) }
+        ensures names { IfOk result (λ _.
+            AddsNames self.old self.new (bound_names (syntax selector.now))) }
     {
         match selector {
             Selector::Wildcard => self.push(Node::Wildcard),
@@ -132,6 +136,8 @@ impl Nodes {
         ensures inside { IfOk result (λ numbers. above numbers.items ≤ node_count self.new) }
         ensures stand { IfOk result (λ numbers.
             syntaxes (map (syntax_at self.new) numbers.items) ≡ members_of members.now) }
+        ensures names { IfOk result (λ _.
+            AddsNames self.old self.new (all_bound_names (members_of members.now))) }
     {
         let mut numbers = Vec::with_capacity(alloc, members.len())?;
         'members: for member in members {

@@ -1,11 +1,12 @@
-use Rattle.std.proofs.Common.{rules, ◌≡◌, ◌+◌, true, None, Some, [], drop, map, append-nil, arith, inl, inr, sym, ap, ◌∙◌}
+use Rattle.std.proofs.Common.{rules, refl, ℕ, List, ◌≡◌, ◌+◌, true, None, Some, [], drop, map, append-nil, arith, inl, inr, sym, ap, ◌∙◌}
 use Rattle.std.specs.Prelude.{is_some, slice_index_or, sum_by}
 use Rattle.std.proofs.Math.ListN.{drop_of_length-le}
+use Rattle.std.proofs.lemmas.Bool.{OnTrue_from}
 use Rattle.std.proofs.lemmas.Result.{MatchResult-from_err}
 use Rattle.haya_entry.specs.Tree.{parents, view}
-use Rattle.hayagriva.specs.Binds.{binds}
+use Rattle.hayagriva.specs.Binds.{binds, binds_on, first_binds, pairs_at_first}
 use Rattle.hayagriva.specs.Evaluation.{pairs_view}
-use Rattle.hayagriva.specs.Calls.{calls}
+use Rattle.hayagriva.specs.Calls.{calls, first_calls}
 use Rattle.hayagriva.specs.Holds.{holds, is_type, greedy, least_free}
 use Rattle.hayagriva.specs.Places.{items_up_to}
 use Rattle.hayagriva.specs.Candidates.{candidate_places}
@@ -13,10 +14,10 @@ use Rattle.hayagriva.specs.Nodes.{members_at, slot_names, syntax_at}
 use Rattle.hayagriva.specs.Syntax.{Syntax, Entry, Ancestrage}
 use Rattle.hayagriva.proofs.Bounds.{ticks_more}
 use Rattle.hayagriva.proofs.FreePlaces.{walked, passed, place_is, met_any, met_yes, met_no}
-use Rattle.hayagriva.proofs.Greedy.{bound_next, calls_part, calls_some, calls_none, kept_next, taken_none, taken_some, each-greedy}
+use Rattle.hayagriva.proofs.Greedy.{bound_next, calls_part, calls_some, calls_none, taken_none, taken_some, each-greedy}
 use Rattle.hayagriva.proofs.Paths.{bound_under, candidates_places, led_nothing, resolved_led}
 use Rattle.hayagriva.proofs.NodeLists.{above_at, left_more}
-use Rattle.hayagriva.proofs.CutBack.{leads_added, cut_back}
+use Rattle.hayagriva.proofs.CutBack.{added_at, added_on, kept_more, cut_back}
 use Rattle.hayagriva.proofs.selectors.evaluate.+evaluate.Goals as goal
 
 pub first_free-loop-place-preserved-then-is_taken : goal.first_free-loop-place-preserved-then-is_taken
@@ -86,13 +87,12 @@ each_takes_one-loop-member-preserved t c =
     let d : c.deref.result.now ≡ taken = c.deref.ensures.value in
     let e : least_free (holds s) xs taken ≡ Some i = sym (rw d at c.in_ok-place.ensures.answer) ∙ c.in-Some.is in
     let inv = rw l at c.loop-member.invariant in
-    let old = pairs_view (slot_names c.args.nodes.now) c.args.found.now in
     let k = rw c.in-Some.is at c.in_ok-place.ensures.bound in
     rw c.in_ok-push-in-Some.ensures.items (
       sym (taken_some s rest xs taken i e) ∙ inv.0,
       omega (arith, inv.1, calls_some s rest xs taken i e, rw d at c.in_ok-place.ensures.ticks),
       bound_next s rest xs taken i e (pairs_view (slot_names c.args.nodes.now) c.loop-member.found) _ _ inv.2 k,
-      kept_next old (pairs_view (slot_names c.args.nodes.now) c.loop-member.found) _ _ inv.3 k,
+      kept_more c.args.nodes.now c.args.found.now c.loop-member.found _ _ inv.3 k,
     )
 
 pub each_takes_one-returns-in_err-push-in-Some-clause-ticks : goal.each_takes_one-returns-in_err-push-in-Some-clause-ticks
@@ -129,31 +129,40 @@ each_takes_one-returns-clause-bound t c =
     let e : greedy all xs [] ≡ Some taken = sym inv.0 ∙ ap Some (append-nil taken) in
     rw (each-greedy all xs [] taken e, ← inv.2) (sym (append-nil _))
 
-pub candidates_on-bind_first-requires : goal.candidates_on-bind_first-requires
-candidates_on-bind_first-requires t c =
+pub form_candidates_on-bind_first-requires : goal.form_candidates_on-bind_first-requires
+form_candidates_on-bind_first-requires t c =
     let xs = map view c.args.parents.now in
-    let e = rw c.in-Some.is at c.in_ok-candidates_on-in-Binding.ensures.answer in
-    candidates_places (syntax_at c.args.nodes.now c.in-Binding.inner) c.args.parents.now (candidate_places xs c.in-Some.candidates) e
+    let e = rw c.in-Some-2.is at c.in_ok-candidates-in-Binding.ensures.answer in
+    candidates_places (syntax_at c.args.nodes.now c.in-Binding.inner) c.args.parents.now (candidate_places xs c.in-Some-2.candidates) e
 
-pub candidates_on-returns-in-Entry-clause-answer : goal.candidates_on-returns-in-Entry-clause-answer
-candidates_on-returns-in-Entry-clause-answer t c =
+pub form_candidates_on-returns-in-Entry-clause-answer : goal.form_candidates_on-returns-in-Entry-clause-answer
+form_candidates_on-returns-in-Entry-clause-answer t c =
     let stands = c.at.ensures.stands in
     elim c.in-Entry.is [
       | inl w ↦ let e = rw w.1 at stands in rw e (rw e at c.first_alone.ensures.answer)
       | inr w ↦ let e = rw w.2 at stands in rw e (rw e at c.first_alone.ensures.answer)
     ]
 
-pub candidates_on-returns-in-Entry-clause-bound : goal.candidates_on-returns-in-Entry-clause-bound
-candidates_on-returns-in-Entry-clause-bound t c =
+pub form_candidates_on-returns-in-Entry-clause-bound : goal.form_candidates_on-returns-in-Entry-clause-bound
+form_candidates_on-returns-in-Entry-clause-bound t c =
+    let nodes = c.args.nodes.now in
+    let f = syntax_at nodes in
     let xs = map view c.args.parents.now in
+    let added = added_on nodes c.args.found.now c.first_alone.result c.first_alone.new.found xs in
     let stands = c.at.ensures.stands in
     elim c.in-Entry.is [
-      | inl w ↦ let e = rw w.1 at stands in rw e (rw (e, led_nothing (is_type w.0) xs) at c.first_alone.ensures.bound)
-      | inr w ↦ let e = rw w.2 at stands in rw e (rw e at c.first_alone.ensures.bound)
+      | inl w ↦
+          let e = rw w.1 at stands in
+          let s = Entry w.0 in
+          rw e (added (pairs_at_first (holds s) (binds s)) [] (led_nothing (is_type w.0) xs) (rw e at c.first_alone.ensures.bound))
+      | inr w ↦
+          let e = rw w.2 at stands in
+          let s = Ancestrage (f w.0) (f w.1) in
+          rw e (added (pairs_at_first (holds s) (binds s)) (binds_on s xs) refl (rw e at c.first_alone.ensures.bound))
     ]
 
-pub candidates_on-returns-in-Entry-clause-ticks : goal.candidates_on-returns-in-Entry-clause-ticks
-candidates_on-returns-in-Entry-clause-ticks t c =
+pub form_candidates_on-returns-in-Entry-clause-ticks : goal.form_candidates_on-returns-in-Entry-clause-ticks
+form_candidates_on-returns-in-Entry-clause-ticks t c =
     let xs = map view c.args.parents.now in
     let f = syntax_at c.args.nodes.now in
     let stands = c.at.ensures.stands in
@@ -191,60 +200,54 @@ each_takes_one-returns-in-None-clause-answer t c =
     let e : least_free (holds s) xs taken ≡ None = sym (rw c.deref.ensures.value at c.in_ok-place.ensures.answer) ∙ c.in-None.is in
     sym (taken_none s rest xs taken e) ∙ inv
 
-pub candidates_on-returns-in-None-3-clause-bound : goal.candidates_on-returns-in-None-3-clause-bound
-candidates_on-returns-in-None-3-clause-bound t c =
-    let names = slot_names c.args.nodes.now in
-    let leads = leads_added names c.args.found.now c.candidates_on-in-Attr.new.found _ c.in_ok-candidates_on-in-Attr.ensures.bound in
-    cut_back names c.args.found.now c.candidates_on-in-Attr.new.found leads _ (rw c.len-before-in-Attr.ensures at c.truncate-in-None-3.ensures) ∙ sym (append-nil _)
-
 pub each_takes_one-returns-in-None-clause-bound : goal.each_takes_one-returns-in-None-clause-bound
 each_takes_one-returns-in-None-clause-bound t c =
-    let names = slot_names c.args.nodes.now in
+    let nodes = c.args.nodes.now in
     let olds = c.args.found.now in
     let mids = c.first_free.new.found in
     let h = rw c.in-None.is at c.in_ok-place.ensures.bound in
-    let leads = kept_next (pairs_view names olds) (pairs_view names c.loop-member.found) (pairs_view names mids) [] c.loop-member.invariant.3 h in
-    cut_back names olds mids leads c.truncate.new.self (rw c.len-before.ensures at c.truncate.ensures) ∙ sym (append-nil _)
+    let kept = kept_more nodes olds c.loop-member.found mids [] c.loop-member.invariant.3 h in
+    cut_back nodes olds mids c.truncate.new.self kept (rw c.len-before.ensures at c.truncate.ensures) ∙ sym (append-nil _)
 
-pub candidates_on-returns-then-is_some-clause-bound : goal.candidates_on-returns-then-is_some-clause-bound
-candidates_on-returns-then-is_some-clause-bound t c =
-    let names = slot_names c.args.nodes.now in
-    let leads = leads_added names c.args.found.now c.candidates_on.new.found _ c.in_ok-candidates_on-in-Neg.ensures.bound in
-    cut_back names c.args.found.now c.candidates_on.new.found leads c.truncate.new.self (rw c.len-before.ensures at c.truncate.ensures) ∙ sym (append-nil _)
+pub holds_at-returns-clause-bound : goal.holds_at-returns-clause-bound
+holds_at-returns-clause-bound t c =
+    cut_back c.args.nodes.now c.args.found.now c.form_holds_at.new.found c.truncate.new.self c.in_ok-form_holds_at.ensures.kept (rw c.len-before.ensures at c.truncate.ensures) ∙ sym (append-nil _)
 
-pub holds_at-returns-else-not-branch-clause-bound : goal.holds_at-returns-else-not-branch-clause-bound
-holds_at-returns-else-not-branch-clause-bound t c =
-    let names = slot_names c.args.nodes.now in
-    let leads = leads_added names c.args.found.now c.holds_at.new.found _ c.in_ok-holds_at-in-Neg.ensures.bound in
-    cut_back names c.args.found.now c.holds_at.new.found leads c.truncate.new.self (rw c.len-before.ensures at c.truncate.ensures) ∙ sym (append-nil _)
+pub candidates_on-returns-clause-bound : goal.candidates_on-returns-clause-bound
+candidates_on-returns-clause-bound t c =
+    cut_back c.args.nodes.now c.args.found.now c.form_candidates_on.new.found c.truncate.new.self c.in_ok-candidates.ensures.kept (rw c.len-before.ensures at c.truncate.ensures) ∙ sym (append-nil _)
 
-pub holds_at-returns-else-has-clause-bound : goal.holds_at-returns-else-has-clause-bound
-holds_at-returns-else-has-clause-bound t c =
-    let names = slot_names c.args.nodes.now in
-    let mids = c.holds_at-in-Attr.new.found in
-    let leads = leads_added names c.args.found.now mids _ c.in_ok-holds_at-in-Attr.ensures.bound in
-    cut_back names c.args.found.now mids leads c.truncate-in-Attr.new.self (rw c.len-before-in-Attr.ensures at c.truncate-in-Attr.ensures) ∙ sym (append-nil _)
+pub form_holds_at-returns-in-Alt-clause-bound : goal.form_holds_at-returns-in-Alt-clause-bound
+form_holds_at-returns-in-Alt-clause-bound t c =
+    let nodes = c.args.nodes.now in
+    let x = view c.args.asked.now in
+    let stands = rw c.in-Alt.is at c.at.ensures.stands in
+    let ss = members_at nodes c.deref.result.now in
+    let e : first_binds ss x ≡ binds (syntax_at nodes c.args.number) x =
+    ap (λ (ns : List ℕ). first_binds (members_at nodes ns) x) c.deref.ensures.value ∙ sym (ap (λ (s : Syntax). binds s x) stands) in
+    added_at nodes c.args.found.now c.any_holds.result c.any_holds.new.found x (first_binds ss) (binds (syntax_at nodes c.args.number) x) e c.any_holds.ensures.bound
 
-pub holds_at-returns-else-is_some-clause-bound : goal.holds_at-returns-else-is_some-clause-bound
-holds_at-returns-else-is_some-clause-bound t c =
-    let names = slot_names c.args.nodes.now in
-    let olds = c.args.found.now in
-    let first = c.holds_at-in-Ancestrage.new.found in
-    let mids = c.candidates_on.new.found in
-    let leads = leads_added names olds first _ c.in_ok-holds_at-in-Ancestrage.ensures.bound in
-    let later = kept_next (pairs_view names olds) (pairs_view names first) (pairs_view names mids) _ leads c.in_ok-candidates_on-in-Ancestrage.ensures.bound in
-    cut_back names olds mids later c.truncate-in-Ancestrage.new.self (rw c.len-before-in-Ancestrage.ensures at c.truncate-in-Ancestrage.ensures) ∙ sym (append-nil _)
+pub form_holds_at-returns-in-Alt-clause-ticks : goal.form_holds_at-returns-in-Alt-clause-ticks
+form_holds_at-returns-in-Alt-clause-ticks t c =
+    let nodes = c.args.nodes.now in
+    let x = view c.args.asked.now in
+    let stands = rw c.in-Alt.is at c.at.ensures.stands in
+    let ss = members_at nodes c.deref.result.now in
+    let e : 1 + first_calls ss x ≡ calls (syntax_at nodes c.args.number) x =
+    ap (λ (ns : List ℕ). 1 + first_calls (members_at nodes ns) x) c.deref.ensures.value ∙ sym (ap (λ (s : Syntax). calls s x) stands) in
+    rw (← e) (ticks_more c.any_holds.result c.args.steps.now c.any_holds.new.steps (first_calls ss x) (rw c.tick.ensures at c.any_holds.ensures.ticks))
 
-pub holds_at-returns-then-is_some-clause-bound : goal.holds_at-returns-then-is_some-clause-bound
-holds_at-returns-then-is_some-clause-bound t c =
+pub form_holds_at-returns-in_ok-candidates_on-in-Ancestrage-clause-bound : goal.form_holds_at-returns-in_ok-candidates_on-in-Ancestrage-clause-bound
+form_holds_at-returns-in_ok-candidates_on-in-Ancestrage-clause-bound t c =
     let f = syntax_at c.args.nodes.now in
     let l = f c.in-Ancestrage.child in
     let r = f c.in-Ancestrage.parent in
     let x = view c.args.asked.now in
     let b : c.in_ok-holds_at-in-Ancestrage.field-0 ≡ true = search rules in
-    let o : is_some c.in_ok-candidates_on-in-Ancestrage.field-0 ≡ true = sym c.is_some.ensures ∙ c.if-is_some.true in
     let h = rw b at c.in_ok-holds_at-in-Ancestrage.ensures.bound in
-    let k = rw o at c.in_ok-candidates_on-in-Ancestrage.ensures.bound in
     let stands = rw c.in-Ancestrage.is at c.at.ensures.stands in
     let above_x = c.parents-parents.ensures ∙ ap (λ e. parents (view e)) c.entry-in-Ancestrage.ensures in
-    rw stands (bound_under l r x (map view c.parents-parents.result.now) _ _ _ above_x h k)
+    OnTrue_from c.is_some.result _ (λ e.
+    let o : is_some c.in_ok-candidates_on-in-Ancestrage.field-0 ≡ true = sym c.is_some.ensures ∙ e in
+    let k = rw o at c.in_ok-candidates_on-in-Ancestrage.ensures.bound in
+    rw stands (bound_under l r x (map view c.parents-parents.result.now) _ _ _ above_x h k))

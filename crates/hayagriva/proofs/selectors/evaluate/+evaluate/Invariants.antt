@@ -1,8 +1,8 @@
-use Rattle.std.proofs.Common.{◌≡◌, ◌+◌, ◌*◌, ◌++◌, [], drop, false, length, map, take}
+use Rattle.std.proofs.Common.{◌≡◌, ◌+◌, ◌*◌, ◌++◌, [], drop, false, map}
 use Rattle.std.specs.Prelude.{find, sum_by}
 use Rattle.haya_entry.specs.Tree.{view, at_list}
 use Rattle.hayagriva.specs.Binds.{first_binds, first_binds_on}
-use Rattle.hayagriva.specs.Evaluation.{pair_entries, pairs_view}
+use Rattle.hayagriva.specs.Evaluation.{KeepsFound, pair_entries, pairs_view}
 use Rattle.hayagriva.specs.Calls.{calls, first_calls, first_calls_on, free_calls, greedy_calls}
 use Rattle.hayagriva.specs.Holds.{holds, some_holds, first_candidates, greedy, least_free}
 use Rattle.hayagriva.specs.Places.{at_place, items_up_to}
@@ -12,18 +12,25 @@ use Rattle.hayagriva.proofs.FreePlaces.{left}
 use Rattle.hayagriva.proofs.Greedy.{all_taken, greedy_binds}
 use Rattle.hayagriva.proofs.selectors.evaluate.+evaluate.Given as goal
 
--- a call goes to a node of a smaller number, or on the same node from a list to its entries
+-- a call goes to a node of a smaller number, or on the same node to its form, or from a list to its
+-- entries
+abbrev pub decreases-form_holds_at : goal.decreases-form_holds_at
+decreases-form_holds_at l = 8 * l.number + 1
+
 abbrev pub decreases-holds_at : goal.decreases-holds_at
-decreases-holds_at l = 8 * l.number + 1
+decreases-holds_at l = 8 * l.number + 2
 
 abbrev pub decreases-first_free : goal.decreases-first_free
-decreases-first_free l = 8 * l.number + 2
+decreases-first_free l = 8 * l.number + 3
 
 abbrev pub decreases-first_alone : goal.decreases-first_alone
-decreases-first_alone l = 8 * l.number + 3
+decreases-first_alone l = 8 * l.number + 4
+
+abbrev pub decreases-form_candidates_on : goal.decreases-form_candidates_on
+decreases-form_candidates_on l = 8 * l.number + 5
 
 abbrev pub decreases-candidates_on : goal.decreases-candidates_on
-decreases-candidates_on l = 8 * l.number + 4
+decreases-candidates_on l = 8 * l.number + 6
 
 abbrev pub decreases-any_holds : goal.decreases-any_holds
 decreases-any_holds l = 8 * above l.members.now
@@ -64,7 +71,7 @@ invariant-each_takes_one-loop-member l =
     (all_taken rest xs l.taken.items ≡ greedy all xs [])
     × (l.steps + greedy_calls rest xs l.taken.items ≡ l.fn.steps + greedy_calls all xs [])
     × (pairs_view (slot_names l.nodes) l.found ++ pair_entries (at_list xs) (greedy_binds rest xs l.taken.items) ≡ pairs_view (slot_names l.nodes) l.fn.found ++ pair_entries (at_list xs) (greedy_binds all xs []))
-    × (take (length (pairs_view (slot_names l.nodes) l.fn.found)) (pairs_view (slot_names l.nodes) l.found) ≡ pairs_view (slot_names l.nodes) l.fn.found)
+    × KeepsFound l.nodes l.fn.found l.found
 
 -- the places that are left
 abbrev pub invariant-first_free-loop-place : goal.invariant-first_free-loop-place

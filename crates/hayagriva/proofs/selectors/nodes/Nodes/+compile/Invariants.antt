@@ -1,7 +1,8 @@
 use Rattle.std.proofs.Common.{◌≡◌, ◌≤◌, map, take}
 use Rattle.hayagriva.specs.Compiled.{above}
-use Rattle.hayagriva.specs.Nodes.{Keeps, node_count, syntax_at}
-use Rattle.hayagriva.specs.Syntax.{syntax}
+use Rattle.hayagriva.specs.BoundNames.{all_bound_names}
+use Rattle.hayagriva.specs.Nodes.{AddsNames, Keeps, node_count, syntax_at}
+use Rattle.hayagriva.specs.Syntax.{members_of, syntax}
 use Rattle.hayagriva.proofs.selectors.nodes.Nodes.+compile.Given as goal
 
 -- the numbers so far stand for the members so far
@@ -10,3 +11,4 @@ invariant-add_all-members l =
     Keeps l.fn.self l.self
     × (above l.numbers.items ≤ node_count l.self)
     × (map (syntax_at l.self) l.numbers.items ≡ map syntax (take l.member-index l.members))
+    × AddsNames l.fn.self l.self (all_bound_names (members_of (take l.member-index l.members)))

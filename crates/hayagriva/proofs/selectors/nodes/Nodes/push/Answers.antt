@@ -10,8 +10,8 @@ invariant_of-self c =
     let s = c.args.self.now in
     record { fit = rw c.push.ensures.items (fit_push_if (length s.names.items) s.nodes.items c.args.node (is_ok c.push.result) s.fit (rw length-map at c.requires)) }
 
-pub returns : goal.returns
-returns c =
+pub returns-clause-stands : goal.returns-clause-stands
+returns-clause-stands c =
     let s = c.args.self.now in
     let e = c.in_ok-push.ensures.items in
     let n : c.len-number.result ≡ length s.nodes.items = c.len-number.ensures ∙ s.nodes.ok.0 in

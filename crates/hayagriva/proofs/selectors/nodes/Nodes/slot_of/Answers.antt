@@ -1,27 +1,32 @@
-use Rattle.std.proofs.Common.{◌≡◌, ◌<◌, ℕ, ◌++◌, ◌∷◌, [], ◌∙◌, ap, arith, length, map, refl, sym, string_bytes}
+use Rattle.std.proofs.Common.{rules, ◌≡◌, ◌<◌, ℕ, ◌++◌, ◌∷◌, [], ◌∙◌, ap, arith, length, map, refl, sym, string_bytes}
+use Rattle.std.specs.List.{position_from}
 use Rattle.std.proofs.Math.Seq.{get_or-append_seam}
-use Rattle.std.proofs.lemmas.List.{get_or-map, get_or_append_left, length-append, length-map, map-append}
-use Rattle.std.proofs.lemmas.Slice.Eq.{bytes_eq-Decides}
+use Rattle.std.proofs.lemmas.Iterator.{YieldsList-from_slice}
+use Rattle.std.proofs.lemmas.Iterator.Adapters.{position_from-zero}
+use Rattle.std.proofs.lemmas.Iterator.Search.{position_from_yields_List}
+use Rattle.std.proofs.lemmas.List.{get_or_append_left, length-append, length-map, map-append}
+use borrow.Author.Tests.{tests}
 use Rattle.hayagriva.specs.Compiled.{name_of, syntax_in}
 use Rattle.hayagriva.specs.Nodes.{slot_names}
 use Rattle.hayagriva.proofs.Growth.{keeps_same}
 use Rattle.hayagriva.proofs.NodeLists.{all_more_slots, names_keep}
+use Rattle.hayagriva.proofs.SlotNames.{is_name, place_found, place_missing}
 use Rattle.hayagriva.proofs.selectors.nodes.Nodes.slot_of.Goals as goal
 
-pub returns-then-eq : goal.returns-then-eq
-returns-then-eq c =
+pub returns-in-Some : goal.returns-in-Some
+returns-in-Some c =
     let s = c.args.self.now in
-    let name = c.other-item.result in
-    let here : c.slots.slot < length s.names.items = omega arith in
-    let items = c.deref-other-items.result.now in
-    let read : items ≡ s.names.items = c.deref-other-items.ensures.value in
-    let same = (bytes_eq-Decides c.as_str.result.now c.args.name.now).0 (sym c.eq.ensures ∙ c.if-eq.true) in
+    let name = c.args.name.now in
+    let e : c.position-known.result ≡ position_from (is_name name) 0 s.names.items =
+    position_from_yields_List (is_name name) _ _ c.position-known.result c.position-known.ensures.ran (YieldsList-from_slice s.names.items (search rules)) (λ x b q k. search (rules, tests))
+    ∙ position_from-zero (is_name name) s.names.items in
+    let there = place_found name s.names.items c.in-Some.slot (sym e ∙ c.in-Some.is) in
     record {
       keeps = keeps_same s;
       count = refl;
-      inside = rw length-map here;
-      named =
-          ap (λ l. name_of (map string_bytes l) c.slots.slot) (sym read) ∙ get_or-map string_bytes items c.slots.slot name [] (rw read here) ∙ ap string_bytes (sym c.other-item.is) ∙ sym c.as_str.ensures.value ∙ same;
+      inside = there.inside;
+      named = there.named;
+      added = rw there.known refl;
     }
 
 pub invariant_of-self-2 : goal.invariant_of-self-2
@@ -34,7 +39,12 @@ invariant_of-self-2 c =
 pub returns : goal.returns
 returns c =
     let s = c.args.self.now in
+    let name = c.args.name.now in
     let old = slot_names s in
+    let e : c.position-known.result ≡ position_from (is_name name) 0 s.names.items =
+    position_from_yields_List (is_name name) _ _ c.position-known.result c.position-known.ensures.ran (YieldsList-from_slice s.names.items (search rules)) (λ x b q k. search (rules, tests))
+    ∙ position_from-zero (is_name name) s.names.items in
+    let missing = place_missing name s.names.items (sym e ∙ c.in_default.is) in
     let new = map string_bytes c.push.new.self.items in
     let grown : new ≡ old ++ c.args.name.now ∷ [] =
     ap (map string_bytes) c.in_ok-push.ensures.items ∙ map-append string_bytes s.names.items (c.in_ok-from_str.field-0 ∷ []) ∙ ap (λ n. old ++ n ∷ []) c.in_ok-from_str.ensures.ok in
@@ -51,4 +61,5 @@ returns c =
       count = refl;
       inside = omega (arith, longer, slot);
       named = ap (name_of new) slot ∙ ap (λ l. name_of l (length old)) grown ∙ get_or-append_seam old c.args.name.now [] [];
+      added = rw missing grown;
     }
