@@ -1,12 +1,12 @@
 -- A text by its characters, and its length by them.
-use Rattle.std.proofs.Common.{◌≡◌, ℕ, ◌-◌, List, [], ◌∷◌, ◌++◌, All, take, drop, length, refl, ap, sym, ◌∙◌, arith}
+use Rattle.std.proofs.Common.{◌≡◌, ℕ, ◌-◌, ◌≤◌, List, [], ◌∷◌, ◌++◌, All, take, drop, length, refl, ap, sym, ◌∙◌, arith}
 use Rattle.std.proofs.lemmas.Str.{encodes-chars, chars_from_encodes, chars-nil, IsUtf8-past_char, IsUtf8-take, IsCharBoundary-at_seam, chars-append, chars_past_char}
 use Rattle.std.proofs.lemmas.List.Elements.{All-nil, All-push}
 use Rattle.std.proofs.lemmas.List.{append-nil, length-append, take-append-drop}
 use Rattle.std.proofs.Math.Seq.{take-append_seam}
 use Rattle.std.proofs.Common.{append_assoc}
 use Rattle.std.specs.Char.{encode_utf8}
-use Rattle.haya_text.specs.Cursor.{IsBehind}
+use Rattle.haya_text.specs.Cursor.{IsBehind, Left, text_len}
 use Rattle.std.specs.Str.{IsUtf8, IsCharBoundary, chars, encode_utf8_all, skip_leading_whitespace, trim_start}
 
 -- the characters of a text take as many bytes as the text has
@@ -63,3 +63,13 @@ accepted_boundary {P} {text} {left} a =
 -- the characters of both parts of a text
 pub chars-parts : (text : List ℕ) (i : ℕ) → IsUtf8 text → IsCharBoundary text i → chars text ≡ chars (take i text) ++ chars (drop i text)
 chars-parts text i u b = ap chars (sym (take-append-drop i text)) ∙ chars-append (take i text) (drop i text) (IsUtf8-take text i u b)
+
+-- what is behind some characters of a text takes no more bytes than the text
+pub length-behind : (front behind : List ℕ) → length (encode_utf8_all behind) ≤ length (encode_utf8_all (front ++ behind))
+length-behind [] behind = omega arith
+length-behind (c ∷ front) behind =
+    omega (arith, length-behind front behind, length-append (encode_utf8 c) (encode_utf8_all (front ++ behind)))
+
+-- so a place goes forward where the text's length stays
+pub place-forward : (old new : Left) (front : List ℕ) → old.rest ≡ front ++ new.rest → text_len new ≡ text_len old → old.place ≤ new.place
+place-forward old new front e t = omega (arith, t, length-behind front new.rest, ap (λ cs. length (encode_utf8_all cs)) e)

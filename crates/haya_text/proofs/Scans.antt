@@ -1,10 +1,12 @@
 -- What `scan` reads, mark by mark.
-use Rattle.std.proofs.Common.{◌≡◌, ◌≢◌, ℕ, zero, suc, Bool, true, false, ◌||◌, eqb, List, [], ◌∷◌, ◌++◌, refl, ap, sym, ◌∙◌, append_assoc, arith, Result, Ok, Err}
+use Rattle.std.proofs.Common.{◌≡◌, ◌≢◌, All, ℕ, zero, suc, Bool, true, false, not, ◌||◌, eqb, List, [], ◌∷◌, ◌++◌, refl, ap, sym, ◌∙◌, append_assoc, arith, Result, Ok, Err}
 use Rattle.std.proofs.lemmas.Bool.Decides.{nat_tests}
-use Rattle.haya_text.specs.Chunks.{Character}
+use Rattle.std.proofs.lemmas.List.Elements.{All-head, All-tail, All-weaker}
+use Rattle.haya_text.specs.Chunks.{Character, characters_of_kind}
 use Rattle.haya_text.specs.Printing.{is_control}
 use Rattle.haya_text.specs.Marks.{scan_of_mark}
 use Rattle.haya_text.specs.Reading.{result_after, kind_in, scan}
+use Rattle.haya_text.specs.declared.strings.kind.ChunkKind.{ChunkKind}
 use Rattle.haya_text.specs.declared.strings.reading.Mark.TheVariants.{Open}
 use Rattle.std.specs.Prelude.{slice_get, Some}
 
@@ -39,6 +41,25 @@ pub scan-plain : (d : ℕ) (m : Bool) (c : ℕ) (cs : List ℕ) → is_control c
 scan-plain d true c cs h = let t = apart c h in rw (t.0, t.3) refl
 scan-plain zero false c cs h = let t = apart c h in rw (t.0, t.1, t.2, t.3) refl
 scan-plain (suc d) false c cs h = let t = apart c h in rw (t.0, t.1, t.2, t.3) refl
+
+-- a run of plain characters, and what follows it
+pub scan-run : (d : ℕ) (m : Bool) (run cs : List ℕ) → All (λ c. is_control c ≡ false) run → scan d m false (run ++ cs) ≡ result_after (characters_of_kind (kind_in d m) run) (scan d m false cs)
+scan-run d m [] cs h = sym (result_after-nil (scan d m false cs))
+scan-run d m (c ∷ run) cs h =
+    scan-plain d m c (run ++ cs) (All-head (λ c. is_control c ≡ false) c run h)
+    ∙ ap (result_after ((c, kind_in d m) ∷ [])) (scan-run d m run cs (All-tail (λ c. is_control c ≡ false) c run h))
+    ∙ sym (result_after-append ((c, kind_in d m) ∷ []) (characters_of_kind (kind_in d m) run) (scan d m false cs))
+
+accepted-plain : (b : Bool) → true ≡ not b → b ≡ false
+accepted-plain true h = cc
+accepted-plain false h = refl
+
+-- what is read so far, a run of plain characters, and what follows it
+pub scan-behind_run : (d : ℕ) (m : Bool) (xs : List Character) (kind : ChunkKind) (run cs text : List ℕ) → text ≡ run ++ cs → kind ≡ kind_in d m
+    → All (λ c. true ≡ not (is_control c)) run → result_after (xs ++ characters_of_kind kind run) (scan d m false cs) ≡ result_after xs (scan d m false text)
+scan-behind_run d m xs kind run cs text e k h =
+    let plain : All (λ c. is_control c ≡ false) run = All-weaker (λ c. true ≡ not (is_control c)) (λ c. is_control c ≡ false) (λ c. accepted-plain (is_control c)) run h in
+    rw (e, k) (result_after-append xs (characters_of_kind (kind_in d m) run) (scan d m false cs) ∙ ap (result_after xs) (sym (scan-run d m run cs plain)))
 
 -- a backslash
 pub scan-backslash : (d : ℕ) (m : Bool) (cs : List ℕ) → scan d m false (92 ∷ cs) ≡ scan d m true cs

@@ -1,9 +1,10 @@
 //! How texts are read, mark by mark.
-ghost use Rattle.std.specs.Prelude.{◌≡◌, ◌+◌, ◌^◌, ◌<◌, ◌≤◌, [], ◌∷◌, ℕ, List, Bool, true, false, Ok, Err, Option, Some, None, length, IfOk, IfErr, IfSome, MatchOption, MatchResult, OnOk};
+ghost use Rattle.std.specs.Prelude.{◌≡◌, ◌+◌, ◌^◌, ◌<◌, ◌≤◌, [], ◌∷◌, ℕ, List, Bool, true, false, Ok, Err, Option, Some, None, length, IfOk, IfErr, IfSome, MatchOption, MatchResult, OnOk, not};
 ghost use Rattle.haya_text.specs.Chunks.{chunks, characters};
 ghost use Rattle.haya_text.specs.Cursor.{text_len};
 ghost use Rattle.haya_text.specs.Normal.{norm};
-ghost use Rattle.haya_text.specs.Marks.{scan_of_mark, IsInRuns, Refuses, TakesMark, TakesPlain};
+ghost use Rattle.haya_text.specs.Printing.{is_control};
+ghost use Rattle.haya_text.specs.Marks.{scan_of_mark, scan_of_reader, IsInRuns, Refuses, TakesMark, TakesPlain};
 ghost use Rattle.haya_text.specs.Reading.{kind_in, result_after, scan, chunks_read, IsRefusal};
 ghost use Rattle.haya_text.specs.declared.strings.reading.Mark.TheVariants.{Close};
 
@@ -102,9 +103,11 @@ fn read_chunks(alloc: Global, text: &str) -> Result<ChunkedString, ChunkedReadEr
         math: false,
     };
     let mut cursor = Cursor::new(text);
+    reader.take_plain(&mut cursor)?;
     let mut place = cursor.place();
     'marks: while let Some(mark) = next_mark(&mut cursor) {
         reader.take(mark, place)?;
+        reader.take_plain(&mut cursor)?;
         place = cursor.place();
     }
     Ok(reader.read)
@@ -128,6 +131,28 @@ struct Reader {
 }
 
 impl Reader {
+    // Takes the characters that stand next and are no control characters, all at once.
+    fn take_plain(&mut self, cursor: &mut Cursor) -> Result<(), ChunkedReadError>
+        ensures reads { OnOk result
+            (scan_of_reader self.new cursor.new.rest ≡ scan_of_reader self.old cursor.old.rest) }
+        ensures normal { IsInRuns self.old → OnOk result (IsInRuns self.new) }
+        ensures depth { self.new.depth ≡ self.old.depth }
+        ensures forward { cursor.old.place ≤ cursor.new.place }
+        ensures same_text { text_len cursor.new ≡ text_len cursor.old }
+        ensures fault { IfErr result (λ e. e ≡ ChunkedReadError.OutOfMemory) }
+    {
+        let plain = cursor.eat_while(
+            |c| -> bool
+                ensures { result ≡ not (is_control c) }
+            { !is_control(c) },
+        );
+        if !plain.is_empty() {
+            let kind = self.kind();
+            self.read.push_str(plain, kind)?;
+        }
+        Ok(())
+    }
+
     // Takes the mark at this place.
     fn take(&mut self, mark: Mark, place: usize) -> Result<(), ChunkedReadError>
         requires { self.old.depth + 1 < 2 ^ 64 }

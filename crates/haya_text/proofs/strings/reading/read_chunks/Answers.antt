@@ -24,16 +24,16 @@ pub marks-init : goal.marks-init
 marks-init c =
     let whole = length-chars c.args.text.now c.utf8.text in
     record {
-      reads = rw (c.new.ensures, c.new-cursor.ensures) (result_after-nil _);
-      normal = rw c.new.ensures refl;
+      reads = c.in_ok-take_plain.ensures.reads ∙ rw (c.new.ensures, c.new-cursor.ensures) (result_after-nil _);
+      normal = c.in_ok-take_plain.ensures.normal (rw c.new.ensures refl);
       depth = omega arith;
       place = c.place-place.ensures;
-      whole = rw c.new-cursor.ensures (omega arith);
+      whole = c.in_ok-take_plain.ensures.same_text ∙ rw c.new-cursor.ensures (omega arith);
     }
 
 pub returns-in_err-take : goal.returns-in_err-take
 returns-in_err-take c =
-    let p = err_from_is_err_and c.from_residual.result c.from_residual.ensures.1 in
+    let p = err_from_is_err_and c.from_residual-in_err-take.result c.from_residual-in_err-take.ensures.1 in
     let r : Reader = c.marks.reader in
     let rest : List ℕ = c.next_mark.new.cursor.rest in
     let at_brace : c.in-Some.mark ≡ Close → r.depth ≡ 0 → r.math ≡ false → IsRefusedAt c.marks.place c.args.text.now = λ brace depth math.
@@ -49,9 +49,9 @@ marks-preserved c =
     let deeper = c.in_ok-take.ensures.depth in
     let forward = c.in-Some.ensures.forward in
     record {
-      reads = sym (c.in_ok-take.ensures.reads c.next_mark.new.cursor.rest) ∙ ap (result_after (characters (chunks c.marks.reader.read))) (sym (c.in-Some.ensures.reads c.marks.reader.depth c.marks.reader.math)) ∙ c.marks.invariant.reads;
-      normal = c.in_ok-take.ensures.normal c.marks.invariant.normal;
+      reads = c.in_ok-take_plain-2.ensures.reads ∙ sym (c.in_ok-take.ensures.reads c.next_mark.new.cursor.rest) ∙ ap (result_after (characters (chunks c.marks.reader.read))) (sym (c.in-Some.ensures.reads c.marks.reader.depth c.marks.reader.math)) ∙ c.marks.invariant.reads;
+      normal = c.in_ok-take_plain-2.ensures.normal (c.in_ok-take.ensures.normal c.marks.invariant.normal);
       depth = omega arith;
       place = c.place-place-in-Some.ensures;
-      whole = c.in-Some.ensures.same_text ∙ c.marks.invariant.whole;
+      whole = c.in_ok-take_plain-2.ensures.same_text ∙ c.in-Some.ensures.same_text ∙ c.marks.invariant.whole;
     }
