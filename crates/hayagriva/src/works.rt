@@ -1,6 +1,6 @@
-//! Works of literature for tests: short ways to make entries, and selectors to ask of them. An allocation that fails
-//! ends a test, and what a test owns is dropped by a call: so no test has a path on which it has to drop entries,
-//! which is expensive to prove.
+//! Works of literature for tests: short ways to make entries, and selectors to ask of them. An
+//! allocation that fails ends a test, and what a test owns is dropped by a call: so no test has a
+//! path on which it has to drop entries, which is expensive to prove.
 use crate::Selector;
 use haya_entry::{Entry, EntryType};
 use std::process::Abort;
