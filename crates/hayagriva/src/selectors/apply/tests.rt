@@ -1,4 +1,4 @@
-//! Selectors at worked entries.
+//! Selectors at worked entries. What loops holds an entry by reference alone.
 use crate::works::{below, english, entry, selector, string};
 use crate::{BoundSelect, Selector};
 use haya_entry::{Entry, EntryType, Steps};
@@ -14,23 +14,37 @@ enum Work {
     WebInEnglish,
 }
 
-fn made(rt: &(impl Abort + AllocGlobal), work: Work) -> Entry {
+// Its key, its type, and whether it is in English.
+fn parts(work: Work) -> (&'static str, EntryType, bool) {
     match work {
-        Work::Article => entry(rt, "article", EntryType::Article),
-        Work::Blog => entry(rt, "blog", EntryType::Blog),
-        Work::Book => entry(rt, "book", EntryType::Book),
-        Work::BookInEnglish => english(rt, "book", EntryType::Book),
-        Work::Periodical => entry(rt, "periodical", EntryType::Periodical),
-        Work::WebInEnglish => english(rt, "web", EntryType::Web),
+        Work::Article => ("article", EntryType::Article, false),
+        Work::Blog => ("blog", EntryType::Blog, false),
+        Work::Book => ("book", EntryType::Book, false),
+        Work::BookInEnglish => ("book", EntryType::Book, true),
+        Work::Periodical => ("periodical", EntryType::Periodical, false),
+        Work::WebInEnglish => ("web", EntryType::Web, true),
+    }
+}
+
+fn made(rt: &(impl Abort + AllocGlobal), work: Work) -> Entry {
+    let (key, kind, in_english) = parts(work);
+    if in_english {
+        english(rt, key, kind)
+    } else {
+        entry(rt, key, kind)
+    }
+}
+
+fn add_parents(rt: &(impl Abort + AllocGlobal), child: &mut Entry, parents: &[Work]) {
+    for parent in parents {
+        child.parents.push(made(rt, *parent)).expect(rt, "memory");
     }
 }
 
 fn article(rt: &(impl Abort + AllocGlobal), parents: &[Work]) -> Entry {
-    let mut made_so_far = made(rt, Work::Article);
-    for parent in parents {
-        made_so_far = below(rt, made_so_far, made(rt, *parent));
-    }
-    made_so_far
+    let mut article = made(rt, Work::Article);
+    add_parents(rt, &mut article, parents);
+    article
 }
 
 // `no` where the selector doesn't hold, else `yes`, or the key of the entry that `a` is bound to.
@@ -135,12 +149,22 @@ const ON_PARENTS: &[(&str, &[Work], &str)] = &[
     ("a:*", &[Work::Blog], "article"),
 ];
 
+fn is_answer_on(
+    rt: &(impl Abort + AllocGlobal),
+    text: &str,
+    parents: &[Work],
+    wanted: &str,
+) -> bool {
+    let entry = article(rt, parents);
+    let is = is_answer(rt, text, &entry, wanted);
+    drop(entry);
+    is
+}
+
 #[test]
 fn holds_and_binds_on_parents(rt: HostRuntime) {
     for (text, parents, wanted) in ON_PARENTS {
-        let entry = article(&rt, *parents);
-        assert!(rt; is_answer(&rt, *text, &entry, *wanted), "{text}");
-        drop(entry);
+        assert!(rt; is_answer_on(&rt, *text, *parents, *wanted), "{text}");
     }
 }
 
@@ -155,12 +179,17 @@ const WITHOUT_PARENTS: &[(&str, Work, &str)] = &[
     ("*[language, ]", Work::WebInEnglish, "yes"),
 ];
 
+fn is_answer_at(rt: &(impl Abort + AllocGlobal), text: &str, work: Work, wanted: &str) -> bool {
+    let entry = made(rt, work);
+    let is = is_answer(rt, text, &entry, wanted);
+    drop(entry);
+    is
+}
+
 #[test]
 fn holds_without_parents(rt: HostRuntime) {
     for (text, work, wanted) in WITHOUT_PARENTS {
-        let entry = made(&rt, *work);
-        assert!(rt; is_answer(&rt, *text, &entry, *wanted), "{text}");
-        drop(entry);
+        assert!(rt; is_answer_at(&rt, *text, *work, *wanted), "{text}");
     }
 }
 
@@ -189,45 +218,62 @@ fn holds_above_any(rt: &(impl Abort + AllocGlobal), parents: Selector) -> bool {
     holds
 }
 
-// No text reads as these: an `Alt` without members never holds, a `Multi` without members always does.
+// No text reads as these: an `Alt` without members never holds, a `Multi` without members always
+// does.
 #[test]
 fn lists_without_members(rt: HostRuntime) {
     assert!(rt; !holds_above_any(&rt, Selector::Alt(Vec::new(rt.alloc()))));
     assert!(rt; holds_above_any(&rt, Selector::Multi(Vec::new(rt.alloc()))));
 }
 
+fn long_selector(rt: &(impl Abort + AllocGlobal)) -> String {
+    let mut text = string(rt, "article > (book");
+    for _ in 0..200 {
+        text.push_str(" | misc").expect(rt, "memory");
+    }
+    text.push_str(" | a:web)").expect(rt, "memory");
+    text
+}
+
 // A web site behind 150 blogs, by a selector of 200 members.
 #[test]
 fn many_parents_and_members(rt: HostRuntime) {
+    let text = long_selector(&rt);
     let blogs = article(&rt, &[Work::Blog; 150]);
     let entry = below(&rt, blogs, made(&rt, Work::WebInEnglish));
-    let mut text = string(&rt, "article > (book");
-    for _ in 0..200 {
-        text.push_str(" | misc").expect(&rt, "memory");
-    }
-    text.push_str(" | a:web)").expect(&rt, "memory");
     assert!(rt; is_answer(&rt, text.as_str(), &entry, "web"));
     drop(entry);
 }
 
-// Each row: a selector, the parents of an article, and how often the evaluator is entered at the article.
+// Each row: a selector, the parents of an article, and how often the evaluator is entered at the
+// article.
 const CALLS: &[(&str, &[Work], u64)] = &[
     ("* > a:*[language]", &[Work::Blog, Work::WebInEnglish], 5),
     ("* > book[language]", &[Work::Book, Work::BookInEnglish], 5),
     ("* > (* & article)", &[Work::Article, Work::Book], 5),
 ];
 
+fn calls_at(rt: &(impl Abort + AllocGlobal), text: &str, entry: &Entry) -> u64 {
+    let selector = selector(rt, text);
+    let mut steps = Steps::new();
+    let found = selector
+        .apply_counted(rt.alloc(), entry, &mut steps)
+        .expect(rt, "memory");
+    drop(found);
+    drop(selector);
+    steps.seen()
+}
+
+fn calls(rt: &(impl Abort + AllocGlobal), text: &str, parents: &[Work]) -> u64 {
+    let entry = article(rt, parents);
+    let calls = calls_at(rt, text, &entry);
+    drop(entry);
+    calls
+}
+
 #[test]
 fn counts_calls(rt: HostRuntime) {
     for (text, parents, wanted) in CALLS {
-        let entry = article(&rt, *parents);
-        let selector = selector(&rt, *text);
-        let mut steps = Steps::new();
-        let found = selector
-            .apply_counted(rt.alloc(), &entry, &mut steps)
-            .expect(&rt, "memory");
-        drop(found);
-        drop(selector);
-        assert_eq!(rt; steps.seen(), *wanted, "{text}");
+        assert_eq!(rt; calls(&rt, *text, *parents), *wanted, "{text}");
     }
 }
