@@ -2,11 +2,12 @@ use Rattle.std.proofs.Common.{rules, ◌≡◌, ◌+◌, true, None, Some, [], d
 use Rattle.std.specs.Prelude.{is_some, slice_index_or, sum_by}
 use Rattle.std.proofs.Math.ListN.{drop_of_length-le}
 use Rattle.std.proofs.lemmas.Result.{MatchResult-from_err}
+use Rattle.haya_entry.specs.Names.{is_of_type}
 use Rattle.haya_entry.specs.Tree.{parents, view}
 use Rattle.hayagriva.specs.Binds.{binds}
 use Rattle.hayagriva.specs.Evaluation.{pairs_view}
 use Rattle.hayagriva.specs.Calls.{calls}
-use Rattle.hayagriva.specs.Holds.{holds, is_type, greedy, least_free}
+use Rattle.hayagriva.specs.Holds.{holds, greedy, least_free}
 use Rattle.hayagriva.specs.Places.{items_up_to}
 use Rattle.hayagriva.specs.Candidates.{candidate_places}
 use Rattle.hayagriva.specs.Nodes.{members_at, slot_names, syntax_at}
@@ -148,7 +149,7 @@ candidates_on-returns-in-Entry-clause-bound t c =
     let xs = map view c.args.parents.now in
     let stands = c.at.ensures.stands in
     elim c.in-Entry.is [
-      | inl w ↦ let e = rw w.1 at stands in rw e (rw (e, led_nothing (is_type w.0) xs) at c.first_alone.ensures.bound)
+      | inl w ↦ let e = rw w.1 at stands in rw e (rw (e, led_nothing (is_of_type w.0) xs) at c.first_alone.ensures.bound)
       | inr w ↦ let e = rw w.2 at stands in rw e (rw e at c.first_alone.ensures.bound)
     ]
 
