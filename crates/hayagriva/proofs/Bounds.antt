@@ -4,10 +4,11 @@ use Rattle.std.specs.Prelude.{filter, is_some, sum_by}
 use Rattle.std.specs.List.{position_or_len}
 use Rattle.std.specs.Option.{option_map_or}
 use Rattle.std.proofs.lemmas.List.Sums.{sum_by-cons, sum_by-take-le}
+use Rattle.haya_entry.specs.Names.{is_of_type}
 use Rattle.haya_entry.specs.Tree.{Tree, Trees, node, no_trees, one_more, trees, tree_list, parents, size, sizes}
 use Rattle.hayagriva.specs.Calls.{calls, first_calls, calls_on, first_calls_on, free_calls, greedy_calls}
 use Rattle.hayagriva.specs.Evaluation.{Ticks}
-use Rattle.hayagriva.specs.Holds.{holds, candidates, is_type, least_free}
+use Rattle.hayagriva.specs.Holds.{holds, candidates, least_free}
 use Rattle.hayagriva.specs.Places.{places, free_places, at_place, items_up_to}
 use Rattle.hayagriva.proofs.FreePlaces.{sum_by-places}
 use Rattle.hayagriva.specs.Syntax.{Syntax, Wildcard, Entry, Neg, Binding, Attr, Alt, Multi, Ancestrage, Syntaxes, none, more, nodes, nodes_of_all}
@@ -69,7 +70,7 @@ mutual
 
   calls_on_at_most : (s : Syntax) (xs : List Tree) → calls_on s xs ≤ nodes s * (1 + total xs)
   calls_on_at_most Wildcard xs = omega arith
-  calls_on_at_most (Entry t) xs = omega (arith, first_at_most (calls (Entry t)) 1 (λ x. omega (arith, size_is x)) (is_type t) xs)
+  calls_on_at_most (Entry t) xs = omega (arith, first_at_most (calls (Entry t)) 1 (λ x. omega (arith, size_is x)) (is_of_type t) xs)
   calls_on_at_most (Neg s) xs = omega (arith, calls_on_at_most s xs)
   calls_on_at_most (Binding n s) xs = omega (arith, calls_on_at_most s xs)
   calls_on_at_most (Attr s names) xs = omega (arith, calls_on_at_most s xs)

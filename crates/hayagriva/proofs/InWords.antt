@@ -8,11 +8,11 @@ use Rattle.std.proofs.Math.Bool.{and-true}
 use Rattle.std.proofs.lemmas.Bool.Decides.{nat_tests}
 use Rattle.std.proofs.lemmas.List.{map-append, reverse-append}
 use Rattle.std.proofs.lemmas.List.Folds.{list_any-append}
-use Rattle.haya_entry.specs.Names.{has_all, has_name}
+use Rattle.haya_entry.specs.Names.{is_of_type, has_all, has_name}
 use Rattle.haya_entry.specs.Tree.{Tree, at, at_list, parents}
 use Rattle.hayagriva.specs.Binds.{Pairs, binds, binds_on, bound_to, each_binds, first_binds, first_binds_on, last_of, pair_of_first, pairs_at}
 use Rattle.hayagriva.specs.Evaluation.{pair_entries}
-use Rattle.hayagriva.specs.Holds.{holds, some_holds, is_type, candidates, first_candidates, greedy, kept_places, least_free, some_places}
+use Rattle.hayagriva.specs.Holds.{holds, some_holds, candidates, first_candidates, greedy, kept_places, least_free, some_places}
 use Rattle.hayagriva.specs.InWords.{has_names, some_entries, with_names, first_entry, without_first, or_before, picks, some_picks, stands, some_stands, each_stands, candidate_entries, first_entries, entries_in_turn, first_candidate, binds_name, some_binds_name, within, at_first, entry_called, called_by_first, parent_called, parent_called_by_first, called_in_turn, named_entry}
 use Rattle.hayagriva.specs.Places.{places, free_places, at_place}
 use Rattle.hayagriva.specs.Syntax.{Syntax, Wildcard, Entry, Neg, Binding, Attr, Alt, Multi, Ancestrage, Syntaxes, none, more}
@@ -299,11 +299,11 @@ turn-some (more s (more t ss)) xs =
 mutual
   entries-some : (s : Syntax) (xs : List Tree) → is_some (candidate_entries s xs) ≡ stands s xs
   entries-some Wildcard xs = any-some xs
-  entries-some (Entry t) xs = is_some-map _ (find (is_type t) xs) ∙ find-some (is_type t) xs
+  entries-some (Entry t) xs = is_some-map _ (find (is_of_type t) xs) ∙ find-some (is_of_type t) xs
   entries-some (Neg s) xs = not-some (stands s xs) []
   entries-some (Binding n s) xs = is_some-map _ (candidate_entries s xs) ∙ entries-some s xs
   entries-some (Attr Wildcard names) xs = with-any names xs
-  entries-some (Attr (Entry t) names) xs = with-one names (find (is_type t) xs)
+  entries-some (Attr (Entry t) names) xs = with-one names (find (is_of_type t) xs)
   entries-some (Attr (Neg s) names) xs = with-not names (stands s xs)
   entries-some (Attr (Binding n s) names) xs = with-named names (candidate_entries s xs) ∙ entries-some s xs
   entries-some (Attr (Ancestrage l r) names) xs = with-one names (find (λ x. picks l x && stands r (parents x)) xs)
@@ -328,9 +328,9 @@ first-any (x ∷ xs) = refl
 
 entries-first : (s : Syntax) (xs : List Tree) → first_entry (candidate_entries s xs) ≡ first_candidate s xs
 entries-first Wildcard xs = first-any xs
-entries-first (Entry t) xs = first-one (find (is_type t) xs)
+entries-first (Entry t) xs = first-one (find (is_of_type t) xs)
 entries-first (Attr Wildcard names) xs = first-with-any names xs
-entries-first (Attr (Entry t) names) xs = first-with-one names (find (is_type t) xs)
+entries-first (Attr (Entry t) names) xs = first-with-one names (find (is_of_type t) xs)
 entries-first (Ancestrage l r) xs = first-one (find (λ x. picks l x && stands r (parents x)) xs)
 entries-first _ xs = refl
 
@@ -360,7 +360,7 @@ mutual
   -- candidates are the places of the candidate entries
   candidates-stand : (s : Syntax) (xs : List Tree) → StandOr xs (candidates s xs) (candidate_entries s xs)
   candidates-stand Wildcard xs = some-stands xs (places xs) xs (stand_from xs 0 xs refl)
-  candidates-stand (Entry t) xs = one-stands xs _ _ (first-stands xs (is_type t))
+  candidates-stand (Entry t) xs = one-stands xs _ _ (first-stands xs (is_of_type t))
   candidates-stand (Neg s) xs = neg-stands xs _ _ (same-some xs (candidates s xs) (candidate_entries s xs) (candidates-stand s xs) ∙ entries-some s xs)
   candidates-stand (Binding n s) xs = named-stands xs _ _ (candidates-stand s xs)
   candidates-stand (Attr s names) xs = kept-stands xs names _ _ (candidates-stand s xs)

@@ -3,10 +3,10 @@ use Rattle.std.proofs.Common.{◌≡◌, ◌≢◌, ℕ, suc, zero, Bool, true, 
 use Rattle.std.specs.Prelude.{not, ◌||◌, ◌&&◌, codes, is_some}
 use Rattle.std.specs.List.{list_any}
 use Rattle.haya_entry.specs.declared.types.EntryType.TheVariants.{Article, Blog, Periodical, Web}
-use Rattle.haya_entry.specs.Names.{has_all}
+use Rattle.haya_entry.specs.Names.{is_of_type, has_all}
 use Rattle.haya_entry.specs.Tree.{Tree, new_entry, parents}
 use Rattle.hayagriva.specs.Assignment.{IsAssignment, IsExclusive, table_of}
-use Rattle.hayagriva.specs.Holds.{holds, candidates, is_type}
+use Rattle.hayagriva.specs.Holds.{holds, candidates}
 use Rattle.hayagriva.specs.Syntax.{Syntax, Wildcard, Entry, Neg, Binding, Attr, Alt, Multi, Ancestrage, Syntaxes, none, more}
 use Rattle.hayagriva.proofs.Assignments.{greedy_assigns, greedy_finds}
 use Rattle.hayagriva.proofs.ParentSides.{holds_at_some_parent, holds_at_no_parent, names_change_no_answer}
@@ -16,14 +16,14 @@ abbrev periodical_or_doi : Syntax
 periodical_or_doi = Alt (more (Entry Periodical) (more (Binding (codes "w") (Attr Wildcard (codes "doi" ∷ []))) none))
 
 abbrev is_periodical_or_has_doi : Tree → Bool
-is_periodical_or_has_doi p = is_type Periodical p || (has_all (codes "doi" ∷ []) p || false)
+is_periodical_or_has_doi p = is_of_type Periodical p || (has_all (codes "doi" ∷ []) p || false)
 
 -- `article > (periodical | w:*[doi])` holds at the articles with such a parent
-some_parent : (x : Tree) → holds (Ancestrage (Entry Article) periodical_or_doi) x ≡ (is_type Article x && list_any is_periodical_or_has_doi (parents x))
+some_parent : (x : Tree) → holds (Ancestrage (Entry Article) periodical_or_doi) x ≡ (is_of_type Article x && list_any is_periodical_or_has_doi (parents x))
 some_parent x = holds_at_some_parent (Entry Article) periodical_or_doi x refl
 
 -- `article > !(periodical | w:*[doi])` at those with none
-no_parent : (x : Tree) → holds (Ancestrage (Entry Article) (Neg periodical_or_doi)) x ≡ (is_type Article x && not (list_any is_periodical_or_has_doi (parents x)))
+no_parent : (x : Tree) → holds (Ancestrage (Entry Article) (Neg periodical_or_doi)) x ≡ (is_of_type Article x && not (list_any is_periodical_or_has_doi (parents x)))
 no_parent x = holds_at_no_parent (Entry Article) periodical_or_doi x refl
 
 -- `* > (periodical > !web)`: any selector may stand around the second `>`

@@ -4,8 +4,9 @@ use Rattle.std.specs.Prelude.{not, ◌||◌, ◌&&◌, is_some, option_and_then,
 use Rattle.std.specs.Option.{option_map_or, option_or}
 use Rattle.std.specs.List.{list_any}
 use Rattle.haya_text.proofs.Tells.{and-both}
+use Rattle.haya_entry.specs.Names.{is_of_type}
 use Rattle.haya_entry.specs.Tree.{Tree, parents}
-use Rattle.hayagriva.specs.Holds.{holds, some_holds, is_type, candidates, first_candidates, first_place, greedy, least_free}
+use Rattle.hayagriva.specs.Holds.{holds, some_holds, candidates, first_candidates, first_place, greedy, least_free}
 use Rattle.hayagriva.specs.ParentSide.{asks_one_parent, all_ask_one_parent, HoldsAtSomeParent, HoldsAtNoParent, without_names, all_without_names, lists_have_no_names, all_lists_have_no_names, has_no_names, all_have_no_names, NamesChangeNoAnswer}
 use Rattle.hayagriva.specs.Places.{free_places, at_place}
 use Rattle.hayagriva.specs.Syntax.{Syntax, Wildcard, Entry, Neg, Binding, Attr, Alt, Multi, Ancestrage, Syntaxes, none, more}
@@ -45,7 +46,7 @@ first-some test xs = map-some _ (position test xs) ∙ position-some test xs
 mutual
   candidates-some : (r : Syntax) (xs : List Tree) → asks_one_parent r ≡ true → is_some (candidates r xs) ≡ list_any (holds r) xs
   candidates-some Wildcard xs h = candidates-stands Wildcard xs
-  candidates-some (Entry t) xs h = first-some (is_type t) xs
+  candidates-some (Entry t) xs h = first-some (is_of_type t) xs
   candidates-some (Binding n s) xs h = map-some _ (candidates s xs) ∙ candidates-some s xs h
   candidates-some (Attr Wildcard names) xs h =
       candidates-stands (Attr Wildcard names) xs ∙ list_any-same {q = holds (Attr Wildcard names)} (λ x. sym (all-names names x)) xs

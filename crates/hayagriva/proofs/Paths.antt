@@ -7,11 +7,11 @@ use Rattle.std.proofs.lemmas.List.Elements.{All-nil, All-cons, All-head, All-tai
 use Rattle.std.proofs.lemmas.List.FromFn.{length-range_with_len, get_or-range_with_len}
 use Rattle.std.proofs.lemmas.List.Quantifiers.{position-Some}
 use Rattle.haya_entry.specs.declared.entry.Entry.{Entry as EntryData}
-use Rattle.haya_entry.specs.Names.{has_all}
+use Rattle.haya_entry.specs.Names.{is_of_type, has_all}
 use Rattle.haya_entry.specs.Tree.{Tree, view, parents, at, at_list}
 use Rattle.hayagriva.specs.Binds.{Pairs, pairs_at_first, pairs_at, pair_of_first, binds, binds_on, first_binds_on, each_binds}
 use Rattle.hayagriva.specs.Evaluation.{pair_entries}
-use Rattle.hayagriva.specs.Holds.{holds, is_type, candidates, first_candidates, first_place, greedy, kept_places, least_free, some_places}
+use Rattle.hayagriva.specs.Holds.{holds, candidates, first_candidates, first_place, greedy, kept_places, least_free, some_places}
 use Rattle.hayagriva.specs.Places.{places, free_places, at_place}
 use Rattle.hayagriva.specs.Syntax.{Syntax, Wildcard, Entry, Neg, Binding, Attr, Alt, Multi, Ancestrage, Syntaxes, none, more}
 
@@ -123,7 +123,7 @@ mutual
   -- candidates are places of the list
   pub candidates_in : (s : Syntax) (xs : List Tree) → IfSome (candidates s xs) (In xs)
   candidates_in Wildcard xs = some_in xs (places xs) (places_in xs)
-  candidates_in (Entry t) xs = first_in (is_type t) xs
+  candidates_in (Entry t) xs = first_in (is_of_type t) xs
   candidates_in (Neg s) xs = elim (is_some (candidates s xs)) as (λ b. IfSome (cond b None (Some [])) (In xs)) [ true ↦ tt | false ↦ All-nil _ ]
   candidates_in (Binding n s) xs = elim (candidates s xs) as (λ o. IfSome (option_map {T = List ℕ} (λ _. []) o) (In xs)) [ None ↦ tt | Some is ↦ All-nil _ ]
   candidates_in (Attr s names) xs = kept_in names xs (candidates s xs) (candidates_in s xs)

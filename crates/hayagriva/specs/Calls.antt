@@ -1,8 +1,9 @@
 -- How often the evaluator is entered for a selector: once a form at each entry, or list of parents, that it is asked of.
 use Rattle.std.specs.Prelude.{ℕ, ◌+◌, Bool, ◌++◌, if◌then◌else◌, List, [], ◌∷◌, is_some, false, sum_by}
 use Rattle.std.specs.Option.{option_map_or}
+use Rattle.haya_entry.specs.Names.{is_of_type}
 use Rattle.haya_entry.specs.Tree.{Tree, parents}
-use Rattle.hayagriva.specs.Holds.{is_type, holds, candidates, least_free}
+use Rattle.hayagriva.specs.Holds.{holds, candidates, least_free}
 use Rattle.hayagriva.specs.Places.{free_places, at_place, items_up_to}
 use Rattle.hayagriva.specs.Syntax.{Syntax, Wildcard, Entry, Neg, Binding, Attr, Alt, Multi, Ancestrage, Syntaxes, none, more}
 
@@ -30,7 +31,7 @@ abbrev mutual
   -- the calls for a selector on a list of parents
   pub calls_on : Syntax → List Tree → ℕ
   calls_on Wildcard xs = 1
-  calls_on (Entry t) xs = 1 + sum_by (λ _. 1) (items_up_to (is_type t) xs)
+  calls_on (Entry t) xs = 1 + sum_by (λ _. 1) (items_up_to (is_of_type t) xs)
   calls_on (Neg s) xs = 1 + calls_on s xs
   calls_on (Binding n s) xs = 1 + calls_on s xs
   calls_on (Attr s names) xs = 1 + calls_on s xs

@@ -1,16 +1,10 @@
 -- Where a selector holds: at an entry, and on a list of parents, where it may have candidates.
 use Rattle.std.specs.Prelude.{ℕ, Bool, true, false, not, ◌||◌, ◌&&◌, if◌then◌else◌, List, [], ◌∷◌, ◌++◌, Option, None, Some, is_some, option_and_then, option_map, filter, find, position}
 use Rattle.std.specs.Option.{option_or}
-use denote.Enum.Bare.{sameb}
-use Rattle.haya_entry.specs.contracts.types.EntryType.{the_type}
-use Rattle.haya_entry.specs.declared.types.EntryType.{EntryType}
-use Rattle.haya_entry.specs.Names.{has_all}
-use Rattle.haya_entry.specs.Tree.{Tree, fields, parents}
+use Rattle.haya_entry.specs.Names.{is_of_type, has_all}
+use Rattle.haya_entry.specs.Tree.{Tree, parents}
 use Rattle.hayagriva.specs.Places.{places, free_places, at_place}
 use Rattle.hayagriva.specs.Syntax.{Syntax, Wildcard, Entry, Neg, Binding, Attr, Alt, Multi, Ancestrage, Syntaxes, none, more}
-
-abbrev pub is_type : EntryType → Tree → Bool
-is_type t x = sameb the_type (fields x).entry_type t
 
 -- the places, if there are any
 abbrev pub some_places : List ℕ → Option (List ℕ)
@@ -34,7 +28,7 @@ abbrev mutual
   -- whether the selector holds at an entry
   pub holds : Syntax → Tree → Bool
   holds Wildcard x = true
-  holds (Entry t) x = is_type t x
+  holds (Entry t) x = is_of_type t x
   holds (Neg s) x = not (holds s x)
   holds (Binding n s) x = holds s x
   holds (Attr s names) x = holds s x && has_all names x
@@ -49,7 +43,7 @@ abbrev mutual
   -- the places on a list of parents that the selector stands for, or none where it doesn't hold there
   pub candidates : Syntax → List Tree → Option (List ℕ)
   candidates Wildcard xs = some_places (places xs)
-  candidates (Entry t) xs = first_place (is_type t) xs
+  candidates (Entry t) xs = first_place (is_of_type t) xs
   candidates (Neg s) xs = if is_some (candidates s xs) then None else Some []
   candidates (Binding n s) xs = option_map (λ _. []) (candidates s xs)
   candidates (Attr s names) xs = option_and_then (kept_places names xs) (candidates s xs)

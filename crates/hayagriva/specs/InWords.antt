@@ -3,9 +3,8 @@ use Rattle.std.specs.Prelude.{ℕ, Bool, true, false, not, ◌||◌, ◌&&◌, i
 use Rattle.std.specs.List.{list_any}
 use Rattle.std.specs.Option.{option_map_or, option_or}
 use Rattle.std.specs.Str.{bytes_eq}
-use Rattle.haya_entry.specs.Names.{has_name}
+use Rattle.haya_entry.specs.Names.{is_of_type, has_name}
 use Rattle.haya_entry.specs.Tree.{Tree, parents}
-use Rattle.hayagriva.specs.Holds.{is_type}
 use Rattle.hayagriva.specs.Syntax.{Syntax, Wildcard, Entry, Neg, Binding, Attr, Alt, Multi, Ancestrage, Syntaxes, none, more}
 
 -- whether the entry has every name
@@ -51,7 +50,7 @@ abbrev mutual
   -- whether the selector holds at an entry
   pub picks : Syntax → Tree → Bool
   picks Wildcard x = true
-  picks (Entry t) x = is_type t x
+  picks (Entry t) x = is_of_type t x
   picks (Neg s) x = not (picks s x)
   picks (Binding n s) x = picks s x
   picks (Attr s names) x = picks s x && has_names names x
@@ -67,11 +66,11 @@ abbrev mutual
   -- whether it holds on a list of parents
   pub stands : Syntax → List Tree → Bool
   stands Wildcard xs = list_any (λ x. true) xs
-  stands (Entry t) xs = list_any (is_type t) xs
+  stands (Entry t) xs = list_any (is_of_type t) xs
   stands (Neg s) xs = not (stands s xs)
   stands (Binding n s) xs = stands s xs
   stands (Attr Wildcard names) xs = list_any (has_names names) xs
-  stands (Attr (Entry t) names) xs = first_has names (is_type t) xs
+  stands (Attr (Entry t) names) xs = first_has names (is_of_type t) xs
   stands (Attr (Neg s) names) xs = not (stands s xs)
   stands (Attr (Binding n s) names) xs = stands s xs
   stands (Attr (Ancestrage l r) names) xs = first_has names (λ x. picks l x && stands r (parents x)) xs
@@ -94,7 +93,7 @@ abbrev mutual
   -- the parents that the selector stands for, or none where it doesn't hold on the list
   pub candidate_entries : Syntax → List Tree → Option (List Tree)
   candidate_entries Wildcard xs = some_entries xs
-  candidate_entries (Entry t) xs = option_map (λ x. x ∷ []) (find (is_type t) xs)
+  candidate_entries (Entry t) xs = option_map (λ x. x ∷ []) (find (is_of_type t) xs)
   candidate_entries (Neg s) xs = if stands s xs then None else Some []
   candidate_entries (Binding n s) xs = option_map (λ _. []) (candidate_entries s xs)
   candidate_entries (Attr s names) xs = option_and_then (with_names names) (candidate_entries s xs)
@@ -116,9 +115,9 @@ abbrev mutual
 -- the first of the parents that the selector stands for
 abbrev pub first_candidate : Syntax → List Tree → Option Tree
 first_candidate Wildcard xs = find (λ x. true) xs
-first_candidate (Entry t) xs = find (is_type t) xs
+first_candidate (Entry t) xs = find (is_of_type t) xs
 first_candidate (Attr Wildcard names) xs = find (has_names names) xs
-first_candidate (Attr (Entry t) names) xs = first_if names (is_type t) xs
+first_candidate (Attr (Entry t) names) xs = first_if names (is_of_type t) xs
 first_candidate (Ancestrage l r) xs = find (λ x. picks l x && stands r (parents x)) xs
 first_candidate s xs = first_entry (candidate_entries s xs)
 

@@ -2,10 +2,9 @@
 ghost use Rattle.std.specs.Prelude.{◌≡◌, ◌&&◌, ◌||◌, All, IfOk, IsOkUnless, Some, codes, filter, find, map, not, true};
 ghost use Rattle.std.specs.List.{list_any};
 ghost use Rattle.haya_entry.specs.declared.types.EntryType.TheVariants.{Article, Book, Periodical};
-ghost use Rattle.haya_entry.specs.Names.{has_name};
+ghost use Rattle.haya_entry.specs.Names.{is_of_type, has_name};
 ghost use Rattle.haya_entry.specs.Tree.{parents};
 ghost use Rattle.hayagriva.specs.declared.selectors.SelectorError.TheVariants.{OutOfMemory};
-ghost use Rattle.hayagriva.specs.Holds.{is_type};
 ghost use Rattle.hayagriva.specs.InWords.{without_first};
 ghost use Rattle.hayagriva.specs.Query.{hit_bound, hit_entry};
 
@@ -15,7 +14,7 @@ use std::alloc::Global;
 /// A type: the articles, in order.
 pub fn articles<'s>(alloc: Global, library: &'s Library) -> Result<Vec<Hit<'s>>, SelectorError>
     ensures hits { IfOk result (λ hits. map hit_entry hits.items ≡
-        filter (λ x. is_type Article x) library.now) }
+        filter (λ x. is_of_type Article x) library.now) }
     ensures error { IsOkUnless result OutOfMemory }
 {
     library.query(alloc, "article", &mut Steps::new())
@@ -33,7 +32,7 @@ pub fn all<'s>(alloc: Global, library: &'s Library) -> Result<Vec<Hit<'s>>, Sele
 /// `!`: the entries that aren't books.
 pub fn no_books<'s>(alloc: Global, library: &'s Library) -> Result<Vec<Hit<'s>>, SelectorError>
     ensures hits { IfOk result (λ hits. map hit_entry hits.items ≡
-        filter (λ x. not (is_type Book x)) library.now) }
+        filter (λ x. not (is_of_type Book x)) library.now) }
     ensures error { IsOkUnless result OutOfMemory }
 {
     library.query(alloc, "!book", &mut Steps::new())
@@ -60,11 +59,11 @@ pub fn articles_with_doi<'s>(
     library: &'s Library,
 ) -> Result<Vec<Hit<'s>>, SelectorError>
     ensures hits { IfOk result (λ hits. map hit_entry hits.items ≡
-        filter (λ x. is_type Article x && has_name x (codes "doi")
-        && list_any (is_type Periodical) (parents x)) library.now) }
+        filter (λ x. is_of_type Article x && has_name x (codes "doi")
+        && list_any (is_of_type Periodical) (parents x)) library.now) }
     ensures named { IfOk result (λ hits.
         All (λ hit. hit_bound hit (codes "p")
-        ≡ find (is_type Periodical) (parents (hit_entry hit))) hits.items) }
+        ≡ find (is_of_type Periodical) (parents (hit_entry hit))) hits.items) }
     ensures error { IsOkUnless result OutOfMemory }
 {
     library.query(alloc, "article[doi] > p:periodical", &mut Steps::new())
@@ -76,7 +75,7 @@ pub fn articles_and_books<'s>(
     library: &'s Library,
 ) -> Result<Vec<Hit<'s>>, SelectorError>
     ensures hits { IfOk result (λ hits. map hit_entry hits.items ≡
-        filter (λ x. is_type Article x || is_type Book x) library.now) }
+        filter (λ x. is_of_type Article x || is_of_type Book x) library.now) }
     ensures error { IsOkUnless result OutOfMemory }
 {
     library.query(alloc, "article | book", &mut Steps::new())
@@ -85,8 +84,8 @@ pub fn articles_and_books<'s>(
 /// `&`: the entries with a periodical among their parents, and a book among the others.
 pub fn in_both<'s>(alloc: Global, library: &'s Library) -> Result<Vec<Hit<'s>>, SelectorError>
     ensures hits { IfOk result (λ hits. map hit_entry hits.items ≡
-        filter (λ x. list_any (is_type Periodical) (parents x)
-        && list_any (is_type Book) (without_first (is_type Periodical) (parents x)))
+        filter (λ x. list_any (is_of_type Periodical) (parents x)
+        && list_any (is_of_type Book) (without_first (is_of_type Periodical) (parents x)))
         library.now) }
     ensures error { IsOkUnless result OutOfMemory }
 {
@@ -97,7 +96,7 @@ pub fn in_both<'s>(alloc: Global, library: &'s Library) -> Result<Vec<Hit<'s>>, 
 /// language.
 pub fn in_languages<'s>(alloc: Global, library: &'s Library) -> Result<Vec<Hit<'s>>, SelectorError>
     ensures hits { IfOk result (λ hits. map hit_entry hits.items ≡
-        filter (λ x. list_any (λ y. is_type Periodical y
+        filter (λ x. list_any (λ y. is_of_type Periodical y
         && list_any (λ z. has_name z (codes "language")) (parents y)) (parents x))
         library.now) }
     ensures error { IsOkUnless result OutOfMemory }

@@ -3,11 +3,12 @@ use Rattle.std.specs.Prelude.{is_some, slice_index_or, sum_by}
 use Rattle.std.proofs.Math.ListN.{drop_of_length-le}
 use Rattle.std.proofs.lemmas.Bool.{OnTrue_from}
 use Rattle.std.proofs.lemmas.Result.{MatchResult-from_err}
+use Rattle.haya_entry.specs.Names.{is_of_type}
 use Rattle.haya_entry.specs.Tree.{parents, view}
 use Rattle.hayagriva.specs.Binds.{binds, binds_on, first_binds, pairs_at_first}
 use Rattle.hayagriva.specs.Evaluation.{pairs_view}
 use Rattle.hayagriva.specs.Calls.{calls, first_calls}
-use Rattle.hayagriva.specs.Holds.{holds, is_type, greedy, least_free}
+use Rattle.hayagriva.specs.Holds.{holds, greedy, least_free}
 use Rattle.hayagriva.specs.Places.{items_up_to}
 use Rattle.hayagriva.specs.Candidates.{candidate_places}
 use Rattle.hayagriva.specs.Nodes.{members_at, slot_names, syntax_at}
@@ -154,7 +155,7 @@ form_candidates_on-returns-in-Entry-clause-bound t c =
       | inl w ↦
           let e = rw w.1 at stands in
           let s = Entry w.0 in
-          rw e (added (pairs_at_first (holds s) (binds s)) [] (led_nothing (is_type w.0) xs) (rw e at c.first_alone.ensures.bound))
+          rw e (added (pairs_at_first (holds s) (binds s)) [] (led_nothing (is_of_type w.0) xs) (rw e at c.first_alone.ensures.bound))
       | inr w ↦
           let e = rw w.2 at stands in
           let s = Ancestrage (f w.0) (f w.1) in
