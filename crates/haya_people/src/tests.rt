@@ -1,19 +1,9 @@
 //! What each call gives back where there is memory. A refused allocation ends a test.
 use super::*;
+use crate::particles::tests::{maybe, named, string};
 use haya_text::{ReadFault, ReadText};
 use std::fmt;
 use std::process::Abort;
-
-fn string(rt: &(impl Abort + AllocGlobal), text: &str) -> String {
-    String::from_str(rt.alloc(), text).expect(rt, "memory")
-}
-
-fn maybe(rt: &(impl Abort + AllocGlobal), text: Option<&str>) -> Option<String> {
-    match text {
-        Some(text) => Some(string(rt, text)),
-        None => None,
-    }
-}
 
 // The name, the given name, the prefix and the suffix of a person.
 type Parts = (
@@ -79,17 +69,24 @@ fn persons_are_read(rt: HostRuntime) {
     }
 }
 
+// Why no person is read, if none is.
+fn fault_of(read: Result<Person, PersonError>) -> Option<PersonError> {
+    match read {
+        Ok(person) => {
+            drop(person);
+            None
+        }
+        Err(fault) => Some(fault),
+    }
+}
+
 #[test]
 fn the_number_of_parts_is_told(rt: HostRuntime) {
-    let Err(fault) = Person::from_str(rt.alloc(), "a,b,c,d") else {
-        panic!(rt; "four parts are read")
-    };
-    assert_eq!(rt; fault, PersonError::TooManyParts);
-    let Err(fault) = Person::from_strings(rt.alloc(), Vec::new(rt.alloc())) else {
-        panic!(rt; "no part is read")
-    };
-    assert_eq!(rt; fault, PersonError::Empty);
-    assert!(rt; !fault.is_out_of_memory());
+    let many = fault_of(Person::from_str(rt.alloc(), "a,b,c,d"));
+    assert!(rt; many == Some(PersonError::TooManyParts));
+    let none = fault_of(Person::from_strings(rt.alloc(), Vec::new(rt.alloc())));
+    assert!(rt; none == Some(PersonError::Empty));
+    assert!(rt; !PersonError::Empty.is_out_of_memory());
     assert!(rt; PersonError::OutOfMemory.is_out_of_memory());
 }
 
@@ -132,15 +129,22 @@ const INITIALS: &[InitialsRow] = &[
     (None, Some("."), true, ""),
 ];
 
+// Whether a person's given name is written so.
+fn has_initials(rt: &(impl Abort + AllocGlobal), row: &InitialsRow) -> bool {
+    let (given_name, delimiter, with_hyphen, wanted) = *row;
+    let person = person(rt, ("Doe", given_name, None, None));
+    let mut out = String::new(rt.alloc());
+    let written = person.initials(&mut out, delimiter, with_hyphen).is_ok();
+    drop(person);
+    let same = out.as_str() == wanted;
+    drop(out);
+    written && same
+}
+
 #[test]
 fn initials_are_written(rt: HostRuntime) {
     for row in INITIALS {
-        let (given_name, delimiter, with_hyphen, wanted) = *row;
-        let person = person(&rt, ("Doe", given_name, None, None));
-        let mut out = String::new(rt.alloc());
-        assert!(rt; person.initials(&mut out, delimiter, with_hyphen).is_ok());
-        assert_eq!(rt; out.as_str(), wanted);
-        drop(person);
+        assert!(rt; has_initials(&rt, row), "{}", row.3);
     }
 }
 
@@ -153,19 +157,32 @@ const FIRST_NAMES: &[(Option<&str>, Option<&str>, &str)] = &[
     (None, Some("."), ""),
 ];
 
+// Whether a given name is written so.
+fn has_first_name(
+    rt: &(impl Abort + AllocGlobal),
+    given_name: Option<&str>,
+    delimiter: Option<&str>,
+    wanted: &str,
+) -> bool {
+    let mut person = named(rt, "Doe", None);
+    person.given_name = maybe(rt, given_name);
+    let mut out = String::new(rt.alloc());
+    let written = person
+        .first_name_with_delimiter(&mut out, delimiter)
+        .is_ok();
+    drop(person);
+    let same = out.as_str() == wanted;
+    drop(out);
+    written && same
+}
+
 #[test]
 fn first_names_are_written(rt: HostRuntime) {
-    for row in FIRST_NAMES {
-        let (given_name, delimiter, wanted) = *row;
-        let person = person(&rt, ("Doe", given_name, None, None));
-        let mut out = String::new(rt.alloc());
+    for (given_name, delimiter, wanted) in FIRST_NAMES {
         assert!(rt;
-            person
-                .first_name_with_delimiter(&mut out, delimiter)
-                .is_ok()
+            has_first_name(&rt, *given_name, *delimiter, *wanted),
+            "{wanted}"
         );
-        assert_eq!(rt; out.as_str(), wanted);
-        drop(person);
     }
 }
 
@@ -195,41 +212,66 @@ const GIVEN_FIRST: &[(Parts, bool, &str)] = &[
     (("Doe", None, None, None), true, "Doe"),
 ];
 
-#[test]
-fn names_are_put_in_form(rt: HostRuntime) {
-    for row in NAME_FIRST {
-        let (parts, initials, prefix_given_name, wanted) = *row;
-        let person = person(&rt, parts);
-        let name = person
-            .name_first(rt.alloc(), initials, prefix_given_name)
-            .expect(&rt, "memory");
-        assert_eq!(rt; name.as_str(), wanted);
-        drop(person);
-    }
-    for row in GIVEN_FIRST {
-        let (parts, initials, wanted) = *row;
-        let person = person(&rt, parts);
-        let name = person
-            .given_first(rt.alloc(), initials)
-            .expect(&rt, "memory");
-        assert_eq!(rt; name.as_str(), wanted);
-        drop(person);
-    }
+// Whether a person's name is this, with the name first.
+fn is_name_first(
+    rt: &(impl Abort + AllocGlobal),
+    parts: Parts,
+    initials: bool,
+    prefix_given_name: bool,
+    wanted: &str,
+) -> bool {
+    let person = person(rt, parts);
+    let name = person
+        .name_first(rt.alloc(), initials, prefix_given_name)
+        .expect(rt, "memory");
+    drop(person);
+    let same = name.as_str() == wanted;
+    drop(name);
+    same
+}
+
+// Whether a person's name is this, with the given name first.
+fn is_given_first(
+    rt: &(impl Abort + AllocGlobal),
+    parts: Parts,
+    initials: bool,
+    wanted: &str,
+) -> bool {
+    let person = person(rt, parts);
+    let name = person
+        .given_first(rt.alloc(), initials)
+        .expect(rt, "memory");
+    drop(person);
+    let same = name.as_str() == wanted;
+    drop(name);
+    same
 }
 
 #[test]
+fn names_are_put_in_form(rt: HostRuntime) {
+    for (parts, initials, prefix_given_name, wanted) in NAME_FIRST {
+        let same = is_name_first(&rt, *parts, *initials, *prefix_given_name, *wanted);
+        assert!(rt; same, "{wanted}");
+    }
+    for (parts, initials, wanted) in GIVEN_FIRST {
+        assert!(rt; is_given_first(&rt, *parts, *initials, *wanted), "{wanted}");
+    }
+}
+
+const INSTITUTIONS: &[(Parts, bool)] = &[
+    (("NIST", None, None, None), true),
+    (("Doe", Some(""), None, None), false),
+    (("Doe", None, Some("van"), None), false),
+    (("Doe", None, None, Some("Jr.")), false),
+];
+
+#[test]
 fn institutions_have_a_name_alone(rt: HostRuntime) {
-    let rows: [(Parts, bool); 4] = [
-        (("NIST", None, None, None), true),
-        (("Doe", Some(""), None, None), false),
-        (("Doe", None, Some("van"), None), false),
-        (("Doe", None, None, Some("Jr.")), false),
-    ];
-    for row in rows.as_slice() {
-        let (parts, wanted) = *row;
-        let person = person(&rt, parts);
-        assert_eq!(rt; person.is_institutional(), wanted);
+    for (parts, wanted) in INSTITUTIONS {
+        let person = person(&rt, *parts);
+        let told = person.is_institutional();
         drop(person);
+        assert_eq!(rt; told, *wanted);
     }
 }
 

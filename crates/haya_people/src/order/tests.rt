@@ -1,4 +1,4 @@
-use crate::particles::tests::string;
+use crate::particles::tests::{maybe, string};
 use crate::{Person, is_sorted_table};
 use haya_text::LongShortForm;
 use haya_text::LongShortForm::{Long, Short};
@@ -14,19 +14,12 @@ type Parts = (
     Option<&'static str>,
 );
 
-fn part(rt: &(impl Abort + AllocGlobal), text: Option<&str>) -> Option<String> {
-    match text {
-        Some(text) => Some(string(rt, text)),
-        None => None,
-    }
-}
-
 fn person(rt: &(impl Abort + AllocGlobal), parts: &Parts) -> Person {
     Person {
         name: string(rt, parts.0),
-        given_name: part(rt, parts.2),
-        prefix: part(rt, parts.1),
-        suffix: part(rt, parts.3),
+        given_name: maybe(rt, parts.2),
+        prefix: maybe(rt, parts.1),
+        suffix: maybe(rt, parts.3),
         comma_suffix: false,
         alias: None,
     }
@@ -223,35 +216,55 @@ fn orders_lists_of_a_style(rt: HostRuntime) {
     }
 }
 
-// Ascending by name, given name, suffix, prefix, comma and alias.
-#[test]
-fn orders_persons_by_all_parts(rt: HostRuntime) {
+// Ascending by name, given name, suffix and prefix.
+const ASCENDING: &[Parts] = &[
+    ("", None, None, None),
+    ("Doe", Some("z"), None, None),
+    ("Doe", Some("z"), None, Some("Jr.")),
+    ("Doe", None, Some("Jane"), None),
+    ("Doe", None, Some("Jane"), Some("Jr.")),
+    ("Doe", Some("a"), Some("Jane"), Some("Jr.")),
+    ("doe", None, None, None),
+];
+
+// The same persons, and then by alias and by the comma.
+fn ascending(rt: &(impl Abort + AllocGlobal)) -> Vec<Person> {
     let mut persons = Vec::new(rt.alloc());
-    let parts: &[Parts] = &[
-        ("", None, None, None),
-        ("Doe", Some("z"), None, None),
-        ("Doe", Some("z"), None, Some("Jr.")),
-        ("Doe", None, Some("Jane"), None),
-        ("Doe", None, Some("Jane"), Some("Jr.")),
-        ("Doe", Some("a"), Some("Jane"), Some("Jr.")),
-        ("doe", None, None, None),
-    ];
-    for row in parts {
-        persons.push(person(&rt, row)).expect(&rt, "memory");
+    for row in ASCENDING {
+        persons.push(person(rt, row)).expect(rt, "memory");
     }
-    let mut aliased = person(&rt, &("doe", None, None, None));
-    aliased.alias = Some(string(&rt, "z"));
-    persons.push(aliased).expect(&rt, "memory");
-    let mut comma = person(&rt, &("doe", None, None, None));
+    let mut aliased = person(rt, &("doe", None, None, None));
+    aliased.alias = Some(string(rt, "z"));
+    persons.push(aliased).expect(rt, "memory");
+    let mut comma = person(rt, &("doe", None, None, None));
     comma.comma_suffix = true;
-    persons.push(comma).expect(&rt, "memory");
+    persons.push(comma).expect(rt, "memory");
+    persons
+}
+
+// Whether two persons stand to each other as their places do.
+fn stand_as(a: &Person, b: &Person, places: Ordering) -> bool {
+    a.cmp(b) == places && (a == b) == (places == Equal) && a.partial_cmp(b) == Some(places)
+}
+
+// The first two places where persons aren't in order.
+fn disorder(persons: &[Person]) -> Option<(usize, usize)> {
     for (i, a) in persons.iter().enumerate() {
         for (j, b) in persons.iter().enumerate() {
-            assert!(rt; a.cmp(b) == i.cmp(&j) && (a == b) == (i == j), "{i} {j}");
-            assert!(rt; a.partial_cmp(b) == Some(i.cmp(&j)), "{i} {j}");
+            if !stand_as(a, b, i.cmp(&j)) {
+                return Some((i, j));
+            }
         }
     }
+    None
+}
+
+#[test]
+fn orders_persons_by_all_parts(rt: HostRuntime) {
+    let persons = ascending(&rt);
+    let found = disorder(persons.as_slice());
     drop(persons);
+    assert_eq!(rt; found, None);
 }
 
 #[test]
