@@ -1,4 +1,5 @@
--- What the names of a selector are bound to where it holds: pairs of a name and the path of an entry.
+-- What the names of a selector are bound to where it holds: pairs of a name and the path of an
+-- entry.
 use Rattle.std.specs.Prelude.{Bool, ℕ, if◌then◌else◌, List, [], ◌∷◌, ◌++◌, Option, None, Some, is_some, option_and_then, option_map, map, find, position, reverse}
 use Rattle.std.specs.Option.{option_map_or}
 use Rattle.std.specs.Str.{bytes_eq}
@@ -51,11 +52,13 @@ abbrev mutual
   binds_on (Attr s names) xs = binds_on s xs
   binds_on (Alt ss) xs = first_binds_on ss xs
   binds_on (Multi ss) xs = option_map_or (each_binds ss xs) (candidates (Multi ss) xs) []
-  binds_on (Ancestrage l r) xs = pairs_at_first (holds (Ancestrage l r)) (λ x. binds l x ++ binds_on r (parents x)) xs
+  binds_on (Ancestrage l r) xs =
+      pairs_at_first (holds (Ancestrage l r)) (λ x. binds l x ++ binds_on r (parents x)) xs
 
   pub first_binds_on : Syntaxes → List Tree → Pairs
   first_binds_on none xs = []
-  first_binds_on (more s ss) xs = if is_some (candidates s xs) then binds_on s xs else first_binds_on ss xs
+  first_binds_on (more s ss) xs =
+      if is_some (candidates s xs) then binds_on s xs else first_binds_on ss xs
 
   -- those of each member at its place
   pub each_binds : Syntaxes → List Tree → List ℕ → Pairs

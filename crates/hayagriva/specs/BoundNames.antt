@@ -3,7 +3,8 @@ use Rattle.std.specs.Prelude.{ℕ, not, List, [], ◌∷◌, ◌++◌, filter}
 use Rattle.std.specs.Str.{bytes_eq}
 use Rattle.hayagriva.specs.Syntax.{Syntax, Wildcard, Entry, Neg, Binding, Attr, Alt, Multi, Ancestrage, Syntaxes, none, more}
 
--- each as often as it is bound, from left to right, and a form's own name behind those inside the form
+-- each as often as it is bound, from left to right, and a form's own name behind those inside the
+-- form
 abbrev mutual
   pub bound_names : Syntax → List (List ℕ)
   bound_names Wildcard = []

@@ -1,4 +1,5 @@
--- How often the evaluator is entered for a selector: once a form at each entry, or list of parents, that it is asked of.
+-- How often the evaluator is entered for a selector: once a form at each entry, or list of parents,
+-- that it is asked of.
 use Rattle.std.specs.Prelude.{ℕ, ◌+◌, Bool, ◌++◌, if◌then◌else◌, List, [], ◌∷◌, is_some, false, sum_by}
 use Rattle.std.specs.Option.{option_map_or}
 use Rattle.haya_entry.specs.Names.{is_of_type}
@@ -9,7 +10,8 @@ use Rattle.hayagriva.specs.Syntax.{Syntax, Wildcard, Entry, Neg, Binding, Attr, 
 
 -- the calls at the places that aren't taken, up to the first where the test holds
 abbrev pub free_calls : (Tree → Bool) → (Tree → ℕ) → List Tree → List ℕ → ℕ
-free_calls test calls_at xs taken = sum_by (at_place 0 calls_at xs) (items_up_to (at_place false test xs) (free_places xs taken))
+free_calls test calls_at xs taken =
+    sum_by (at_place 0 calls_at xs) (items_up_to (at_place false test xs) (free_places xs taken))
 
 abbrev mutual
   -- the calls for a selector at an entry
@@ -38,15 +40,18 @@ abbrev mutual
   calls_on (Alt ss) xs = 1 + first_calls_on ss xs
   calls_on (Multi ss) xs = 1 + greedy_calls ss xs []
   calls_on (Ancestrage l r) xs =
-      1 + sum_by (λ x. 1 + calls l x + (if holds l x then calls_on r (parents x) else 0)) (items_up_to (holds (Ancestrage l r)) xs)
+      1 + sum_by (λ x. 1 + calls l x + (if holds l x then calls_on r (parents x) else 0))
+      (items_up_to (holds (Ancestrage l r)) xs)
 
   pub first_calls_on : Syntaxes → List Tree → ℕ
   first_calls_on none xs = 0
-  first_calls_on (more s ss) xs = calls_on s xs + (if is_some (candidates s xs) then 0 else first_calls_on ss xs)
+  first_calls_on (more s ss) xs =
+      calls_on s xs + (if is_some (candidates s xs) then 0 else first_calls_on ss xs)
 
   -- those of each member in turn at the places that aren't taken, up to the one that it takes;
   -- a member that finds no place is the last
   pub greedy_calls : Syntaxes → List Tree → List ℕ → ℕ
   greedy_calls none xs taken = 0
   greedy_calls (more s ss) xs taken =
-      free_calls (holds s) (calls s) xs taken + option_map_or (λ i. greedy_calls ss xs (taken ++ i ∷ [])) (least_free (holds s) xs taken) 0
+      free_calls (holds s) (calls s) xs taken +
+      option_map_or (λ i. greedy_calls ss xs (taken ++ i ∷ [])) (least_free (holds s) xs taken) 0

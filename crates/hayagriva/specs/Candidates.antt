@@ -16,5 +16,6 @@ abbrev pub AreCandidates : List Tree → Option Candidates → Option (List ℕ)
 AreCandidates xs o is = option_map (candidate_places xs) o ≡ is
 
 -- a call that ends well answers them
-abbrev pub GivesCandidates : {E : Type 0} → List Tree → Result (Option Candidates) E → Option (List ℕ) → Type 0
+abbrev pub GivesCandidates : {E : Type 0} → List Tree → Result (Option Candidates) E →
+    Option (List ℕ) → Type 0
 GivesCandidates xs result is = IfOk result (λ o. AreCandidates xs o is)

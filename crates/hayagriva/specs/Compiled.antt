@@ -5,7 +5,8 @@ use Rattle.hayagriva.specs.declared.selectors.node.Node.{Node}
 use Rattle.hayagriva.specs.declared.selectors.node.Node.TheVariants as variant
 use Rattle.hayagriva.specs.Syntax.{Syntax, Wildcard, Entry, Neg, Binding, Attr, Alt, Multi, Ancestrage, syntaxes}
 
--- the selector that a node stands for, where the numbers of its children and the slots of names stand for these
+-- the selector that a node stands for, where the numbers of its children and the slots of names
+-- stand for these
 abbrev pub node_syntax : (ℕ → List ℕ) → (ℕ → Syntax) → Node → Syntax
 node_syntax name child variant.Wildcard = Wildcard
 node_syntax name child (variant.Entry t) = Entry t

@@ -1,4 +1,5 @@
--- The tokens that a reader has left, computed from the characters. They are the cut of these characters.
+-- The tokens that a reader has left, computed from the characters. They are the cut of these
+-- characters.
 use Rattle.std.specs.Prelude.{ℕ, List, [], ◌∷◌, ◌++◌, ◌==◌, Option, Some, None, if◌then◌else◌, find}
 use Rattle.std.specs.Char.{is_whitespace}
 use Rattle.hayagriva.specs.declared.selectors.token.Sign.{Sign}
@@ -8,7 +9,9 @@ use Rattle.hayagriva.specs.declared.selectors.token.Lexeme.TheVariants as lexeme
 use Rattle.hayagriva.specs.Token.{Token, SignToken, Word, Invalid, starts_word, in_word, sign_char}
 
 abbrev pub all_signs : List Sign
-all_signs = LeftBracket ∷ RightBracket ∷ LeftParen ∷ RightParen ∷ Star ∷ Comma ∷ Chevron ∷ Colon ∷ Pipe ∷ Ampersand ∷ ExclamationMark ∷ []
+all_signs =
+    LeftBracket ∷ RightBracket ∷ LeftParen ∷ RightParen ∷ Star ∷ Comma ∷ Chevron ∷ Colon ∷ Pipe ∷
+    Ampersand ∷ ExclamationMark ∷ []
 
 -- the sign that a character is
 abbrev pub sign_of : ℕ → Option Sign
@@ -21,10 +24,15 @@ sign_or_invalid c (Some s) = SignToken s
 -- the tokens of the characters, behind the identifier that was begun, if there is one
 unfoldable pub cut : Option (List ℕ) → List ℕ → List Token
 cut None [] = []
-cut None (c ∷ cs) = if is_whitespace c then cut None cs else (if starts_word c then cut (Some (c ∷ [])) cs else (sign_or_invalid c (sign_of c) ∷ cut None cs))
+cut None (c ∷ cs) =
+    if is_whitespace c then cut None cs
+    else (if starts_word c then cut (Some (c ∷ [])) cs
+    else (sign_or_invalid c (sign_of c) ∷ cut None cs))
 cut (Some w) [] = Word w ∷ []
 cut (Some w) (c ∷ cs) =
-    if in_word c then cut (Some (w ++ c ∷ [])) cs else (Word w ∷ (if is_whitespace c then cut None cs else (sign_or_invalid c (sign_of c) ∷ cut None cs)))
+    if in_word c then cut (Some (w ++ c ∷ [])) cs
+    else (Word w ∷ (if is_whitespace c then cut None cs
+    else (sign_or_invalid c (sign_of c) ∷ cut None cs)))
 
 -- a token without where it lies in memory
 abbrev pub token : Lexeme → Token

@@ -65,16 +65,20 @@ joint (SignToken Pipe) = Some Or
 joint (SignToken Ampersand) = Some And
 joint t = None
 
-abbrev pub read_pair : Reader Syntax → Reader (List (Joint × Syntax)) → Option Joint → Token → Reader (List (Joint × Syntax))
+abbrev pub read_pair : Reader Syntax → Reader (List (Joint × Syntax)) → Option Joint → Token →
+    Reader (List (Joint × Syntax))
 read_pair binding pairs None t ts = Read [] (t ∷ ts)
-read_pair binding pairs (Some j) t ts = outcome_and_then (λ s rest. outcome_map (λ ps. (j, s) ∷ ps) (pairs rest)) (binding ts)
+read_pair binding pairs (Some j) t ts =
+    outcome_and_then (λ s rest. outcome_map (λ ps. (j, s) ∷ ps) (pairs rest)) (binding ts)
 
-abbrev pub read_pairs : Reader Syntax → Reader (List (Joint × Syntax)) → Reader (List (Joint × Syntax))
+abbrev pub read_pairs : Reader Syntax → Reader (List (Joint × Syntax)) →
+    Reader (List (Joint × Syntax))
 read_pairs binding pairs [] = Read [] []
 read_pairs binding pairs (t ∷ ts) = read_pair binding pairs (joint t) t ts
 
 abbrev pub read_terms : Reader Syntax → Reader (List Syntax) → Reader (List Syntax)
-read_terms term terms (SignToken Chevron ∷ ts) = outcome_and_then (λ s rest. outcome_map (λ ss. s ∷ ss) (terms rest)) (term ts)
+read_terms term terms (SignToken Chevron ∷ ts) =
+    outcome_and_then (λ s rest. outcome_map (λ ss. s ∷ ss) (terms rest)) (term ts)
 read_terms term terms ts = Read [] ts
 
 -- each form by the forms below it, with fuel that never runs out where it is `enough`
@@ -85,8 +89,11 @@ abbrev mutual
   read (suc n) FactorForm ts = read_factor (read n FactorForm) (read n ValueForm) ts
   read (suc n) AttributesForm ts = outcome_and_then read_list (read n FactorForm ts)
   read (suc n) BindingForm ts = read_binding (read n AttributesForm) ts
-  read (suc n) TermForm ts = outcome_and_then (λ s rest. outcome_map (in_runs s) (pairs n rest)) (read n BindingForm ts)
-  read (suc n) ExprForm ts = outcome_and_then (λ s rest. outcome_map (fold Ancestrage s) (terms n rest)) (read n TermForm ts)
+  read (suc n) TermForm ts =
+      outcome_and_then (λ s rest. outcome_map (in_runs s) (pairs n rest)) (read n BindingForm ts)
+  read (suc n) ExprForm ts =
+      outcome_and_then (λ s rest. outcome_map (fold Ancestrage s) (terms n rest))
+      (read n TermForm ts)
 
   pub pairs : ℕ → Reader (List (Joint × Syntax))
   pairs zero ts = Failed MissingValue
@@ -113,4 +120,5 @@ selector_or_fault (Failed f) = Err f
 
 -- the selector that the characters read as, whatever follows it, or the fault that they have
 unfoldable pub selector_read : List ℕ → Result Syntax Fault
-selector_read text = let tokens = cut None text in selector_or_fault (read (enough ExprForm tokens) ExprForm tokens)
+selector_read text =
+    let tokens = cut None text in selector_or_fault (read (enough ExprForm tokens) ExprForm tokens)

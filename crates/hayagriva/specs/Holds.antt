@@ -40,7 +40,8 @@ abbrev mutual
   some_holds none x = false
   some_holds (more s ss) x = holds s x || some_holds ss x
 
-  -- the places on a list of parents that the selector stands for, or none where it doesn't hold there
+  -- the places on a list of parents that the selector stands for, or none where it doesn't hold
+  -- there
   pub candidates : Syntax → List Tree → Option (List ℕ)
   candidates Wildcard xs = some_places (places xs)
   candidates (Entry t) xs = first_place (is_of_type t) xs
@@ -49,7 +50,8 @@ abbrev mutual
   candidates (Attr s names) xs = option_and_then (kept_places names xs) (candidates s xs)
   candidates (Alt ss) xs = first_candidates ss xs
   candidates (Multi ss) xs = greedy ss xs []
-  candidates (Ancestrage l r) xs = first_place (λ x. holds l x && is_some (candidates r (parents x))) xs
+  candidates (Ancestrage l r) xs =
+      first_place (λ x. holds l x && is_some (candidates r (parents x))) xs
 
   -- those of the first member that holds
   pub first_candidates : Syntaxes → List Tree → Option (List ℕ)
@@ -60,4 +62,5 @@ abbrev mutual
   pub greedy : Syntaxes → List Tree → List ℕ → Option (List ℕ)
   greedy none xs taken = Some []
   greedy (more s ss) xs taken =
-      option_and_then (λ i. option_map (λ is. i ∷ is) (greedy ss xs (taken ++ i ∷ []))) (least_free (holds s) xs taken)
+      option_and_then (λ i. option_map (λ is. i ∷ is) (greedy ss xs (taken ++ i ∷ [])))
+      (least_free (holds s) xs taken)

@@ -1,4 +1,5 @@
--- Where a selector holds, and what its names are bound to, in words of entries: no places. Laws say that they are the same.
+-- Where a selector holds, and what its names are bound to, in words of entries: no places. Laws say
+-- that they are the same.
 use Rattle.std.specs.Prelude.{ℕ, Bool, true, false, not, ◌||◌, ◌&&◌, if◌then◌else◌, List, [], ◌∷◌, Option, None, Some, is_some, filter, find, option_and_then, option_map}
 use Rattle.std.specs.List.{list_any}
 use Rattle.std.specs.Option.{option_map_or, option_or}
@@ -19,7 +20,8 @@ first_has names test xs = option_map_or (has_names names) (find test xs) false
 
 -- the first entry that passes, if it has every name
 abbrev pub first_if : List (List ℕ) → (Tree → Bool) → List Tree → Option Tree
-first_if names test xs = option_and_then (λ x. if has_names names x then Some x else None) (find test xs)
+first_if names test xs =
+    option_and_then (λ x. if has_names names x then Some x else None) (find test xs)
 
 -- the entries, if there are any
 abbrev pub some_entries : List Tree → Option (List Tree)
@@ -73,7 +75,8 @@ abbrev mutual
   stands (Attr (Entry t) names) xs = first_has names (is_of_type t) xs
   stands (Attr (Neg s) names) xs = not (stands s xs)
   stands (Attr (Binding n s) names) xs = stands s xs
-  stands (Attr (Ancestrage l r) names) xs = first_has names (λ x. picks l x && stands r (parents x)) xs
+  stands (Attr (Ancestrage l r) names) xs =
+      first_has names (λ x. picks l x && stands r (parents x)) xs
   stands (Attr s names) xs = is_some (option_and_then (with_names names) (candidate_entries s xs))
   stands (Alt ss) xs = some_stands ss xs
   stands (Multi ss) xs = each_stands ss xs
@@ -99,7 +102,8 @@ abbrev mutual
   candidate_entries (Attr s names) xs = option_and_then (with_names names) (candidate_entries s xs)
   candidate_entries (Alt ss) xs = first_entries ss xs
   candidate_entries (Multi ss) xs = entries_in_turn ss xs
-  candidate_entries (Ancestrage l r) xs = option_map (λ x. x ∷ []) (find (λ x. picks l x && stands r (parents x)) xs)
+  candidate_entries (Ancestrage l r) xs =
+      option_map (λ x. x ∷ []) (find (λ x. picks l x && stands r (parents x)) xs)
 
   -- those of the first member that holds
   pub first_entries : Syntaxes → List Tree → Option (List Tree)
@@ -110,7 +114,9 @@ abbrev mutual
   pub entries_in_turn : Syntaxes → List Tree → Option (List Tree)
   entries_in_turn none xs = Some []
   entries_in_turn (more s ss) xs =
-      option_and_then (λ x. option_map (λ ys. x ∷ ys) (entries_in_turn ss (without_first (picks s) xs))) (find (picks s) xs)
+      option_and_then
+      (λ x. option_map (λ ys. x ∷ ys) (entries_in_turn ss (without_first (picks s) xs)))
+      (find (picks s) xs)
 
 -- the first of the parents that the selector stands for
 abbrev pub first_candidate : Syntax → List Tree → Option Tree
@@ -138,15 +144,20 @@ abbrev mutual
   some_binds_name q (more s ss) = binds_name q s || some_binds_name q ss
 
 -- what a member that has the name binds it to at the first entry where it holds
-abbrev pub within : List ℕ → Syntax → (Option Tree → Tree → Option Tree) → Option Tree → List Tree → Option Tree
-within q s called before xs = if binds_name q s then option_map_or (called before) (find (picks s) xs) before else before
+abbrev pub within : List ℕ → Syntax → (Option Tree → Tree → Option Tree) → Option Tree → List Tree →
+    Option Tree
+within q s called before xs =
+    if binds_name q s then option_map_or (called before) (find (picks s) xs) before else before
 
-abbrev pub at_first : List ℕ → Syntax → (Option Tree → Tree → Option Tree) → Option Tree → List Tree → Option Tree
-at_first q (Binding n s) called before xs = if bytes_eq n q then or_before (find (picks s) xs) before else within q s called before xs
+abbrev pub at_first : List ℕ → Syntax → (Option Tree → Tree → Option Tree) → Option Tree →
+    List Tree → Option Tree
+at_first q (Binding n s) called before xs =
+    if bytes_eq n q then or_before (find (picks s) xs) before else within q s called before xs
 at_first q s called before xs = within q s called before xs
 
 abbrev mutual
-  -- what a name is bound to at an entry where the selector holds; what it was bound to before, if it is bound to nothing there
+  -- what a name is bound to at an entry where the selector holds; what it was bound to before, if
+  -- it is bound to nothing there
   pub entry_called : List ℕ → Syntax → Option Tree → Tree → Option Tree
   entry_called q Wildcard before x = before
   entry_called q (Entry t) before x = before
@@ -155,12 +166,14 @@ abbrev mutual
   entry_called q (Attr s names) before x = entry_called q s before x
   entry_called q (Alt ss) before x = called_by_first q ss before x
   entry_called q (Multi ss) before x = before
-  entry_called q (Ancestrage l r) before x = parent_called q r (entry_called q l before x) (parents x)
+  entry_called q (Ancestrage l r) before x =
+      parent_called q r (entry_called q l before x) (parents x)
 
   -- by the first member that holds
   pub called_by_first : List ℕ → Syntaxes → Option Tree → Tree → Option Tree
   called_by_first q none before x = before
-  called_by_first q (more s ss) before x = if picks s x then entry_called q s before x else called_by_first q ss before x
+  called_by_first q (more s ss) before x =
+      if picks s x then entry_called q s before x else called_by_first q ss before x
 
   -- the same on a list of parents
   pub parent_called : List ℕ → Syntax → Option Tree → List Tree → Option Tree
@@ -168,12 +181,15 @@ abbrev mutual
   parent_called q (Entry t) before xs = before
   parent_called q (Neg s) before xs = before
   parent_called q (Binding n s) before xs =
-      if bytes_eq n q then or_before (first_candidate s xs) (parent_called q s before xs) else parent_called q s before xs
+      if bytes_eq n q then or_before (first_candidate s xs) (parent_called q s before xs) else
+      parent_called q s before xs
   parent_called q (Attr s names) before xs = parent_called q s before xs
   parent_called q (Alt ss) before xs = parent_called_by_first q ss before xs
-  parent_called q (Multi ss) before xs = if each_stands ss xs then called_in_turn q ss before xs else before
+  parent_called q (Multi ss) before xs =
+      if each_stands ss xs then called_in_turn q ss before xs else before
   parent_called q (Ancestrage l r) before xs =
-      option_map_or (λ x. parent_called q r (entry_called q l before x) (parents x)) (find (λ x. picks l x && stands r (parents x)) xs) before
+      option_map_or (λ x. parent_called q r (entry_called q l before x) (parents x))
+      (find (λ x. picks l x && stands r (parents x)) xs) before
 
   pub parent_called_by_first : List ℕ → Syntaxes → Option Tree → List Tree → Option Tree
   parent_called_by_first q none before xs = before

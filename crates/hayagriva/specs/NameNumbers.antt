@@ -62,11 +62,13 @@ IsIn number set = bit_at set number ≡ 1
 abbrev pub HasNumbers : Tree → ℕ → Type 0
 HasNumbers x set = (number : ℕ) → number < 32 → IsIn number set → has_number x number ≡ true
 
--- a set, with a mark that says whether it names anything that no entry has, holds at an entry exactly where the entry has
--- every name
+-- a set, with a mark that says whether it names anything that no entry has, holds at an entry
+-- exactly where the entry has every name
 abbrev pub StandsForNames : ℕ → Bool → List (List ℕ) → Type 0
-StandsForNames set unknown names = (x : Tree) → (has_all names x ≡ true) ↔ ((unknown ≡ false) × HasNumbers x set)
+StandsForNames set unknown names =
+    (x : Tree) → (has_all names x ≡ true) ↔ ((unknown ≡ false) × HasNumbers x set)
 
 -- of the numbers that were asked for, the set holds exactly those whose names the entry has
 abbrev pub IsHad : Tree → ℕ → ℕ → Type 0
-IsHad x asked had = (number : ℕ) → number < 32 → IsIn number asked → IsIn number had ↔ (has_number x number ≡ true)
+IsHad x asked had =
+    (number : ℕ) → number < 32 → IsIn number asked → IsIn number had ↔ (has_number x number ≡ true)

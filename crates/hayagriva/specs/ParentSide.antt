@@ -6,7 +6,8 @@ use Rattle.hayagriva.specs.Holds.{holds}
 use Rattle.hayagriva.specs.Syntax.{Syntax, Wildcard, Entry, Neg, Binding, Attr, Alt, Multi, Ancestrage, Syntaxes, none, more}
 
 abbrev mutual
-  -- types, `*`, bracket lists directly over `*`, `|`, names that stand in no list, and `>` with any two sides
+  -- types, `*`, bracket lists directly over `*`, `|`, names that stand in no list, and `>` with any
+  -- two sides
   pub asks_one_parent : Syntax → Bool
   asks_one_parent Wildcard = true
   asks_one_parent (Entry t) = true
@@ -79,4 +80,5 @@ abbrev mutual
 
 -- where no bracket list has a name inside it, names change no answer
 abbrev pub NamesChangeNoAnswer : Type 0
-NamesChangeNoAnswer = (s : Syntax) (x : Tree) → lists_have_no_names s ≡ true → holds (without_names s) x ≡ holds s x
+NamesChangeNoAnswer =
+    (s : Syntax) (x : Tree) → lists_have_no_names s ≡ true → holds (without_names s) x ≡ holds s x

@@ -31,7 +31,8 @@ abbrev pub IsRead : List ℕ → Result Selector SelectorError → Type 0
 IsRead text (Ok s) = selector_read text ≡ Ok (syntax s)
 IsRead text (Err e) = IfSome (fault e) (λ f. selector_read text ≡ Err f)
 
--- what is said of the selector that the text reads as, where it reads as one, or of its fault, where it has one
+-- what is said of the selector that the text reads as, where it reads as one, or of its fault,
+-- where it has one
 abbrev pub IfReads : List ℕ → (Syntax → Type 0) → Type 0
 IfReads text P = IfOk (selector_read text) P
 

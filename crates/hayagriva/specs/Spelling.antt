@@ -1,4 +1,5 @@
--- The fully parenthesised text of a selector: types in lower case, `*`, and every other form in its own parentheses.
+-- The fully parenthesised text of a selector: types in lower case, `*`, and every other form in its
+-- own parentheses.
 use Rattle.std.specs.Prelude.{◌≡◌, ℕ, true, List, [], ◌∷◌, ◌++◌}
 use Rattle.std.specs.List.{list_all}
 use Rattle.haya_entry.specs.EntryType.{in_lower_case, type_name}
@@ -19,12 +20,20 @@ abbrev mutual
   pub tokens_of : Syntax → List Token → List Token
   tokens_of Wildcard rest = SignToken Star ∷ rest
   tokens_of (Entry t) rest = Word (in_lower_case (type_name t)) ∷ rest
-  tokens_of (Neg s) rest = SignToken LeftParen ∷ SignToken ExclamationMark ∷ tokens_of s (SignToken RightParen ∷ rest)
-  tokens_of (Binding n s) rest = SignToken LeftParen ∷ Word n ∷ SignToken Colon ∷ tokens_of s (SignToken RightParen ∷ rest)
-  tokens_of (Attr s names) rest = SignToken LeftParen ∷ tokens_of s (SignToken LeftBracket ∷ tokens_of_names names (SignToken RightParen ∷ rest))
-  tokens_of (Alt ss) rest = SignToken LeftParen ∷ tokens_of_members Pipe ss (SignToken RightParen ∷ rest)
-  tokens_of (Multi ss) rest = SignToken LeftParen ∷ tokens_of_members Ampersand ss (SignToken RightParen ∷ rest)
-  tokens_of (Ancestrage l r) rest = SignToken LeftParen ∷ tokens_of l (SignToken Chevron ∷ tokens_of r (SignToken RightParen ∷ rest))
+  tokens_of (Neg s) rest =
+      SignToken LeftParen ∷ SignToken ExclamationMark ∷ tokens_of s (SignToken RightParen ∷ rest)
+  tokens_of (Binding n s) rest =
+      SignToken LeftParen ∷ Word n ∷ SignToken Colon ∷ tokens_of s (SignToken RightParen ∷ rest)
+  tokens_of (Attr s names) rest =
+      SignToken LeftParen ∷
+      tokens_of s (SignToken LeftBracket ∷ tokens_of_names names (SignToken RightParen ∷ rest))
+  tokens_of (Alt ss) rest =
+      SignToken LeftParen ∷ tokens_of_members Pipe ss (SignToken RightParen ∷ rest)
+  tokens_of (Multi ss) rest =
+      SignToken LeftParen ∷ tokens_of_members Ampersand ss (SignToken RightParen ∷ rest)
+  tokens_of (Ancestrage l r) rest =
+      SignToken LeftParen ∷
+      tokens_of l (SignToken Chevron ∷ tokens_of r (SignToken RightParen ∷ rest))
 
   -- members with this sign between
   pub tokens_of_members : Sign → Syntaxes → List Token → List Token
@@ -33,7 +42,8 @@ abbrev mutual
 
   pub tokens_of_others : Sign → Syntaxes → List Token → List Token
   tokens_of_others sign none rest = rest
-  tokens_of_others sign (more s ss) rest = SignToken sign ∷ tokens_of s (tokens_of_others sign ss rest)
+  tokens_of_others sign (more s ss) rest =
+      SignToken sign ∷ tokens_of s (tokens_of_others sign ss rest)
 
 abbrev pub AtLeastTwo : Syntaxes → Type 0
 AtLeastTwo (more s (more t ss)) = Unit {0}
@@ -62,4 +72,5 @@ text_of (t ∷ ts) = spelling t ++ text_of ts
 
 -- a selector's text reads as it, to its end
 abbrev pub ReadAgain : Type 0
-ReadAgain = (s : Syntax) → IsSpellable s → (r : TextReads (text_of (tokens_of s [])) s) × (r.rest ≡ [])
+ReadAgain =
+    (s : Syntax) → IsSpellable s → (r : TextReads (text_of (tokens_of s [])) s) × (r.rest ≡ [])

@@ -52,7 +52,8 @@ is_word (c ∷ cs) = starts_word c && list_all in_word cs
 abbrev pub IsToken : Token → Type 0
 IsToken (SignToken s) = Unit {0}
 IsToken (Word w) = is_word w ≡ true
-IsToken (Invalid c) = (is_whitespace c ≡ false) × (starts_word c ≡ false) × ((s : Sign) → c ≢ sign_char s)
+IsToken (Invalid c) =
+    (is_whitespace c ≡ false) × (starts_word c ≡ false) × ((s : Sign) → c ≢ sign_char s)
 
 -- no identifier is followed by a character that would make it longer
 abbrev pub EndsBefore : Token → List ℕ → Type 0
@@ -62,7 +63,8 @@ EndsBefore _ _ = Unit {0}
 -- the text is these tokens in turn, with white space before, between and behind them
 pub data AreTokens : List Token → List ℕ → Type 0 where
   no_token : (gap : List ℕ) → list_all is_whitespace gap ≡ true → AreTokens [] gap
-  next_token : (gap : List ℕ) {t : Token} {ts : List Token} {rest : List ℕ} → list_all is_whitespace gap ≡ true → IsToken t → EndsBefore t rest → AreTokens ts rest
+  next_token : (gap : List ℕ) {t : Token} {ts : List Token} {rest : List ℕ} →
+      list_all is_whitespace gap ≡ true → IsToken t → EndsBefore t rest → AreTokens ts rest
       → AreTokens (t ∷ ts) (gap ++ (spelling t ++ rest))
 
 -- this sign doesn't stand first
