@@ -1,5 +1,5 @@
 //! A library from its text: a line an entry, and behind it its parents, one level deeper.
-ghost use Rattle.std.specs.Prelude.{◌≡◌, ◌+◌, ◌++◌, ◌∷◌, [], length, min, IfOk, IfErr, IsOkAnd, IsOkUnless, OnOk};
+ghost use Rattle.std.specs.Prelude.{◌≡◌, ◌+◌, ◌++◌, ◌∷◌, [], length, min, option_map, IfOk, IfErr, IsOkAnd, IsOkUnless, OnOk};
 ghost use Rattle.std.specs.Str.Lines.{lines};
 ghost use Rattle.hayagriva.specs.Tree.{view};
 ghost use Rattle.hayagriva_query.specs.declared.fault.Fault.TheVariants.{OutOfMemory};
@@ -115,11 +115,22 @@ impl Reader {
     }
 }
 
-// Gives back the room that the entry's parents don't need.
+// Gives back the room that the entry's parents and people don't need.
 fn trim(entry: &mut Entry)
     ensures { view entry.new ≡ view entry.old }
 {
     entry.parents.shrink_to_fit();
+    shrink(&mut entry.authors);
+    shrink(&mut entry.editors);
+}
+
+// Gives back the room that the list doesn't need.
+fn shrink<T>(list: &mut Option<Vec<T>>)
+    ensures { option_map (λ v. v.items) list.new ≡ option_map (λ v. v.items) list.old }
+{
+    if let Some(items) = list {
+        items.shrink_to_fit();
+    }
 }
 
 // Puts a parent behind those that the entry has.
