@@ -157,13 +157,6 @@ impl Entry {
         ensures { result ≡ has_name (view self.now) name.now }
     {
         match name {
-            // First what selectors ask for most.
-            "doi" => self.doi().is_some(),
-            "isbn" => self.isbn().is_some(),
-            "issn" => self.issn().is_some(),
-            "pmid" => self.pmid().is_some(),
-            "pmcid" => self.pmcid().is_some(),
-            "arxiv" => self.arxiv().is_some(),
             "title" => self.title.is_some(),
             "location" => self.location.is_some(),
             "organization" => self.organization.is_some(),
@@ -190,6 +183,12 @@ impl Entry {
             "runtime" => self.runtime.is_some(),
             "serial-number" => self.serial_number.is_some(),
             "language" => self.language.is_some(),
+            "doi" => self.doi().is_some(),
+            "isbn" => self.isbn().is_some(),
+            "issn" => self.issn().is_some(),
+            "pmid" => self.pmid().is_some(),
+            "pmcid" => self.pmcid().is_some(),
+            "arxiv" => self.arxiv().is_some(),
             _ => false,
         }
     }
