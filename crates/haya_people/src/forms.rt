@@ -1,5 +1,6 @@
 //! The forms of a whole name.
-ghost use Rattle.std.specs.Prelude.{◌≡◌, ◌↔◌, [], ◌∷◌, None, IfOk, IsTrue, option_map, string_bytes, if◌then◌else◌, is_some};
+ghost use Rattle.std.specs.Prelude.{◌≡◌, ◌↔◌, [], ◌∷◌, None, IfOk, IsTrue, option_map};
+ghost use Rattle.std.specs.Prelude.{string_bytes, if◌then◌else◌, is_some};
 ghost use Rattle.haya_people.specs.Forms.{between, given_first, given_form, name_first};
 ghost use Rattle.haya_people.specs.Person.{person_view};
 ghost use Rattle.haya_people.specs.Pieces.{piece_bytes};

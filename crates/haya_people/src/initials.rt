@@ -2,7 +2,9 @@
 ghost use Rattle.std.specs.Prelude.{◌≡◌, [], List, Some, option_map, string_bytes, OnOk, unwrap_or};
 ghost use Rattle.std.specs.Fmt.{WritesText};
 ghost use Rattle.ucd_category.specs.GeneralCategory.{general_category};
-ghost use Rattle.haya_people.specs.Initials.{Grapheme, Style, begins_with_hyphen, initials, is_separator, is_upper, is_upper_letter, lead, style_with};
+ghost use Rattle.haya_people.specs.Initials.{Grapheme, Style, begins_with_hyphen, initials};
+ghost use Rattle.haya_people.specs.Initials.{is_separator, is_upper, is_upper_letter, lead};
+ghost use Rattle.haya_people.specs.Initials.{style_with};
 ghost use Rattle.haya_people.specs.InitialsLeft.{initials_left, one_more, style_of, written_with};
 ghost use Rattle.haya_people.specs.Words.{Word, onto_gap, onto_word};
 

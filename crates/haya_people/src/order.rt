@@ -1,10 +1,14 @@
 //! The orders of persons: by all parts of their names, and that of lists in a style.
-ghost use Rattle.std.specs.Prelude.{◌≡◌, ℕ, Bool, true, false, IfOk, IsTrue, map, option_map, string_bytes};
+ghost use Rattle.std.specs.Prelude.{◌≡◌, ℕ, Bool, true, false, IfOk, IsTrue, map, option_map};
+ghost use Rattle.std.specs.Prelude.{string_bytes};
 ghost use Rattle.std.specs.Cmp.Lexicographic.{slice_cmp};
 ghost use Rattle.std.specs.List.{IsAnyAnswer};
 ghost use Rattle.std.specs.Option.{option_copied};
 ghost use Rattle.std.specs.Str.{chars};
-ghost use Rattle.haya_people.specs.Orders.{person_cmp, name_characters, cjk_parts, plain_parts, demoted_parts, split_parts, first_difference, pair_cmp, parts_cmp, csl_cmp, csl_cmp_by, is_cjk, IsCslOrder, AnswersAs};
+ghost use Rattle.haya_people.specs.Orders.{person_cmp, name_characters, cjk_parts, plain_parts};
+ghost use Rattle.haya_people.specs.Orders.{demoted_parts, split_parts, first_difference, pair_cmp};
+ghost use Rattle.haya_people.specs.Orders.{parts_cmp, csl_cmp, csl_cmp_by, is_cjk, IsCslOrder};
+ghost use Rattle.haya_people.specs.Orders.{AnswersAs};
 ghost use Rattle.haya_people.specs.Particles.{folded};
 ghost use Rattle.haya_people.specs.Person.{person_view};
 ghost use Rattle.haya_people.specs.Tables.{texts, is_sorted_table};

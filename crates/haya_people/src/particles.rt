@@ -2,7 +2,9 @@
 ghost use Rattle.std.specs.Prelude.{◌≡◌, IfOk, IsTrue, option_map, string_bytes};
 ghost use Rattle.std.specs.Cow.{cow_str_bytes};
 ghost use Rattle.std.specs.Option.{option_copied};
-ghost use Rattle.haya_people.specs.Particles.{folded, is_particle, name_particle, name_without_particle, name_particles, name_without_article};
+ghost use Rattle.haya_people.specs.Particles.{folded, is_particle, name_particle};
+ghost use Rattle.haya_people.specs.Particles.{name_without_particle, name_particles};
+ghost use Rattle.haya_people.specs.Particles.{name_without_article};
 ghost use Rattle.haya_people.specs.Person.{person_view};
 ghost use Rattle.haya_people.specs.Tables.{texts, is_sorted_table};
 

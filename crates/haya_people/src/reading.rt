@@ -1,12 +1,15 @@
 //! Persons that are read from texts.
-ghost use Rattle.std.specs.Prelude.{◌≡◌, ◌==◌, ◌++◌, [], ℕ, List, false, Err, IfOk, MatchOption, MatchResult, Ok, Option, Some, map, option_map, string_bytes};
+ghost use Rattle.std.specs.Prelude.{◌≡◌, ◌==◌, ◌++◌, [], ℕ, List, false, Err, IfOk, MatchOption};
+ghost use Rattle.std.specs.Prelude.{MatchResult, Ok, Option, Some, map, option_map, string_bytes};
 ghost use Rattle.std.specs.List.{list_all, slice_split};
 ghost use Rattle.std.specs.Str.{chars, trim};
 ghost use Rattle.haya_people.specs.Person.{PersonView, person_view, is_memory};
 ghost use Rattle.haya_people.specs.Signs.{comma};
 ghost use Rattle.haya_people.specs.Words.{first_passes};
 ghost use Rattle.unicode.specs.Binary.{is_lowercase};
-ghost use Rattle.haya_people.specs.Reading.{is_lower, last_word, name_of, prefix_of, person_of, person_read, person_with, text_if_any, texts, trimmed, words_behind_lower, words_of, IsEnd, IsFirstWord};
+ghost use Rattle.haya_people.specs.Reading.{is_lower, last_word, name_of, prefix_of, person_of};
+ghost use Rattle.haya_people.specs.Reading.{person_read, person_with, text_if_any, texts, trimmed};
+ghost use Rattle.haya_people.specs.Reading.{words_behind_lower, words_of, IsEnd, IsFirstWord};
 
 use crate::{Person, PersonError};
 use haya_text::{OutOfMemory, ReadText};

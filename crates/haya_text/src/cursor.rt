@@ -1,5 +1,6 @@
 //! A place in a text, from which its reader takes character after character.
-ghost use Rattle.std.specs.Prelude.{◌≡◌, ◌≤◌, ◌++◌, [], ◌∷◌, All, IfNone, IfSome, MatchOption, length, slice_get, false, true};
+ghost use Rattle.std.specs.Prelude.{◌≡◌, ◌≤◌, ◌++◌, [], ◌∷◌, All, IfNone, IfSome, MatchOption};
+ghost use Rattle.std.specs.Prelude.{length, slice_get, false, true};
 ghost use Rattle.std.specs.Char.{encode_utf8};
 ghost use Rattle.std.specs.Str.{chars, encode_utf8_all, skip_leading_whitespace};
 ghost use Rattle.haya_text.specs.Cursor.{Eats, EatsIf, IsBehind, text_len};

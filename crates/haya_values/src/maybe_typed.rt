@@ -1,5 +1,6 @@
 //! Values of a type, or texts where no value of it is written.
-ghost use Rattle.std.specs.Prelude.{◌≡◌, ◌↔◌, Some, None, option_map, string_bytes, IfOk, IfSome, IsOk};
+ghost use Rattle.std.specs.Prelude.{◌≡◌, ◌↔◌, Some, None, option_map, string_bytes, IfOk, IfSome};
+ghost use Rattle.std.specs.Prelude.{IsOk};
 ghost use Rattle.std.specs.Cow.{cow_str_bytes, IsOwnedStr};
 ghost use Rattle.haya_values.specs.MaybeTyped.{as_typed, maybe_typed_view, IsTyped, shown};
 ghost use Rattle.haya_values.specs.declared.maybe_typed.MaybeTyped.TheVariants.{Typed};

@@ -10,9 +10,12 @@ ghost use Rattle.hayagriva.specs.Fault.{fault};
 ghost use Rattle.hayagriva.specs.Holds.{holds};
 ghost use Rattle.hayagriva.specs.InWords.{picks, named_entry};
 ghost use Rattle.hayagriva.specs.Library.{AreEqual};
-ghost use Rattle.hayagriva.specs.ParentSide.{HoldsAtNoParent, HoldsAtSomeParent, NamesChangeNoAnswer};
-ghost use Rattle.hayagriva.specs.QueryIter.{BeginsAnswer, EndInWords, EndsAnswer, HitsInWords, StaysEnded};
-ghost use Rattle.hayagriva.specs.ReadingLaws.{IsComputed, OneCut, OneListOutcome, OneOutcome, OneReading};
+ghost use Rattle.hayagriva.specs.ParentSide.{HoldsAtNoParent, HoldsAtSomeParent};
+ghost use Rattle.hayagriva.specs.ParentSide.{NamesChangeNoAnswer};
+ghost use Rattle.hayagriva.specs.QueryIter.{BeginsAnswer, EndInWords, EndsAnswer, HitsInWords};
+ghost use Rattle.hayagriva.specs.QueryIter.{StaysEnded};
+ghost use Rattle.hayagriva.specs.ReadingLaws.{IsComputed, OneCut, OneListOutcome, OneOutcome};
+ghost use Rattle.hayagriva.specs.ReadingLaws.{OneReading};
 ghost use Rattle.hayagriva.specs.Spelling.{ReadAgain};
 ghost use Rattle.hayagriva.specs.Syntax.{Syntax, syntax};
 

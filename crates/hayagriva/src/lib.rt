@@ -6,8 +6,6 @@ pub mod laws;
 mod library;
 mod query;
 mod selectors;
-#[cfg(test)]
-mod works;
 
 pub use bound_select::BoundSelect;
 pub use haya_entry::{Entry, Steps};

@@ -1,13 +1,13 @@
 //! Libraries: entries in order, each under its key.
-ghost use Rattle.std.specs.Prelude.{◌≡◌, ◌↔◌, [], List, length, map, option_map, slice_get, IsTrue, OnOk, OnErr, IfOk};
+ghost use Rattle.std.specs.Prelude.{◌≡◌, ◌↔◌, [], List, length, map, option_map, slice_get, IsTrue};
+ghost use Rattle.std.specs.Prelude.{OnOk, OnErr, IfOk};
 ghost use Rattle.std.specs.Iterator.{Drains, IsFinite};
 ghost use Rattle.haya_entry.specs.declared.entry.Entry.{Entry as EntryData};
 ghost use Rattle.haya_entry.specs.Tree.{view};
-ghost use Rattle.hayagriva.specs.Library.{entry_value, key_of, get, push, from_entries, remove, AreDistinct};
+ghost use Rattle.hayagriva.specs.Library.{entry_value, key_of, get, push, from_entries, remove};
+ghost use Rattle.hayagriva.specs.Library.{AreDistinct};
 
 mod iter;
-#[cfg(test)]
-mod tests;
 
 use haya_entry::Entry;
 use haya_text::OutOfMemory;

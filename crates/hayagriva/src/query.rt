@@ -97,6 +97,3 @@ impl Library {
         Ok(hits)
     }
 }
-
-#[cfg(test)]
-mod tests;

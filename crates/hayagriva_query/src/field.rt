@@ -3,7 +3,8 @@ ghost use Rattle.std.specs.Prelude.{◌≡◌, Err, Ok, Some, option_map, IfOk, 
 ghost use Rattle.hayagriva.specs.Person.{person_view};
 ghost use Rattle.hayagriva.specs.Roles.{role_view, roles_view};
 ghost use Rattle.hayagriva.specs.Tree.{Sets, view, fields};
-ghost use Rattle.hayagriva_query.specs.FieldTable.{affiliated_of, date_of, ok_or_refused, role_of, with_field, with_last, with_number};
+ghost use Rattle.hayagriva_query.specs.FieldTable.{affiliated_of, date_of, ok_or_refused, role_of};
+ghost use Rattle.hayagriva_query.specs.FieldTable.{with_field, with_last, with_number};
 ghost use Rattle.hayagriva_query.specs.LineReading.{FaultOf, SetsFields};
 
 use crate::fault::LineFault;

@@ -1,5 +1,6 @@
 //! A library from its text: a line an entry, and behind it its parents, one level deeper.
-ghost use Rattle.std.specs.Prelude.{◌≡◌, ◌+◌, ◌++◌, ◌∷◌, [], length, min, option_map, IfOk, IfErr, IsOkAnd, IsOkUnless, OnOk};
+ghost use Rattle.std.specs.Prelude.{◌≡◌, ◌+◌, ◌++◌, ◌∷◌, [], length, min, option_map, IfOk, IfErr};
+ghost use Rattle.std.specs.Prelude.{IsOkAnd, IsOkUnless, OnOk};
 ghost use Rattle.std.specs.Str.Lines.{lines};
 ghost use Rattle.hayagriva.specs.Tree.{view};
 ghost use Rattle.hayagriva_query.specs.declared.fault.Fault.TheVariants.{OutOfMemory};

@@ -1,5 +1,6 @@
 //! Prints hits, a line each.
-ghost use Rattle.std.specs.Prelude.{◌≡◌, ◌⊎◌, IfErr, IsOkUnless, List, ◌++◌, ℕ, OnErr, OnOk, string_bytes};
+ghost use Rattle.std.specs.Prelude.{◌≡◌, ◌⊎◌, IfErr, IsOkUnless, List, ◌++◌, ℕ, OnErr, OnOk};
+ghost use Rattle.std.specs.Prelude.{string_bytes};
 ghost use Rattle.std.specs.Io.KnownBytes.{Appends};
 ghost use Rattle.hayagriva_query.specs.declared.fault.Fault.TheVariants.{CannotWrite, OutOfMemory};
 ghost use Rattle.hayagriva_query.specs.Output.{AreLinesAt, IsLineOf, PrintsPart};

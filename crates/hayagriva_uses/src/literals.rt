@@ -1,5 +1,6 @@
 //! A proved call for each form of selector. What each ensures speaks of entries alone: their types, names and parents.
-ghost use Rattle.std.specs.Prelude.{◌≡◌, ◌&&◌, ◌||◌, All, IfOk, IsOkUnless, Some, codes, filter, find, map, not, true};
+ghost use Rattle.std.specs.Prelude.{◌≡◌, ◌&&◌, ◌||◌, All, IfOk, IsOkUnless, Some, codes, filter};
+ghost use Rattle.std.specs.Prelude.{find, map, not, true};
 ghost use Rattle.std.specs.List.{list_any};
 ghost use Rattle.haya_entry.specs.declared.types.EntryType.TheVariants.{Article, Book, Periodical};
 ghost use Rattle.haya_entry.specs.Names.{is_of_type, has_name};

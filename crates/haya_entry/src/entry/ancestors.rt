@@ -1,7 +1,9 @@
 //! Searches over the ancestors of an entry, level by level.
-ghost use Rattle.std.specs.Prelude.{◌≡◌, ℕ, suc, ◌+◌, ◌-◌, ◌*◌, ◌<◌, ◌≤◌, List, [], ◌∷◌, Some, length, option_map, slice_get};
+ghost use Rattle.std.specs.Prelude.{◌≡◌, ℕ, suc, ◌+◌, ◌-◌, ◌*◌, ◌<◌, ◌≤◌, List, [], ◌∷◌, Some};
+ghost use Rattle.std.specs.Prelude.{length, option_map, slice_get};
 ghost use Rattle.haya_entry.specs.Tree.{Tree, fields, parents, size, view};
-ghost use Rattle.haya_entry.specs.Levels.{AsksAll, AsksAllWithin, ancestors, height, level, levels_from};
+ghost use Rattle.haya_entry.specs.Levels.{AsksAll, AsksAllWithin, ancestors, height, level};
+ghost use Rattle.haya_entry.specs.Levels.{levels_from};
 ghost use Rattle.haya_entry.specs.Lookups.{first_value};
 ghost use Rattle.haya_entry.specs.Walks.{AsksWithin, IsReached, answer_of, levels_further};
 ghost use Rattle.haya_values.specs.Url.{url_view};

@@ -1,6 +1,7 @@
 //! Copies of entries.
 ghost use Rattle.std.specs.Prelude.{◌≡◌, [], IfOk, OnOk};
-ghost use Rattle.haya_entry.specs.Tree.{Sets, view, fields, with_parents, with_people_of, with_rest_of};
+ghost use Rattle.haya_entry.specs.Tree.{Sets, view, fields, with_parents, with_people_of};
+ghost use Rattle.haya_entry.specs.Tree.{with_rest_of};
 
 use crate::Entry;
 use haya_text::{OutOfMemory, TryClone};

@@ -1,6 +1,9 @@
 //! Look-ups from an entry: of works above it, and of persons who had a part in it.
 ghost use Rattle.std.specs.Prelude.{◌≡◌, ◌∷◌, ◌++◌, [], IfOk, IfErr, OnOk, Some, map, unwrap_or};
-ghost use Rattle.haya_entry.specs.Lookups.{IsAt, add_affiliated_persons, add_parent, affiliated_with_role, collections, containers, entries_of_type, first, full_path, is_full, lists_view, pair_view, parents_passing, persons_of_role};
+ghost use Rattle.haya_entry.specs.Lookups.{IsAt, add_affiliated_persons, add_parent};
+ghost use Rattle.haya_entry.specs.Lookups.{affiliated_with_role, collections, containers};
+ghost use Rattle.haya_entry.specs.Lookups.{entries_of_type, first, full_path, is_full, lists_view};
+ghost use Rattle.haya_entry.specs.Lookups.{pair_view, parents_passing, persons_of_role};
 ghost use Rattle.haya_entry.specs.Names.{is_of_type};
 ghost use Rattle.haya_entry.specs.ParentTypes.{container_types, is_collected};
 ghost use Rattle.haya_entry.specs.Tree.{view};

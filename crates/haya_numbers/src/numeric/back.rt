@@ -1,7 +1,8 @@
 //! Which numbers read back from their print.
 ghost use Rattle.std.specs.Prelude.{◌≡◌};
 ghost use Rattle.haya_numbers.specs.Numeric.{numeric_view};
-ghost use Rattle.haya_numbers.specs.NumericBack.{is_readable, may_follow, items_read_back, reads_back};
+ghost use Rattle.haya_numbers.specs.NumericBack.{is_readable, may_follow, items_read_back};
+ghost use Rattle.haya_numbers.specs.NumericBack.{reads_back};
 
 use crate::{Numeric, NumericDelimiter, NumericValue};
 

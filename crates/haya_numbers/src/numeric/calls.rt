@@ -1,6 +1,8 @@
 //! Makes numbers, and tells what they hold.
-ghost use Rattle.std.specs.Prelude.{◌≡◌, ◌↔◌, ◌<◌, ◌≤◌, ◌^◌, [], None, Some, length, pos, slice_get, option_map, IfOk, IsTrue, MatchResult};
-ghost use Rattle.haya_numbers.specs.Numeric.{Single, value_view, numeric_view, numbers, csl_order, without_affixes, range_view, is_plural, single_number};
+ghost use Rattle.std.specs.Prelude.{◌≡◌, ◌↔◌, ◌<◌, ◌≤◌, ◌^◌, [], None, Some, length, pos};
+ghost use Rattle.std.specs.Prelude.{slice_get, option_map, IfOk, IsTrue, MatchResult};
+ghost use Rattle.haya_numbers.specs.Numeric.{Single, value_view, numeric_view, numbers, csl_order};
+ghost use Rattle.haya_numbers.specs.Numeric.{without_affixes, range_view, is_plural, single_number};
 
 use crate::{Numeric, NumericDelimiter, NumericValue};
 use haya_text::{OutOfMemory, TryClone};

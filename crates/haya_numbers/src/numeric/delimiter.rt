@@ -2,7 +2,8 @@
 ghost use Rattle.std.specs.Prelude.{◌≡◌, Some, ok_or, option_map};
 ghost use Rattle.std.specs.Char.{encode_utf8};
 ghost use Rattle.std.specs.Str.{chars};
-ghost use Rattle.haya_numbers.specs.NumericPrinted.{delimiter_char, delimiter_text, text_or_nothing};
+ghost use Rattle.haya_numbers.specs.NumericPrinted.{delimiter_char, delimiter_text};
+ghost use Rattle.haya_numbers.specs.NumericPrinted.{text_or_nothing};
 ghost use Rattle.haya_numbers.specs.NumericReading.{delimiter_of, delimiter_read};
 ghost use Rattle.haya_numbers.specs.declared.numeric.NumericError.TheVariants.{NotADelimiter};
 

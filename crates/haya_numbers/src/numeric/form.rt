@@ -2,7 +2,8 @@
 ghost use Rattle.std.specs.Prelude.{◌≡◌, ◌<◌, ℤ, List, ℕ, Option, Some, OnOk, option_map};
 ghost use Rattle.std.specs.Fmt.{DisplaysOnOk, WritesText};
 ghost use Rattle.haya_numbers.specs.Numeric.{value_view};
-ghost use Rattle.haya_numbers.specs.NumericForms.{copies, formed_number, formed_value, ordinal_text, roman_text};
+ghost use Rattle.haya_numbers.specs.NumericForms.{copies, formed_number, formed_value};
+ghost use Rattle.haya_numbers.specs.NumericForms.{ordinal_text, roman_text};
 ghost use Rattle.haya_numbers.specs.declared.numeric.form.GrammarGender.{GrammarGender as Gender};
 
 use super::delimiter::text_after;

@@ -2,7 +2,8 @@
 ghost use Rattle.std.specs.Prelude.{◌≡◌, Some, OnOk};
 ghost use Rattle.std.specs.Fmt.{WritesText, signed_decimal};
 ghost use Rattle.haya_numbers.specs.Numeric.{value_view, numeric_view};
-ghost use Rattle.haya_numbers.specs.NumericPrinted.{delimiter_text, item_text, formatted_value, shown_numeric};
+ghost use Rattle.haya_numbers.specs.NumericPrinted.{delimiter_text, item_text, formatted_value};
+ghost use Rattle.haya_numbers.specs.NumericPrinted.{shown_numeric};
 
 use crate::{Numeric, NumericDelimiter, NumericValue};
 use std::fmt;

@@ -1,13 +1,20 @@
 //! Reads numbers.
-ghost use Rattle.std.specs.Prelude.{◌≡◌, ◌++◌, ◌<◌, ℕ, ℤ, pos, Some, None, IfOk, IfErr, IfSome, MatchBool, MatchOption, MatchResult, OnOk, Ok, option_map, length, string_bytes, false};
+ghost use Rattle.std.specs.Prelude.{◌≡◌, ◌++◌, ◌<◌, ℕ, ℤ, pos, Some, None, IfOk, IfErr, IfSome};
+ghost use Rattle.std.specs.Prelude.{MatchBool, MatchOption, MatchResult, OnOk, Ok, option_map};
+ghost use Rattle.std.specs.Prelude.{length, string_bytes, false};
 ghost use Rattle.std.specs.Char.{is_whitespace};
 ghost use Rattle.std.specs.Result.{result_ok};
 ghost use Rattle.std.specs.Str.{chars, encode_utf8_all, skip_leading_whitespace};
 ghost use Rattle.haya_numbers.specs.Characters.{is_numeric, is_delimiter, run, past_run};
 ghost use Rattle.haya_numbers.specs.Classes.{has, appended, IsSpareZero, NoSpareZero};
 ghost use Rattle.haya_numbers.specs.Numeric.{value_view, affix_view, numeric_view, is_memory};
-ghost use Rattle.haya_numbers.specs.NumericReading.{magnitude, number_front, delimiter_read, item_front, items_read, set_from, first_delimiter, affix, suffix_with, prefix_run, past_prefix, numeric_read, IsFaultOf};
-ghost use Rattle.haya_numbers.specs.declared.numeric.NumericError.TheVariants.{NoNumber, OutOfMemory};
+ghost use Rattle.haya_numbers.specs.NumericReading.{magnitude, number_front, delimiter_read};
+ghost use Rattle.haya_numbers.specs.NumericReading.{item_front, items_read, set_from};
+ghost use Rattle.haya_numbers.specs.NumericReading.{first_delimiter, affix, suffix_with};
+ghost use Rattle.haya_numbers.specs.NumericReading.{prefix_run, past_prefix, numeric_read};
+ghost use Rattle.haya_numbers.specs.NumericReading.{IsFaultOf};
+ghost use Rattle.haya_numbers.specs.declared.numeric.NumericError.TheVariants.{NoNumber};
+ghost use Rattle.haya_numbers.specs.declared.numeric.NumericError.TheVariants.{OutOfMemory};
 
 use crate::characters::{is_delimiter, is_numeric};
 use crate::{Numeric, NumericDelimiter, NumericError, NumericValue};

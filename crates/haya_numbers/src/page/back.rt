@@ -2,7 +2,8 @@
 ghost use Rattle.std.specs.Prelude.{◌≡◌};
 ghost use Rattle.haya_numbers.specs.Numeric.{numeric_view};
 ghost use Rattle.haya_numbers.specs.Pages.{part_view, parts};
-ghost use Rattle.haya_numbers.specs.PagesBack.{are_readable, fits, is_plain_number, is_plain_part, is_separator_part};
+ghost use Rattle.haya_numbers.specs.PagesBack.{are_readable, fits, is_plain_number, is_plain_part};
+ghost use Rattle.haya_numbers.specs.PagesBack.{is_separator_part};
 
 use crate::{Numeric, PageRanges, PageRangesPart};
 

@@ -1,5 +1,6 @@
 //! Makes pages of numbers, and copies of pages.
-ghost use Rattle.std.specs.Prelude.{◌≡◌, ◌↔◌, ◌<◌, ◌≤◌, ◌^◌, [], ◌∷◌, pos, Err, IfOk, IfErr, MatchResult};
+ghost use Rattle.std.specs.Prelude.{◌≡◌, ◌↔◌, ◌<◌, ◌≤◌, ◌^◌, [], ◌∷◌, pos, Err, IfOk, IfErr};
+ghost use Rattle.std.specs.Prelude.{MatchResult};
 ghost use Rattle.haya_numbers.specs.Pages.{page_of, part_view, parts, FitsPage};
 
 use crate::{Numeric, PageNumberError, PageRanges, PageRangesPart};

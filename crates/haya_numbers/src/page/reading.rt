@@ -4,7 +4,8 @@ ghost use Rattle.std.specs.Str.{chars};
 ghost use Rattle.haya_numbers.specs.Cuts.{dash_split, escaped_split};
 ghost use Rattle.haya_numbers.specs.Numeric.{numeric_view};
 ghost use Rattle.haya_numbers.specs.Pages.{part_view, parts, EscapedRange, Range};
-ghost use Rattle.haya_numbers.specs.PagesReading.{both_read, cut_read, half_read, halves_read, inner_read, part_read, pages_read, Reads};
+ghost use Rattle.haya_numbers.specs.PagesReading.{both_read, cut_read, half_read, halves_read};
+ghost use Rattle.haya_numbers.specs.PagesReading.{inner_read, part_read, pages_read, Reads};
 
 use super::cuts::{split_dash, split_escaped};
 use super::split_pages;

@@ -1,5 +1,6 @@
 //! Laws of roles, tables and orders.
-ghost use Rattle.std.specs.Prelude.{◌≡◌, ◌↔◌, ◌≤◌, ℕ, Bool, List, Some, None, length, true, IsSorted};
+ghost use Rattle.std.specs.Prelude.{◌≡◌, ◌↔◌, ◌≤◌, ℕ, Bool, List, Some, None, length, true};
+ghost use Rattle.std.specs.Prelude.{IsSorted};
 ghost use Rattle.haya_people.specs.Particles.{name_particle, IsParticleOf};
 ghost use Rattle.haya_people.specs.Tables.{is_sorted_table};
 ghost use Rattle.std.specs.Cmp.{IsTotalOrder};

@@ -1,8 +1,10 @@
 //! Texts in chunks, and what is appended to them.
-ghost use Rattle.std.specs.Prelude.{◌≡◌, ◌↔◌, ◌++◌, List, [], ◌∷◌, All, length, min, sum_by, string_bytes, IfOk, IsOk, IsTrue, OnOk, OnErr};
+ghost use Rattle.std.specs.Prelude.{◌≡◌, ◌↔◌, ◌++◌, List, [], ◌∷◌, All, length, min, sum_by};
+ghost use Rattle.std.specs.Prelude.{string_bytes, IfOk, IsOk, IsTrue, OnOk, OnErr};
 ghost use Rattle.std.specs.Char.{encode_utf8};
 ghost use Rattle.std.specs.Str.{chars};
-ghost use Rattle.haya_text.specs.Chunks.{Chunk, Appends, chunk_view, chunks, characters_of_kind, plain_text, ends_in, grow_last, push_str};
+ghost use Rattle.haya_text.specs.Chunks.{Chunk, Appends, chunk_view, chunks, characters_of_kind};
+ghost use Rattle.haya_text.specs.Chunks.{plain_text, ends_in, grow_last, push_str};
 
 use crate::{ChunkKind, OutOfMemory, StringChunk, TryClone};
 use std::alloc::Global;

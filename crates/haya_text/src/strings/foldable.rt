@@ -1,5 +1,6 @@
 //! Texts without math, whose case may be folded.
-ghost use Rattle.std.specs.Prelude.{◌≡◌, ◌≤◌, List, [], false, length, map, vec_capacity, IfOk, MatchResult};
+ghost use Rattle.std.specs.Prelude.{◌≡◌, ◌≤◌, List, [], false, length, map, vec_capacity, IfOk};
+ghost use Rattle.std.specs.Prelude.{MatchResult};
 ghost use Rattle.std.specs.List.{list_any};
 ghost use denote.Enum.Bare.{sameb};
 ghost use Rattle.haya_text.specs.contracts.strings.kind.ChunkKind.{the_type};

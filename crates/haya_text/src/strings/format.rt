@@ -3,7 +3,8 @@ ghost use Rattle.std.specs.Prelude.{◌≡◌, [], ◌∷◌, None, Some, string
 ghost use Rattle.std.specs.Fmt.{DisplaysOnOk};
 ghost use Rattle.haya_text.specs.Chunks.{chunk_view, chunks};
 ghost use Rattle.haya_text.specs.Printing.{text_display};
-ghost use Rattle.haya_text.specs.Texts.{TextView, text_view, plain_view, select, short_display, with_short, without_short};
+ghost use Rattle.haya_text.specs.Texts.{TextView, text_view, plain_view, select, short_display};
+ghost use Rattle.haya_text.specs.Texts.{with_short, without_short};
 
 use crate::{ChunkedReadError, ChunkedString, OutOfMemory, ReadText, StringChunk, TryClone};
 use std::alloc::Global;

@@ -1,9 +1,11 @@
 //! How texts are displayed, and how they are serialized.
-ghost use Rattle.std.specs.Prelude.{◌≡◌, ◌↔◌, ◌<◌, ◌≤◌, Some, length, string_bytes, IfOk, IsOk, OnOk};
+ghost use Rattle.std.specs.Prelude.{◌≡◌, ◌↔◌, ◌<◌, ◌≤◌, Some, length, string_bytes, IfOk, IsOk};
+ghost use Rattle.std.specs.Prelude.{OnOk};
 ghost use Rattle.std.specs.Cow.{cow_str_bytes, IsOwnedStr};
 ghost use Rattle.std.specs.Fmt.{WritesText};
 ghost use Rattle.haya_text.specs.Chunks.{chunk_view, chunks};
-ghost use Rattle.haya_text.specs.Printing.{chunk_display, text_display, to_str, is_control, escaped_text, serialized_chunk, to_serialized};
+ghost use Rattle.haya_text.specs.Printing.{chunk_display, text_display, to_str, is_control};
+ghost use Rattle.haya_text.specs.Printing.{escaped_text, serialized_chunk, to_serialized};
 
 use crate::{ChunkKind, ChunkedString, OutOfMemory, StringChunk};
 use std::alloc::Global;

@@ -1,10 +1,13 @@
 //! How texts are read, mark by mark.
-ghost use Rattle.std.specs.Prelude.{◌≡◌, ◌+◌, ◌^◌, ◌<◌, ◌≤◌, [], ◌∷◌, ℕ, List, Bool, true, false, Ok, Err, Option, Some, None, length, IfOk, IfErr, IfSome, MatchOption, MatchResult, OnOk, not};
+ghost use Rattle.std.specs.Prelude.{◌≡◌, ◌+◌, ◌^◌, ◌<◌, ◌≤◌, [], ◌∷◌, ℕ, List, Bool, true, false};
+ghost use Rattle.std.specs.Prelude.{Ok, Err, Option, Some, None, length, IfOk, IfErr, IfSome};
+ghost use Rattle.std.specs.Prelude.{MatchOption, MatchResult, OnOk, not};
 ghost use Rattle.haya_text.specs.Chunks.{chunks, characters};
 ghost use Rattle.haya_text.specs.Cursor.{text_len};
 ghost use Rattle.haya_text.specs.Normal.{norm};
 ghost use Rattle.haya_text.specs.Printing.{is_control};
-ghost use Rattle.haya_text.specs.Marks.{scan_of_mark, scan_of_reader, IsInRuns, Refuses, TakesMark, TakesPlain};
+ghost use Rattle.haya_text.specs.Marks.{scan_of_mark, scan_of_reader, IsInRuns, Refuses, TakesMark};
+ghost use Rattle.haya_text.specs.Marks.{TakesPlain};
 ghost use Rattle.haya_text.specs.Reading.{kind_in, result_after, scan, chunks_read, IsRefusal};
 ghost use Rattle.haya_text.specs.declared.strings.reading.Mark.TheVariants.{Close};
 

@@ -1,7 +1,9 @@
 //! The orders of dates.
 ghost use Rattle.std.specs.Prelude.{◌≡◌};
 ghost use Rattle.std.specs.Ordering.{bool_cmp};
-ghost use Rattle.haya_time.specs.DateOrder.{approximate_without, date_csl_cmp, date_partial_cmp, day_of_month, known_alike_cmp, missing_first_cmp, season_cmp, tie_cmp};
+ghost use Rattle.haya_time.specs.DateOrder.{approximate_without, date_csl_cmp, date_partial_cmp};
+ghost use Rattle.haya_time.specs.DateOrder.{day_of_month, known_alike_cmp, missing_first_cmp};
+ghost use Rattle.haya_time.specs.DateOrder.{season_cmp, tie_cmp};
 ghost use Rattle.haya_time.specs.DateOrderLaws.{date_laws};
 
 use super::{Date, Season};

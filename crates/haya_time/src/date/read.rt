@@ -1,11 +1,15 @@
 //! Dates are read: a text is taken part after part, from its front.
-ghost use Rattle.std.specs.Prelude.{◌≡◌, ◌↔◌, ◌<◌, ◌≤◌, ◌≤ℤ◌, ◌^◌, ◌==◌, IfNone, IfSome, IsTrue, Some, None, pos, negsuc, true};
+ghost use Rattle.std.specs.Prelude.{◌≡◌, ◌↔◌, ◌<◌, ◌≤◌, ◌≤ℤ◌, ◌^◌, ◌==◌, IfNone, IfSome, IsTrue};
+ghost use Rattle.std.specs.Prelude.{Some, None, pos, negsuc, true};
 ghost use Rattle.std.specs.Str.{chars};
 ghost use Rattle.haya_time.specs.DateCalendar.{is_month};
 ghost use Rattle.haya_time.specs.DateForms.{calendar_year, with_sign, date_with};
 ghost use Rattle.haya_time.specs.DateReadBack.{ReadsBack};
-ghost use Rattle.haya_time.specs.DateReading.{number_of, number_at, mark_at, sign_at, opening_at, part_at, date_at_end, with_day, with_month, date_read};
-ghost use Rattle.haya_time.specs.DateSteps.{number_view, number_with_rest, opening_view, with_digit, with_digits};
+ghost use Rattle.haya_time.specs.DateReading.{number_of, number_at, mark_at, sign_at, opening_at};
+ghost use Rattle.haya_time.specs.DateReading.{part_at, date_at_end, with_day, with_month};
+ghost use Rattle.haya_time.specs.DateReading.{date_read};
+ghost use Rattle.haya_time.specs.DateSteps.{number_view, number_with_rest, opening_view};
+ghost use Rattle.haya_time.specs.DateSteps.{with_digit, with_digits};
 ghost use Rattle.haya_time.specs.DateText.{run, behind_run};
 
 use super::calendar::{has_day, is_month, is_on_calendar};

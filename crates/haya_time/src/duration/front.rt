@@ -1,11 +1,14 @@
 //! The duration at the front of a text.
-ghost use Rattle.std.specs.Prelude.{◌≡◌, ◌<◌, ◌^◌, nat_lt, if◌then◌else◌, ℕ, Some, None, true, IfSome, MatchOption, length, option_map};
+ghost use Rattle.std.specs.Prelude.{◌≡◌, ◌<◌, ◌^◌, nat_lt, if◌then◌else◌, ℕ, Some, None, true};
+ghost use Rattle.std.specs.Prelude.{IfSome, MatchOption, length, option_map};
 ghost use Rattle.std.specs.Char.{is_ascii_digit};
 ghost use Rattle.std.specs.List.{list_all};
 ghost use Rattle.std.specs.Str.{chars};
 ghost use Rattle.haya_time.specs.DurationFront.{Takes};
 ghost use Rattle.haya_time.specs.DurationText.{number};
-ghost use Rattle.haya_time.specs.DurationReading.{clock_at, days_at, front_at, hours_at, is_ended, is_start, long_at, minutes_at, two_at, two_colon_at, check_bounds};
+ghost use Rattle.haya_time.specs.DurationReading.{clock_at, days_at, front_at, hours_at, is_ended};
+ghost use Rattle.haya_time.specs.DurationReading.{is_start, long_at, minutes_at, two_at};
+ghost use Rattle.haya_time.specs.DurationReading.{two_colon_at, check_bounds};
 ghost use Rattle.haya_time.specs.DurationValues.{is_too_large, milliseconds};
 
 use super::scan::{count_colons, is_at_end, skip_space, take_digits, take_sign};

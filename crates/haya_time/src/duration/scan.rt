@@ -1,9 +1,11 @@
 //! Numbers and signs at the front of a text.
-ghost use Rattle.std.specs.Prelude.{◌≡◌, ◌+◌, ◌≤◌, ◌==◌, ◌++◌, ◌∷◌, [], List, ℕ, Some, None, true, IfNone, IfSome, MatchOption, length};
+ghost use Rattle.std.specs.Prelude.{◌≡◌, ◌+◌, ◌≤◌, ◌==◌, ◌++◌, ◌∷◌, [], List, ℕ, Some, None, true};
+ghost use Rattle.std.specs.Prelude.{IfNone, IfSome, MatchOption, length};
 ghost use Rattle.std.specs.Char.{encode_utf8, is_ascii_digit};
 ghost use Rattle.std.specs.List.{list_all};
 ghost use Rattle.std.specs.Str.{chars, skip_leading_whitespace};
-ghost use Rattle.haya_time.specs.DurationText.{behind_run, colons, hyphen, is_empty, is_numeric, run, begins_with};
+ghost use Rattle.haya_time.specs.DurationText.{behind_run, colons, hyphen, is_empty, is_numeric};
+ghost use Rattle.haya_time.specs.DurationText.{run, begins_with};
 ghost use Rattle.haya_time.specs.DurationReading.{sign_tail, digits_at};
 
 use unicode::properties::GeneralCategory;

@@ -73,6 +73,3 @@ impl Selector {
         compiled.bound(alloc, entry, name)
     }
 }
-
-#[cfg(test)]
-mod tests;

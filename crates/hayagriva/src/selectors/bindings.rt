@@ -1,5 +1,6 @@
 //! The names that an evaluation has bound so far.
-ghost use Rattle.std.specs.Prelude.{◌≡◌, ◌<◌, ◌≤◌, ℕ, All, List, [], ◌∷◌, ◌++◌, Some, IfOk, OnOk, length, map, option_map, take};
+ghost use Rattle.std.specs.Prelude.{◌≡◌, ◌<◌, ◌≤◌, ℕ, All, List, [], ◌∷◌, ◌++◌, Some, IfOk, OnOk};
+ghost use Rattle.std.specs.Prelude.{length, map, option_map, take};
 ghost use Rattle.std.specs.Coded.{codes};
 ghost use Rattle.std.specs.HashMap.{get_by_text};
 ghost use Rattle.haya_entry.specs.contracts.entry.Entry as the_entry;

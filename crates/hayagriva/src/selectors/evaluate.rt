@@ -4,11 +4,15 @@ ghost use Rattle.std.specs.Prelude.{◌≡◌, ◌<◌, ◌≤◌, [], IfOk, OnS
 ghost use Rattle.std.specs.Bool.{OnTrue};
 ghost use Rattle.haya_entry.specs.Tree.{view};
 ghost use Rattle.hayagriva.specs.Compiled.{above};
-ghost use Rattle.hayagriva.specs.Binds.{binds, binds_on, each_binds, first_binds, first_binds_on, pairs_at_first, pairs_at};
-ghost use Rattle.hayagriva.specs.Calls.{calls, calls_on, first_calls, first_calls_on, free_calls, greedy_calls};
+ghost use Rattle.hayagriva.specs.Binds.{binds, binds_on, each_binds, first_binds, first_binds_on};
+ghost use Rattle.hayagriva.specs.Binds.{pairs_at_first, pairs_at};
+ghost use Rattle.hayagriva.specs.Calls.{calls, calls_on, first_calls, first_calls_on, free_calls};
+ghost use Rattle.hayagriva.specs.Calls.{greedy_calls};
 ghost use Rattle.hayagriva.specs.Candidates.{GivesCandidates, candidate_places};
-ghost use Rattle.hayagriva.specs.Evaluation.{AddsAt, AddsAtIf, AddsOn, AddsOnFor, AddsOnIf, KeepsFound, Ticks, views};
-ghost use Rattle.hayagriva.specs.Holds.{holds, some_holds, candidates, first_candidates, first_place as alone, greedy, least_free};
+ghost use Rattle.hayagriva.specs.Evaluation.{AddsAt, AddsAtIf, AddsOn, AddsOnFor, AddsOnIf};
+ghost use Rattle.hayagriva.specs.Evaluation.{KeepsFound, Ticks, views};
+ghost use Rattle.hayagriva.specs.Holds.{holds, some_holds, candidates, first_candidates};
+ghost use Rattle.hayagriva.specs.Holds.{first_place as alone, greedy, least_free};
 ghost use Rattle.hayagriva.specs.Places.{items_up_to};
 ghost use Rattle.hayagriva.specs.Nodes.{members_at, node_count, slot_names, syntax_at};
 

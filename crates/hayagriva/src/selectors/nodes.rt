@@ -22,7 +22,8 @@ pub(crate) struct Nodes {
 }
 
 impl Nodes {
-    ghost use Rattle.hayagriva.specs.Nodes.{Adds, AddsNames, Keeps, NamesSlot, node_count, slot_names, syntax_at};
+    ghost use Rattle.hayagriva.specs.Nodes.{Adds, AddsNames, Keeps, NamesSlot, node_count};
+    ghost use Rattle.hayagriva.specs.Nodes.{slot_names, syntax_at};
 
     // No nodes.
     pub(crate) fn new(alloc: Global) -> Nodes

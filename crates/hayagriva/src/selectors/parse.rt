@@ -1,6 +1,7 @@
 //! Reads a selector: a function for each form.
 ghost use Rattle.std.specs.Prelude.{◌≡◌, ◌≤◌, ◌∷◌, length};
-ghost use Rattle.hayagriva.specs.Grammar.{ValueForm, FactorForm, AttributesForm, BindingForm, TermForm, ExprForm};
+ghost use Rattle.hayagriva.specs.Grammar.{ValueForm, FactorForm, AttributesForm, BindingForm};
+ghost use Rattle.hayagriva.specs.Grammar.{TermForm, ExprForm};
 ghost use Rattle.hayagriva.specs.Parser.{Gives, GivesNames, GivesRun};
 ghost use Rattle.hayagriva.specs.Syntax.{syntax};
 ghost use Rattle.hayagriva.specs.Token.{Word};
@@ -10,9 +11,6 @@ use super::{Selector, SelectorError};
 use haya_entry::{EntryType, UnknownType};
 use std::alloc::Global;
 use std::str::FromStr;
-
-#[cfg(test)]
-mod tests;
 
 // Terms with `>` between.
 #[cycle(parser)]

@@ -3,13 +3,14 @@ ghost use Rattle.std.specs.Prelude.{◌≡◌, ◌∷◌, [], MatchOption, Match
 ghost use Rattle.std.specs.Str.{chars};
 ghost use Rattle.hayagriva.specs.Cut.{sign_of, token};
 ghost use Rattle.hayagriva.specs.declared.selectors.token.Sign.TheVariants.{Colon};
-ghost use Rattle.hayagriva.specs.Token.{AreTokens, BeginsNot, BeginsNoName, BeginsNoWord, SignToken, Word, in_word, starts_word};
+ghost use Rattle.hayagriva.specs.Token.{AreTokens, BeginsNot, BeginsNoName, BeginsNoWord};
+ghost use Rattle.hayagriva.specs.Token.{SignToken, Word, in_word, starts_word};
 
 use haya_text::cursor::Cursor;
 use std::marker::Model;
 
 // A character that is a token by itself.
-#[derive(Clone, Copy, Debug, PartialEq, Eq)]
+#[derive(Clone, Copy, PartialEq, Eq)]
 pub(crate) enum Sign {
     LeftBracket,
     RightBracket,
@@ -25,7 +26,7 @@ pub(crate) enum Sign {
 }
 
 // A token, where it stands in the text.
-#[derive(Clone, Copy, Debug, PartialEq, Eq)]
+#[derive(Clone, Copy, PartialEq, Eq)]
 pub(crate) enum Lexeme<'a> {
     Sign(Sign),
     // An identifier.
@@ -160,42 +161,5 @@ fn sign_of(c: char) -> Option<Sign>
         '&' => Some(Sign::Ampersand),
         '!' => Some(Sign::ExclamationMark),
         _ => None,
-    }
-}
-
-#[cfg(test)]
-mod tests {
-    use super::Tokens;
-    use std::fmt::Write;
-    use std::process::Abort;
-
-    // Whether these are the tokens of the text, a blank behind each.
-    fn is_cut(rt: &(impl Abort + AllocGlobal), text: &str, wanted: &str) -> bool {
-        let mut shown = String::new(rt.alloc());
-        let mut tokens = Tokens::new(text);
-        for _ in text.chars() {
-            if let Some(token) = tokens.next() {
-                write!(shown, "{token:?} ").expect(rt, "memory");
-            }
-        }
-        shown.as_str() == wanted
-    }
-
-    const CUTS: &[(&str, &str)] = &[
-        (
-            "g5:(Blog | Misc)",
-            "Word(\"g5\") Sign(Colon) Sign(LeftParen) Word(\"Blog\") Sign(Pipe) Word(\"Misc\") Sign(RightParen) ",
-        ),
-        (
-            "alpha:!* > (a & b)",
-            "Word(\"alpha\") Sign(Colon) Sign(ExclamationMark) Sign(Star) Sign(Chevron) Sign(LeftParen) Word(\"a\") Sign(Ampersand) Word(\"b\") Sign(RightParen) ",
-        ),
-    ];
-
-    #[test]
-    fn cuts(rt: HostRuntime) {
-        for (text, wanted) in CUTS {
-            assert!(rt; is_cut(&rt, *text, *wanted), "{text}");
-        }
     }
 }

@@ -1,8 +1,8 @@
 //! Works of literature for tests: short ways to make entries, and selectors to ask of them. An
 //! allocation that fails ends a test, and what a test owns is dropped by a call: so no test has a
 //! path on which it has to drop entries, which is expensive to prove.
-use crate::Selector;
-use haya_entry::{Entry, EntryType};
+use hayagriva::types::EntryType;
+use hayagriva::{Entry, Selector};
 use std::process::Abort;
 
 pub(crate) fn string(rt: &(impl Abort + AllocGlobal), text: &str) -> String {

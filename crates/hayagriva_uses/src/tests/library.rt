@@ -1,8 +1,8 @@
 //! Libraries at worked rows. What loops holds a library by reference alone.
-use super::*;
-use crate::works;
-use haya_entry::EntryType;
-use haya_entry::EntryType::{Blog, Book, Web};
+use super::works;
+use hayagriva::types::EntryType;
+use hayagriva::types::EntryType::{Blog, Book, Web};
+use hayagriva::{Entry, Library};
 use std::process::Abort;
 
 type Row<'a> = (&'a str, EntryType);

@@ -1,7 +1,7 @@
 //! Selectors at worked entries. What loops holds an entry by reference alone.
-use crate::works::{below, english, entry, selector, string};
-use crate::{BoundSelect, Selector};
-use haya_entry::{Entry, EntryType, Steps};
+use super::works::{below, english, entry, selector, string};
+use hayagriva::types::EntryType;
+use hayagriva::{BoundSelect, Entry, Selector, Steps};
 use std::process::Abort;
 
 #[derive(Clone, Copy)]

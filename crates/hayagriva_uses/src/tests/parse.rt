@@ -1,5 +1,5 @@
 //! Texts of selectors at worked rows.
-use super::*;
+use hayagriva::Selector;
 use std::process::Abort;
 
 // Whether the text reads so.
@@ -71,6 +71,14 @@ fn lists_and_rests(rt: HostRuntime) {
 
 // Selectors with `|`, `&` and `>`.
 const RUNS_AND_CHAINS: &[Row] = &[
+    (
+        "g5:(Blog | Misc)",
+        "Ok(Binding(\"g5\", Alt([Entry(Blog), Entry(Misc)])))",
+    ),
+    (
+        "alpha:!* > (web & blog)",
+        "Ok(Ancestrage(Binding(\"alpha\", Neg(Wildcard)), Multi([Entry(Web), Entry(Blog)])))",
+    ),
     (
         "article[doi] > periodical",
         "Ok(Ancestrage(Attr(Entry(Article), [\"doi\"]), Entry(Periodical)))",

@@ -1,8 +1,7 @@
 //! Queries at worked rows. What loops holds a library by reference alone.
-use crate::works::{below, english, entry, string};
-use crate::{Hit, Library, Query, SelectorError};
-use haya_entry::{Entry, EntryType, Steps};
-use haya_values::QualifiedUrl;
+use super::works::{below, english, entry, string};
+use hayagriva::types::{EntryType, QualifiedUrl};
+use hayagriva::{Entry, Hit, Library, Query, SelectorError, Steps};
 use std::process::Abort;
 
 fn insert(rt: &(impl Abort + AllocGlobal), library: &mut Library, entry: Entry) {
