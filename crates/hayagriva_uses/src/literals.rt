@@ -1,4 +1,5 @@
-//! A proved call for each form of selector. What each ensures speaks of entries alone: their types, names and parents.
+//! A proved call for each form of selector. What each ensures speaks of entries alone: their types,
+//! names and parents.
 ghost use Rattle.std.specs.Prelude.{◌≡◌, ◌&&◌, ◌||◌, All, IfOk, IsOkUnless, Some, codes, filter};
 ghost use Rattle.std.specs.Prelude.{find, map, not, true};
 ghost use Rattle.std.specs.List.{list_any};

@@ -1,5 +1,5 @@
-//! Asks a library of four works by selectors that stand in the code, each with a contract in words of entries, and by
-//! one that is only known when it runs.
+//! Asks a library of three works by selectors that stand in the code, each with a contract in words
+//! of entries, and by one that is only known when it runs.
 #![tactic(auto)]
 
 mod literals;
@@ -44,7 +44,8 @@ fn print_parent(rt: &impl Print, entry: &Entry, parent: Option<&Entry>) -> anyho
     Ok(())
 }
 
-// Prints a line for each entry where the selector holds, with the entry that is called `name` there.
+// Prints a line for each entry where the selector holds, with the entry that is called `name`
+// there.
 fn print_bound(
     rt: &impl Print,
     alloc: Global,

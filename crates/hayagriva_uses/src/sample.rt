@@ -1,5 +1,6 @@
-//! A small library: an article in a journal on a web site, an article on a blog, and a note without parents.
-//! Each function owns few entries where a call may fail: every path that drops one is proved.
+//! A small library: an article in a journal on a web site, an article on a blog, and a note without
+//! parents. Each function owns few entries where a call may fail: every path that drops one is
+//! proved.
 use hayagriva::types::{EntryType, FormatString};
 use hayagriva::{Entry, Library};
 use std::alloc::Global;
