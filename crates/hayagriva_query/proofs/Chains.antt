@@ -5,7 +5,8 @@ use Rattle.std.proofs.lemmas.List.{map-append, length-map}
 use Rattle.std.proofs.lemmas.List.Sums.{fold-append}
 use Rattle.hayagriva.specs.Library.{push}
 use Rattle.hayagriva.specs.Tree.{Tree, Trees, Fields, node, trees, tree_list, no_trees, one_more}
-use Rattle.hayagriva_query.specs.Input.{Row, leaf, rows_of, rows_of_all}
+use Rattle.haya_lines.specs.Line.{Row, leaf}
+use Rattle.hayagriva_query.specs.Input.{rows_of, rows_of_all}
 use Rattle.hayagriva_query.specs.Chain.{HoldsRows, chain_rows, with_parent}
 
 rows_of_all-append : (d : ℕ) (ts us : List Tree) → rows_of_all d (trees (ts ++ us)) ≡ rows_of_all d (trees ts) ++ rows_of_all d (trees us)

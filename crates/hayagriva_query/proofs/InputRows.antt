@@ -4,8 +4,9 @@ use Rattle.std.specs.Prelude.{codes}
 use Rattle.std.specs.Str.Lines.{lines}
 use Rattle.hayagriva.specs.declared.types.EntryType.TheVariants.{Article, Blog, Book, Periodical, Web}
 use Rattle.hayagriva.specs.Tree.{Tree, new_entry, with_fields, with_parents, with_keyed_serial_number}
-use Rattle.hayagriva_query.specs.declared.fault.LineFault.TheVariants.{Shape, Depth, UnknownType, UnknownField}
-use Rattle.hayagriva_query.specs.Input.{Describes, depth_read, name_and_value, rows_read}
+use Rattle.haya_lines.specs.declared.fault.LineFault.TheVariants.{Shape, Depth, UnknownType, UnknownField}
+use Rattle.haya_lines.specs.Line.{depth_read, name_and_value}
+use Rattle.hayagriva_query.specs.Input.{Describes, rows_read}
 
 abbrev in_english : Tree → Tree
 in_english = with_fields (λ f. record f { language = Some (codes "en") })

@@ -1,7 +1,3 @@
-mod Depths
-mod FieldRows
-mod FieldsRead
-mod Rows
 mod Chains
 mod Faults
 mod Progress

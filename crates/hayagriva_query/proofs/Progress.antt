@@ -6,9 +6,10 @@ use Rattle.std.proofs.lemmas.List.{drop_all, drop_more, length-map}
 use Rattle.hayagriva.specs.Tree.{Tree, trees}
 use Rattle.hayagriva_query.specs.declared.fault.Fault.{Fault}
 use Rattle.hayagriva_query.specs.declared.fault.Fault.TheVariants.{Line, OutOfMemory}
-use Rattle.hayagriva_query.specs.declared.fault.LineFault.{LineFault}
-use Rattle.hayagriva_query.specs.FieldTable.{and_then}
-use Rattle.hayagriva_query.specs.Input.{Row, Describes, items, row_read, rows_read, rows_of_all}
+use Rattle.haya_lines.specs.declared.fault.LineFault.{LineFault}
+use Rattle.haya_lines.specs.FieldTable.{and_then}
+use Rattle.haya_lines.specs.Line.{Row, items, row_read}
+use Rattle.hayagriva_query.specs.Input.{Describes, rows_read, rows_of_all}
 use Rattle.hayagriva_query.specs.Chain.{HoldsRows, chain_rows}
 
 -- after so many lines, what all lines read as is the rows so far, and then what the other lines

@@ -4,7 +4,8 @@ use Rattle.std.specs.declared.alloc.Global.{Global}
 use Rattle.hayagriva.specs.Library.{from_entries}
 use Rattle.hayagriva.specs.Tree.{Tree, node, trees, tree_list, view}
 use Rattle.hayagriva.specs.declared.Entry.{Entry}
-use Rattle.hayagriva_query.specs.Input.{Row, rows_of, rows_of_all}
+use Rattle.haya_lines.specs.Line.{Row}
+use Rattle.hayagriva_query.specs.Input.{rows_of, rows_of_all}
 
 -- entries at a depth and below, each the next parent of the one before it, as rows
 abbrev pub chain_rows : ℕ → List Tree → List Row

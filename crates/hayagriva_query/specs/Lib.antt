@@ -1,7 +1,5 @@
 pub mod Chain
-pub mod FieldTable
 pub mod Input
-pub mod LineReading
+pub mod TextReading
 pub mod Output
-pub mod Signs
 pub mod Words

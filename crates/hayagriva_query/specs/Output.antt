@@ -18,10 +18,10 @@ use Rattle.hayagriva.specs.Syntax.{Syntax}
 use Rattle.hayagriva.specs.Tree.{Tree, view}
 use Rattle.hayagriva.specs.declared.query.Hit.{Hit}
 use Rattle.hayagriva_query.specs.Input.{Describes, rows_read}
-use Rattle.hayagriva_query.specs.Signs.{tab, equals_sign, line_feed}
+use Rattle.haya_lines.specs.Signs.{tab, equals_sign, line_feed}
 use Rattle.hayagriva_query.specs.declared.fault.Fault.{Fault as RunFault}
 use Rattle.hayagriva_query.specs.declared.fault.Fault.TheVariants.{CannotWrite}
-use Rattle.hayagriva_query.specs.declared.fault.LineFault.{LineFault}
+use Rattle.haya_lines.specs.declared.fault.LineFault.{LineFault}
 
 -- a tab, a name, `=` and a key
 abbrev pub binding_text : List ℕ × List ℕ → List ℕ

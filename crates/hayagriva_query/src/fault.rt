@@ -2,32 +2,10 @@
 ghost use Rattle.std.specs.Prelude.{◌≡◌, ◌≢◌};
 ghost use Rattle.hayagriva_query.specs.declared.fault.Fault.TheVariants.{Usage, Line};
 
+use haya_lines::LineFault;
 use hayagriva::{OutOfMemory, SelectorError};
 use std::alloc::{AllocError, AllocFailed};
 use thiserror::Error;
-
-/// What is wrong with a line of the input.
-#[derive(Clone, Copy, Debug, PartialEq, Eq, Error)]
-pub enum LineFault {
-    /// Fewer than three items, a field without `=`, or a role and a person without `:`.
-    #[error("shape")]
-    Shape,
-    /// No depth of 0 to 500, or one that is no place for an entry.
-    #[error("depth")]
-    Depth,
-    /// The name of no type.
-    #[error("type")]
-    UnknownType,
-    /// The name of no field.
-    #[error("field")]
-    UnknownField,
-    /// A value that isn't read as its field's type.
-    #[error("value")]
-    RefusedValue,
-    /// An allocation failed, which says nothing of the line.
-    #[error("out of memory")]
-    OutOfMemory,
-}
 
 /// Why the program prints no hits, or not all of them.
 #[derive(Debug, Drop, PartialEq, Eq, Error)]
@@ -121,35 +99,5 @@ impl<T: Drop> From<AllocFailed<T>> for Fault {
 
     fn from(_error: AllocFailed<T>) -> Fault {
         Fault::OutOfMemory
-    }
-}
-
-impl From<OutOfMemory> for LineFault {
-    ghost use Rattle.hayagriva_query.specs.declared.fault.LineFault.TheVariants.{OutOfMemory};
-
-    ghost from_gives = { λ _ e. e ≡ OutOfMemory };
-
-    fn from(_error: OutOfMemory) -> LineFault {
-        LineFault::OutOfMemory
-    }
-}
-
-impl From<AllocError> for LineFault {
-    ghost use Rattle.hayagriva_query.specs.declared.fault.LineFault.TheVariants.{OutOfMemory};
-
-    ghost from_gives = { λ _ e. e ≡ OutOfMemory };
-
-    fn from(_error: AllocError) -> LineFault {
-        LineFault::OutOfMemory
-    }
-}
-
-impl<T: Drop> From<AllocFailed<T>> for LineFault {
-    ghost use Rattle.hayagriva_query.specs.declared.fault.LineFault.TheVariants.{OutOfMemory};
-
-    ghost from_gives = { λ _ e. e ≡ OutOfMemory };
-
-    fn from(_error: AllocFailed<T>) -> LineFault {
-        LineFault::OutOfMemory
     }
 }

@@ -5,11 +5,12 @@ ghost use Rattle.std.specs.Str.Lines.{lines};
 ghost use Rattle.hayagriva.specs.Tree.{view};
 ghost use Rattle.hayagriva_query.specs.declared.fault.Fault.TheVariants.{OutOfMemory};
 ghost use Rattle.hayagriva_query.specs.Chain.{AddsRow, KeepsRows, chain_view, with_parent};
-ghost use Rattle.hayagriva_query.specs.Input.{items, row_read, rows_read, Describes};
-ghost use Rattle.hayagriva_query.specs.LineReading.{FaultInLine, FaultInText};
+ghost use Rattle.haya_lines.specs.Line.{items, row_read};
+ghost use Rattle.hayagriva_query.specs.Input.{rows_read, Describes};
+ghost use Rattle.hayagriva_query.specs.TextReading.{FaultInLine, FaultInText};
 
 use crate::fault::Fault;
-use crate::line::read_line;
+use haya_lines::read_line;
 use hayagriva::{Entry, Library};
 use std::alloc::Global;
 
@@ -123,6 +124,7 @@ fn trim(entry: &mut Entry)
     entry.parents.shrink_to_fit();
     shrink(&mut entry.authors);
     shrink(&mut entry.editors);
+    shrink(&mut entry.affiliated);
 }
 
 // Gives back the room that the list doesn't need.

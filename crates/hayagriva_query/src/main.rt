@@ -3,9 +3,7 @@
 
 mod arguments;
 mod fault;
-mod field;
 mod library_text;
-mod line;
 mod printing;
 mod reading;
 mod running;

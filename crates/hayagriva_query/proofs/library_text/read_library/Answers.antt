@@ -7,7 +7,8 @@ use Rattle.std.proofs.lemmas.Iterator.Splits.{YieldsList-from_lines}
 use Rattle.std.proofs.lemmas.Result.{IfOk-weaker, err_from_is_err_and}
 use Rattle.hayagriva.specs.Tree.{view}
 use Rattle.hayagriva_query.specs.Chain.{HoldsRows}
-use Rattle.hayagriva_query.specs.Input.{Describes, Row}
+use Rattle.haya_lines.specs.Line.{Row}
+use Rattle.hayagriva_query.specs.Input.{Describes}
 use Rattle.hayagriva_query.proofs.Progress.{Progress-start, Progress-empty, Progress-line, Progress-line_fault, Progress-end}
 use Rattle.hayagriva_query.proofs.library_text.read_library.Goals as goal
 

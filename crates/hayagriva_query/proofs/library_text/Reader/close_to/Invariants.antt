@@ -1,7 +1,7 @@
 use Rattle.std.proofs.Common.{◌≡◌, List, length, map, min, vec_len}
 use Rattle.hayagriva.specs.Tree.{view}
 use Rattle.hayagriva_query.specs.Chain.{HoldsRows}
-use Rattle.hayagriva_query.specs.Input.{Row}
+use Rattle.haya_lines.specs.Line.{Row}
 use Rattle.hayagriva_query.proofs.library_text.Reader.close_to.Given as goal
 
 abbrev pub invariant-closing : goal.invariant-closing

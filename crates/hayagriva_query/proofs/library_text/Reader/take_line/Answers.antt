@@ -1,9 +1,9 @@
 use Rattle.std.proofs.Common.{rules, ◌≡◌, ◌+◌, ◌++◌, ◌∷◌, [], List, length, map}
 use Rattle.hayagriva.specs.Tree.{view}
 use Rattle.hayagriva_query.specs.Chain.{HoldsRows}
-use Rattle.hayagriva_query.specs.Input.{Row, items}
+use Rattle.haya_lines.specs.Line.{Row, items}
 use Rattle.hayagriva_query.proofs.Chains.{push-leaf}
-use Rattle.hayagriva_query.proofs.Rows.{row_taken}
+use Rattle.haya_lines.proofs.Rows.{row_taken}
 use Rattle.hayagriva_query.proofs.library_text.Reader.take_line.Goals as goal
 
 pub returns-in_ok-push-in-Ok-clause-depth : goal.returns-in_ok-push-in-Ok-clause-depth

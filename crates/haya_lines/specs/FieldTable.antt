@@ -1,29 +1,29 @@
--- The fields of the program's input: each name, what its values read as, and what they change.
+-- The fields of a line: each name, what its values read as, and what they change.
 use Rattle.std.specs.Prelude.{ℕ, ◌+◌, ◌==◌, List, [], ◌∷◌, ◌++◌, take, drop, position, Option, Some, option_map, ok_or, unwrap_or, Result, Ok, Err, codes}
 use Rattle.std.specs.Map.{lookup}
 use Rattle.std.specs.Result.{result_ok}
 use Rattle.std.specs.Str.{bytes_eq, chars}
-use Rattle.hayagriva.specs.DateReading.{date_read}
-use Rattle.hayagriva.specs.DurationReading.{duration_read, range_read}
-use Rattle.hayagriva.specs.MaybeTyped.{TypedOrText, typed_or_text}
-use Rattle.hayagriva.specs.Numeric.{NumericView}
-use Rattle.hayagriva.specs.NumericReading.{numeric_read}
-use Rattle.hayagriva.specs.Pages.{PartView}
-use Rattle.hayagriva.specs.PagesReading.{pages_read}
-use Rattle.hayagriva.specs.Person.{PersonView}
-use Rattle.hayagriva.specs.PersonReading.{person_read}
-use Rattle.hayagriva.specs.Publisher.{PublisherView, publisher_read}
-use Rattle.hayagriva.specs.Roles.{RoleView, RolesView, role_read, role_view}
-use Rattle.hayagriva.specs.SerialNumber.{with_serial}
-use Rattle.hayagriva.specs.Texts.{TextView, text_read}
-use Rattle.hayagriva.specs.Tree.{Fields}
-use Rattle.hayagriva.specs.Url.{UrlView, undated}
-use Rattle.hayagriva.specs.declared.types.Date.{Date}
-use Rattle.hayagriva.specs.declared.types.Duration.{Duration}
-use Rattle.hayagriva.specs.declared.types.DurationRange.{DurationRange}
-use Rattle.hayagriva_query.specs.Signs.{colon}
-use Rattle.hayagriva_query.specs.declared.fault.LineFault.{LineFault}
-use Rattle.hayagriva_query.specs.declared.fault.LineFault.TheVariants.{Shape, UnknownField, RefusedValue}
+use Rattle.haya_time.specs.DateReading.{date_read}
+use Rattle.haya_time.specs.DurationReading.{duration_read, range_read}
+use Rattle.haya_values.specs.MaybeTyped.{TypedOrText, typed_or_text}
+use Rattle.haya_numbers.specs.Numeric.{NumericView}
+use Rattle.haya_numbers.specs.NumericReading.{numeric_read}
+use Rattle.haya_numbers.specs.Pages.{PartView}
+use Rattle.haya_numbers.specs.PagesReading.{pages_read}
+use Rattle.haya_people.specs.Person.{PersonView}
+use Rattle.haya_people.specs.Reading.{person_read}
+use Rattle.haya_values.specs.Publisher.{PublisherView, publisher_read}
+use Rattle.haya_people.specs.Roles.{RoleView, RolesView, role_read, role_view}
+use Rattle.haya_entry.specs.SerialNumber.{with_serial}
+use Rattle.haya_text.specs.Texts.{TextView, text_read}
+use Rattle.haya_entry.specs.Tree.{Fields}
+use Rattle.haya_values.specs.Url.{UrlView, undated}
+use Rattle.haya_time.specs.declared.date.Date.{Date}
+use Rattle.haya_time.specs.declared.duration.Duration.{Duration}
+use Rattle.haya_time.specs.declared.duration.range.DurationRange.{DurationRange}
+use Rattle.haya_lines.specs.Signs.{colon}
+use Rattle.haya_lines.specs.declared.fault.LineFault.{LineFault}
+use Rattle.haya_lines.specs.declared.fault.LineFault.TheVariants.{Shape, UnknownField, RefusedValue}
 
 -- what follows from a value, or the fault
 abbrev pub and_then : {T U E : Type 0} → Result T E → (T → Result U E) → Result U E

@@ -2,12 +2,12 @@
 use Rattle.std.proofs.Common.{◌≡◌, [], ◌∷◌, Some, Ok, Err, refl}
 use Rattle.std.specs.Prelude.{codes}
 use Rattle.std.specs.Str.{chars}
-use Rattle.hayagriva.specs.declared.types.EntryType.TheVariants.{Book}
-use Rattle.hayagriva.specs.Person.{PersonView}
-use Rattle.hayagriva.specs.Roles.{role_named}
-use Rattle.hayagriva.specs.Tree.{Fields, no_fields}
-use Rattle.hayagriva_query.specs.declared.fault.LineFault.TheVariants.{Shape, UnknownField, RefusedValue}
-use Rattle.hayagriva_query.specs.FieldTable.{and_then, person_of, with_field}
+use Rattle.haya_entry.specs.declared.types.EntryType.TheVariants.{Book}
+use Rattle.haya_people.specs.Person.{PersonView}
+use Rattle.haya_people.specs.Roles.{role_named}
+use Rattle.haya_entry.specs.Tree.{Fields, no_fields}
+use Rattle.haya_lines.specs.declared.fault.LineFault.TheVariants.{Shape, UnknownField, RefusedValue}
+use Rattle.haya_lines.specs.FieldTable.{and_then, person_of, with_field}
 
 abbrev bare : Fields
 bare = no_fields (codes "x") Book

@@ -1,7 +1,7 @@
 use Rattle.std.proofs.Common.{rules}
-use Rattle.hayagriva.specs.Tree.{view}
-use Rattle.hayagriva_query.proofs.FieldsRead.{Left-more}
-use Rattle.hayagriva_query.proofs.line.read_fields.Goals as goal
+use Rattle.haya_entry.specs.Tree.{view}
+use Rattle.haya_lines.proofs.FieldsRead.{Left-more}
+use Rattle.haya_lines.proofs.line.read_fields.Goals as goal
 
 pub items-preserved : goal.items-preserved
 items-preserved c =

@@ -1,9 +1,9 @@
 use Rattle.std.proofs.Common.{sym, ap, ◌∙◌}
 use Rattle.std.specs.Result.{result_ok}
-use Rattle.hayagriva.specs.Tree.{view}
+use Rattle.haya_entry.specs.Tree.{view}
 use Rattle.std.proofs.lemmas.Result.{err_from_is_err_and}
-use Rattle.hayagriva_query.proofs.Rows.{row_read-ok, row_read-err}
-use Rattle.hayagriva_query.proofs.line.read_items.Goals as goal
+use Rattle.haya_lines.proofs.Rows.{row_read-ok, row_read-err}
+use Rattle.haya_lines.proofs.line.read_items.Goals as goal
 
 pub returns-clause-row : goal.returns-clause-row
 returns-clause-row c =

@@ -1,21 +1,26 @@
-//! One line of the input: a depth, a key, a type, and fields `name=value`, with a tab between two.
+//! One line: a depth, a key, a type, and fields `name=value`, with a tab between two.
 ghost use Rattle.std.specs.Prelude.{◌≡◌, map, IfOk, IfErr, OnOk};
 ghost use Rattle.std.specs.Char.{is_ascii_digit};
 ghost use Rattle.std.specs.List.{list_all};
-ghost use Rattle.hayagriva.specs.Tree.{view, fields};
-ghost use Rattle.hayagriva_query.specs.Input.{items, depth_read, field_read, fields_read, row_read};
-ghost use Rattle.hayagriva_query.specs.LineReading.{FaultOf, IsRow, SetsFields};
+ghost use Rattle.haya_entry.specs.Tree.{view, fields};
+ghost use Rattle.haya_lines.specs.Line.{items, depth_read, field_read, fields_read, row_read};
+ghost use Rattle.haya_lines.specs.LineReading.{FaultOf, IsRow, SetsFields};
 
 use crate::fault::LineFault;
 use crate::field::set_field;
-use hayagriva::Entry;
-use hayagriva::types::EntryType;
+use haya_entry::{Entry, EntryType};
 use std::alloc::{AllocError, Global};
 
 // How deep an entry may stand.
 const MAX_DEPTH: usize = 500;
 
-/// The entry of a line, without its parents, and its depth, where that is at most `deepest`.
+/// The entry of a line, without its parents, and its depth, where that is at most `deepest`: up to
+/// three digits, a key, the name of a type, and any number of fields `name=value`, with a tab
+/// between two. Fails with the first fault that the line has, or out of memory.
+///
+/// ```
+/// let (depth, entry) = read_line(alloc, "0\tx\tbook\tdoi=10.1/x\tauthor=Doe, Jane", 0)?;
+/// ```
 pub fn read_line(alloc: Global, line: &str, deepest: usize) -> Result<(usize, Entry), LineFault>
     ensures row { IfOk result (IsRow (row_read deepest (items line.now))) }
     ensures fault { IfErr result (FaultOf (row_read deepest (items line.now))) }

@@ -1,7 +1,7 @@
 use Rattle.std.proofs.Common.{map, drop}
-use Rattle.hayagriva.specs.Tree.{view}
-use Rattle.hayagriva_query.proofs.FieldsRead.{Left}
-use Rattle.hayagriva_query.proofs.line.read_fields.Given as goal
+use Rattle.haya_entry.specs.Tree.{view}
+use Rattle.haya_lines.proofs.FieldsRead.{Left}
+use Rattle.haya_lines.proofs.line.read_fields.Given as goal
 
 abbrev pub invariant-items : goal.invariant-items
 invariant-items l =

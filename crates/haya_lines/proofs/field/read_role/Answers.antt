@@ -1,9 +1,9 @@
 use Rattle.std.proofs.Common.{◌≡◌, Option, None, Some, Ok, ap, sym, ◌∙◌}
 use Rattle.std.specs.Prelude.{ok_or, option_map}
-use Rattle.hayagriva.specs.Roles.{role_read, role_view}
-use Rattle.hayagriva.specs.declared.types.PersonError.TheVariants.{UnknownRole}
-use Rattle.hayagriva_query.specs.declared.fault.LineFault.TheVariants.{RefusedValue}
-use Rattle.hayagriva_query.proofs.field.read_role.Goals as goal
+use Rattle.haya_people.specs.Roles.{role_read, role_view}
+use Rattle.haya_people.specs.declared.person.PersonError.TheVariants.{UnknownRole}
+use Rattle.haya_lines.specs.declared.fault.LineFault.TheVariants.{RefusedValue}
+use Rattle.haya_lines.proofs.field.read_role.Goals as goal
 
 -- what is read is read with another fault beside it too, and seen by value
 ok_or-map : {T V E D : Type 0} (view : T → V) (e : E) (d : D) (read : Option T) (x : T) → ok_or read e ≡ Ok x → ok_or (option_map view read) d ≡ Ok (view x)

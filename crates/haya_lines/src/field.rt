@@ -1,20 +1,27 @@
 //! The fields of a line: values that are read as the types of their fields are.
 ghost use Rattle.std.specs.Prelude.{◌≡◌, Err, Ok, Some, option_map, IfOk, IfErr, OnOk};
-ghost use Rattle.hayagriva.specs.Person.{person_view};
-ghost use Rattle.hayagriva.specs.Roles.{role_view, roles_view};
-ghost use Rattle.hayagriva.specs.Tree.{Sets, view, fields};
-ghost use Rattle.hayagriva_query.specs.FieldTable.{affiliated_of, date_of, ok_or_refused, role_of};
-ghost use Rattle.hayagriva_query.specs.FieldTable.{with_field, with_last, with_number};
-ghost use Rattle.hayagriva_query.specs.LineReading.{FaultOf, SetsFields};
+ghost use Rattle.haya_people.specs.Person.{person_view};
+ghost use Rattle.haya_people.specs.Roles.{role_view, roles_view};
+ghost use Rattle.haya_entry.specs.Tree.{Sets, view, fields};
+ghost use Rattle.haya_lines.specs.FieldTable.{affiliated_of, date_of, ok_or_refused, role_of};
+ghost use Rattle.haya_lines.specs.FieldTable.{with_field, with_last, with_number};
+ghost use Rattle.haya_lines.specs.LineReading.{FaultOf, SetsFields};
 
 use crate::fault::LineFault;
-use hayagriva::types::{Date, Person, PersonRole, PersonsWithRoles};
-use hayagriva::{Entry, ReadFault, ReadText};
+use haya_entry::Entry;
+use haya_people::{Person, PersonRole, PersonsWithRoles};
+use haya_text::{ReadFault, ReadText};
+use haya_time::Date;
 use std::alloc::{AllocError, Global};
 
-/// Sets the field with this name to what the value reads as. Authors, editors and affiliated people
-/// are appended; any other value takes the place of what was there.
-pub fn set_field(alloc: Global, entry: &mut Entry, name: &str, value: &str) -> Result<(), LineFault>
+// Sets the field with this name to what the value reads as. Authors, editors and affiliated people
+// are appended; any other value takes the place of what was there.
+pub(crate) fn set_field(
+    alloc: Global,
+    entry: &mut Entry,
+    name: &str,
+    value: &str,
+) -> Result<(), LineFault>
     ensures ok { OnOk result (SetsFields
         (with_field name.now value.now (fields (view entry.old))) entry.old entry.new) }
     ensures err { IfErr result (FaultOf (with_field name.now value.now (fields (view entry.old)))) }
@@ -145,6 +152,3 @@ fn set_number(alloc: Global, entry: &mut Entry, key: &str, value: &str) -> Resul
     entry.set_keyed_serial_number(key, String::from_str(alloc, value)?)?;
     Ok(())
 }
-
-#[cfg(test)]
-mod tests;

@@ -2,10 +2,10 @@
 use Rattle.std.proofs.Common.{◌≡◌, ℕ, ◌+◌, ◌<◌, List, ◌∷◌, Result, Ok, Err, length, map, drop, get_or, refl, sym, ap, ◌∙◌, subst}
 use Rattle.std.proofs.lemmas.List.{drop_more}
 use Rattle.std.specs.Prelude.{IsOkAnd}
-use Rattle.hayagriva.specs.Tree.{Tree, Fields, node, fields, with_fields}
-use Rattle.hayagriva_query.specs.declared.fault.LineFault.{LineFault}
-use Rattle.hayagriva_query.specs.FieldTable.{and_then}
-use Rattle.hayagriva_query.specs.Input.{field_read, fields_read}
+use Rattle.haya_entry.specs.Tree.{Tree, Fields, node, fields, with_fields}
+use Rattle.haya_lines.specs.declared.fault.LineFault.{LineFault}
+use Rattle.haya_lines.specs.FieldTable.{and_then}
+use Rattle.haya_lines.specs.Line.{field_read, fields_read}
 
 -- the entry has the fields f in the place of its own
 abbrev pub Has : Tree → Fields → Tree → Type 0

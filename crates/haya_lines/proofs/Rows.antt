@@ -2,13 +2,13 @@
 use Rattle.std.proofs.Common.{◌⊎◌, inl, inr, ⊎_elim, ◌≡◌, ℕ, ◌≤◌, List, ◌∷◌, Option, None, Some, Result, Ok, Err, length, map, take, drop, get_or, ◌-◌, refl, sym, ap, subst, arith, rules, tests}
 use Rattle.std.specs.Prelude.{IsOkAnd, IfOk, ok_or}
 use Rattle.std.proofs.lemmas.List.{take_all}
-use Rattle.hayagriva.specs.declared.types.EntryType.{EntryType}
-use Rattle.hayagriva.specs.EntryType.{type_read}
-use Rattle.hayagriva.specs.Tree.{Tree, Fields, fields, with_fields, new_entry}
-use Rattle.hayagriva_query.specs.declared.fault.LineFault.{LineFault}
-use Rattle.hayagriva_query.specs.declared.fault.LineFault.TheVariants.{Depth, OutOfMemory, UnknownType}
-use Rattle.hayagriva_query.specs.FieldTable.{and_then}
-use Rattle.hayagriva_query.specs.Input.{Row, leaf, depth_read, fields_read, row_read}
+use Rattle.haya_entry.specs.declared.types.EntryType.{EntryType}
+use Rattle.haya_entry.specs.EntryType.{type_read}
+use Rattle.haya_entry.specs.Tree.{Tree, Fields, fields, with_fields, new_entry}
+use Rattle.haya_lines.specs.declared.fault.LineFault.{LineFault}
+use Rattle.haya_lines.specs.declared.fault.LineFault.TheVariants.{Depth, OutOfMemory, UnknownType}
+use Rattle.haya_lines.specs.FieldTable.{and_then}
+use Rattle.haya_lines.specs.Line.{Row, leaf, depth_read, fields_read, row_read}
 
 joined : {K : Type 0} (depth : Option ℕ) (kind : Option K) (read : K → Result Fields LineFault) (n : ℕ) (k : K) (P : Fields → Type 0)
     → depth ≡ Some n → kind ≡ Some k → IsOkAnd (read k) P

@@ -1,0 +1,4 @@
+mod Depths
+mod FieldRows
+mod FieldsRead
+pub mod Rows

@@ -1,0 +1,4 @@
+pub mod Signs
+pub mod FieldTable
+pub mod Line
+pub mod LineReading

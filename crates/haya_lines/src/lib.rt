@@ -1,0 +1,10 @@
+//! Entries from lines of text: a depth, a key, a type, and fields `name=value`, with a tab between
+//! two.
+#![tactic(auto)]
+
+mod fault;
+mod field;
+mod line;
+
+pub use fault::LineFault;
+pub use line::read_line;
