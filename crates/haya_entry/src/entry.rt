@@ -193,6 +193,3 @@ impl Entry {
         }
     }
 }
-
-#[cfg(test)]
-mod tests;

@@ -236,6 +236,3 @@ impl TryClone for SerialNumber {
         self.try_clone(alloc)
     }
 }
-
-#[cfg(test)]
-mod tests;

@@ -98,6 +98,3 @@ impl ReadFault for NumericError {
         matches!(self, NumericError::OutOfMemory)
     }
 }
-
-#[cfg(test)]
-mod tests;

@@ -6,8 +6,6 @@ mod order;
 mod pieces;
 mod printing;
 mod reading;
-#[cfg(test)]
-mod tests;
 
 use crate::{Numeric, NumericError};
 use haya_text::ReadFault;

@@ -11,8 +11,6 @@ mod person;
 mod reading;
 mod role;
 mod table;
-#[cfg(test)]
-mod tests;
 
 pub use person::{Person, PersonError};
 pub use role::{PersonRole, PersonsWithRoles};

@@ -243,6 +243,3 @@ fn folded_cmp(
         _ => Ok(mine.is_some().cmp(&theirs.is_some())),
     }
 }
-
-#[cfg(test)]
-mod tests;

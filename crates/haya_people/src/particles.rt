@@ -99,6 +99,3 @@ pub(crate) fn folded(alloc: Global, text: &str) -> Result<String, OutOfMemory>
 {
     Ok(default_case_fold_str(alloc, text)?)
 }
-
-#[cfg(test)]
-pub mod tests;

@@ -168,6 +168,3 @@ impl TryClone for PersonsWithRoles {
         self.try_clone(alloc)
     }
 }
-
-#[cfg(test)]
-mod tests;

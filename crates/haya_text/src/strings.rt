@@ -13,6 +13,3 @@ pub use foldable::{FoldError, FoldableChunkedString, FoldableStringChunk};
 pub use format::{FormatString, LongShortForm};
 pub use kind::{ChunkKind, FoldableKind};
 pub use reading::{ChunkedReadError, ChunkedStrParseError};
-
-#[cfg(test)]
-mod tests;

@@ -6,8 +6,6 @@ mod number;
 mod order;
 mod print;
 mod read;
-#[cfg(test)]
-mod tests;
 mod text;
 
 use thiserror::Error;

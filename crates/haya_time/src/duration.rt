@@ -5,8 +5,6 @@ mod print;
 mod range;
 mod reading;
 mod scan;
-#[cfg(test)]
-mod tests;
 
 use haya_text::{OutOfMemory, TryClone};
 pub use range::DurationRange;

@@ -11,6 +11,3 @@ pub use maybe_typed::MaybeTyped;
 pub use one_or_many::{OneOrMany, OneOrManyIter};
 pub use publisher::Publisher;
 pub use url::QualifiedUrl;
-
-#[cfg(test)]
-mod tests;

@@ -187,6 +187,3 @@ impl Entry {
         self.map(|entry| entry.url())
     }
 }
-
-#[cfg(test)]
-mod tests;

@@ -265,6 +265,3 @@ impl Entry {
         }
     }
 }
-
-#[cfg(test)]
-mod tests;

@@ -1,4 +1,4 @@
-use Rattle.std.proofs.Common.{rules, arith}
+use Rattle.std.proofs.Common.{arith}
 use Rattle.std.proofs.lemmas.Slice.Zip.{AllZip-long}
 use Rattle.hayagriva.specs.Query.{IsHit}
 use Rattle.hayagriva_uses.proofs.hit_count.Goals as goal

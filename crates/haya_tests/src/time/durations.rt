@@ -1,7 +1,7 @@
 //! What texts read as, and what durations are printed as.
-use super::DurationError::{Malformed, TooLarge};
-use super::{Duration, DurationError, DurationRange};
 use haya_text::{ReadFault, ReadText, TryClone};
+use haya_time::DurationError::{Malformed, TooLarge};
+use haya_time::{Duration, DurationError, DurationRange};
 use std::fmt;
 use std::process::Abort;
 use std::str::FromStr;

@@ -1,7 +1,7 @@
 //! What each call gives back where there is memory. An allocation that fails ends a test, and each
 //! entry is dropped by a call: so no test has a path on which it has to drop entries, which is
 //! expensive to prove.
-use crate::{Entry, EntryType, SerialNumber};
+use haya_entry::{Entry, EntryType, SerialNumber};
 use haya_numbers::{Numeric, PageRanges};
 use haya_people::{Person, PersonRole, PersonsWithRoles};
 use haya_text::{FormatString, OutOfMemory, ReadText, TryClone};

@@ -1,5 +1,5 @@
-use crate::particles::tests::{maybe, string};
-use crate::{Person, is_sorted_table};
+use super::particles::{maybe, string};
+use haya_people::{Person, is_sorted_table};
 use haya_text::LongShortForm;
 use haya_text::LongShortForm::{Long, Short};
 use std::cmp::Ordering;

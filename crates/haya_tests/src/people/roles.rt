@@ -1,6 +1,5 @@
-use super::{PersonRole, PersonsWithRoles};
-use crate::PersonError;
-use crate::particles::tests::{named, string};
+use super::particles::{named, string};
+use haya_people::{PersonError, PersonRole, PersonsWithRoles};
 use std::process::Abort;
 use std::str::FromStr;
 

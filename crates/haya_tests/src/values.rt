@@ -1,10 +1,10 @@
 //! Worked rows, and what each call gives back where there is memory. A failed allocation ends a
 //! test, and what is owned is let go by a call: so no test has a path on which it has to drop a
 //! value.
-use super::*;
 use haya_numbers::{Numeric, PageRanges, PageRangesPart};
 use haya_text::{ChunkedReadError, FormatString, ReadText, TryClone};
 use haya_time::{Date, Duration, DurationRange};
+use haya_values::*;
 use std::borrow::CowStr;
 use std::cmp::Ordering;
 use std::fmt;

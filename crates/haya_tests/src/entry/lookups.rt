@@ -1,5 +1,5 @@
 //! Worked rows of the look-ups.
-use crate::{Entry, EntryType};
+use haya_entry::{Entry, EntryType};
 use haya_people::{Person, PersonRole, PersonsWithRoles};
 use haya_text::{FormatString, ReadText};
 use std::process::Abort;

@@ -1,4 +1,4 @@
-use crate::{Person, is_sorted_table};
+use haya_people::{Person, is_sorted_table};
 use std::borrow::CowStr;
 use std::process::Abort;
 

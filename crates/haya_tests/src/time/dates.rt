@@ -1,4 +1,4 @@
-use crate::{Date, DateError, Season};
+use haya_time::{Date, DateError, Season};
 use std::cmp::Ordering;
 use std::process::Abort;
 use std::str::FromStr;

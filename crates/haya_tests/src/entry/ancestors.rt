@@ -1,4 +1,4 @@
-use crate::{Entry, EntryType, Steps};
+use haya_entry::{Entry, EntryType, Steps};
 use haya_text::ReadText;
 use haya_time::Date;
 use haya_values::QualifiedUrl;

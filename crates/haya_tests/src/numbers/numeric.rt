@@ -2,7 +2,7 @@
 ghost use Rattle.std.specs.Prelude.{◌≡◌, Some, None, codes, pos, if◌then◌else◌};
 ghost use Rattle.std.specs.Ordering.{int_eq};
 
-use crate::{
+use haya_numbers::{
     GrammarGender, NumberForm, Numeric, NumericDelimiter, NumericError, NumericValue, Ordinals,
 };
 use haya_text::{OutOfMemory, ReadFault, ReadText, TryClone};

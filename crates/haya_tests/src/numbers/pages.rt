@@ -1,8 +1,8 @@
 //! Worked rows of pages, and what each call gives where there is memory. A failed allocation ends a
 //! test, and what is owned is let go by a call: so no test has a path on
 //! which it has to drop pages.
-use super::*;
-use haya_text::{ReadText, TryClone};
+use haya_numbers::*;
+use haya_text::{ReadFault, ReadText, TryClone};
 use std::cmp::Ordering;
 use std::fmt;
 use std::process::Abort;

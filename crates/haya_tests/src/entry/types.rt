@@ -1,5 +1,5 @@
 //! Types by their names.
-use crate::{EntryType, UnknownType};
+use haya_entry::{EntryType, UnknownType};
 use std::process::Abort;
 use std::str::FromStr;
 

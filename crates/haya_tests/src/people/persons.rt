@@ -1,6 +1,6 @@
 //! What each call gives back where there is memory. A refused allocation ends a test.
-use super::*;
-use crate::particles::tests::{maybe, named, string};
+use super::particles::{maybe, named, string};
+use haya_people::*;
 use haya_text::{ReadFault, ReadText};
 use std::fmt;
 use std::process::Abort;

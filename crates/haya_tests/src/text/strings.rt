@@ -3,9 +3,8 @@
 //! stays short.
 ghost use Rattle.std.specs.Prelude.{◌≡◌, option_map, IfOk};
 
-use super::ChunkKind::{Math, Normal, Verbatim};
-use super::*;
-use crate::{OutOfMemory, ReadFault, ReadText};
+use haya_text::ChunkKind::{Math, Normal, Verbatim};
+use haya_text::*;
 use std::alloc::Global;
 use std::fmt;
 use std::fmt::Write;

@@ -1,0 +1,3 @@
+//! The calls of `haya_numbers`.
+mod numeric;
+mod pages;

@@ -1,0 +1,3 @@
+//! The calls of `haya_text`.
+mod cursor;
+mod strings;

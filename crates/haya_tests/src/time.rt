@@ -1,0 +1,3 @@
+//! The calls of `haya_time`.
+mod dates;
+mod durations;
