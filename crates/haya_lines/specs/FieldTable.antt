@@ -3,24 +3,24 @@ use Rattle.std.specs.Prelude.{ℕ, ◌+◌, ◌==◌, List, [], ◌∷◌, ◌++
 use Rattle.std.specs.Map.{lookup}
 use Rattle.std.specs.Result.{result_ok}
 use Rattle.std.specs.Str.{bytes_eq, chars}
-use Rattle.haya_time.specs.DateReading.{date_read}
-use Rattle.haya_time.specs.DurationReading.{duration_read, range_read}
-use Rattle.haya_values.specs.MaybeTyped.{TypedOrText, typed_or_text}
+use Rattle.haya_text.specs.Texts.{TextView, text_read}
 use Rattle.haya_numbers.specs.Numeric.{NumericView}
 use Rattle.haya_numbers.specs.NumericReading.{numeric_read}
 use Rattle.haya_numbers.specs.Pages.{PartView}
 use Rattle.haya_numbers.specs.PagesReading.{pages_read}
-use Rattle.haya_people.specs.Person.{PersonView}
-use Rattle.haya_people.specs.Reading.{person_read}
-use Rattle.haya_values.specs.Publisher.{PublisherView, publisher_read}
-use Rattle.haya_people.specs.Roles.{RoleView, RolesView, role_read, role_view}
-use Rattle.haya_entry.specs.SerialNumber.{with_serial}
-use Rattle.haya_text.specs.Texts.{TextView, text_read}
-use Rattle.haya_entry.specs.Tree.{Fields}
-use Rattle.haya_values.specs.Url.{UrlView, undated}
+use Rattle.haya_time.specs.DateReading.{date_read}
+use Rattle.haya_time.specs.DurationReading.{duration_read, range_read}
 use Rattle.haya_time.specs.declared.date.Date.{Date}
 use Rattle.haya_time.specs.declared.duration.Duration.{Duration}
 use Rattle.haya_time.specs.declared.duration.range.DurationRange.{DurationRange}
+use Rattle.haya_people.specs.Person.{PersonView}
+use Rattle.haya_people.specs.Reading.{person_read}
+use Rattle.haya_people.specs.Roles.{RoleView, RolesView, role_read, role_view}
+use Rattle.haya_values.specs.MaybeTyped.{TypedOrText, typed_or_text}
+use Rattle.haya_values.specs.Publisher.{PublisherView, publisher_read}
+use Rattle.haya_values.specs.Url.{UrlView, undated}
+use Rattle.haya_entry.specs.SerialNumber.{with_serial}
+use Rattle.haya_entry.specs.Tree.{Fields}
 use Rattle.haya_lines.specs.Signs.{colon}
 use Rattle.haya_lines.specs.declared.fault.LineFault.{LineFault}
 use Rattle.haya_lines.specs.declared.fault.LineFault.TheVariants.{Shape, UnknownField, RefusedValue}

@@ -15,5 +15,5 @@ abbrev pub SetsFields : Result Fields LineFault → Entry → Entry → Type 0
 SetsFields read old new = IsOkAnd read (λ f. view new ≡ with_fields (λ _. f) (view old))
 
 -- the fault that is read, or out of memory
-abbrev pub FaultOf : {T : Type 0} → Result T LineFault → LineFault → Type 0
-FaultOf read e = (e ≡ OutOfMemory) ⊎ (read ≡ Err e)
+abbrev pub IsFaultOf : {T : Type 0} → Result T LineFault → LineFault → Type 0
+IsFaultOf read e = (e ≡ OutOfMemory) ⊎ (read ≡ Err e)

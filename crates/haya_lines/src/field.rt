@@ -1,11 +1,12 @@
 //! The fields of a line: values that are read as the types of their fields are.
-ghost use Rattle.std.specs.Prelude.{◌≡◌, Err, Ok, Some, option_map, IfOk, IfErr, OnOk};
+ghost use Rattle.std.specs.Prelude.{◌≡◌, Err, Ok, Some, map, option_map, IfOk, IfErr, OnOk};
 ghost use Rattle.haya_people.specs.Person.{person_view};
 ghost use Rattle.haya_people.specs.Roles.{role_view, roles_view};
 ghost use Rattle.haya_entry.specs.Tree.{Sets, view, fields};
 ghost use Rattle.haya_lines.specs.FieldTable.{affiliated_of, date_of, ok_or_refused, role_of};
 ghost use Rattle.haya_lines.specs.FieldTable.{with_field, with_last, with_number};
-ghost use Rattle.haya_lines.specs.LineReading.{FaultOf, SetsFields};
+ghost use Rattle.haya_lines.specs.Line.{field_read, fields_read};
+ghost use Rattle.haya_lines.specs.LineReading.{IsFaultOf, SetsFields};
 
 use crate::fault::LineFault;
 use haya_entry::Entry;
@@ -14,9 +15,34 @@ use haya_text::{ReadFault, ReadText};
 use haya_time::Date;
 use std::alloc::{AllocError, Global};
 
+// Sets the field of each item in turn.
+pub(crate) fn read_fields(alloc: Global, entry: &mut Entry, items: &[&str]) -> Result<(), LineFault>
+    ensures ok { OnOk result (SetsFields
+        (fields_read (fields (view entry.old)) (map (λ t. t.now) items.now)) entry.old entry.new) }
+    ensures fault { IfErr result (IsFaultOf
+        (fields_read (fields (view entry.old)) (map (λ t. t.now) items.now))) }
+{
+    'items: for item in items {
+        read_field(alloc, entry, item)?;
+    }
+    Ok(())
+}
+
+// Sets the field of one item.
+fn read_field(alloc: Global, entry: &mut Entry, item: &str) -> Result<(), LineFault>
+    ensures ok { OnOk result (SetsFields
+        (field_read (fields (view entry.old)) item.now) entry.old entry.new) }
+    ensures fault { IfErr result (IsFaultOf (field_read (fields (view entry.old)) item.now)) }
+{
+    match item.split_once('=') {
+        Some((name, value)) => set_field(alloc, entry, name, value),
+        None => Err(LineFault::Shape),
+    }
+}
+
 // Sets the field with this name to what the value reads as. Authors, editors and affiliated people
 // are appended; any other value takes the place of what was there.
-pub(crate) fn set_field(
+fn set_field(
     alloc: Global,
     entry: &mut Entry,
     name: &str,
@@ -24,7 +50,8 @@ pub(crate) fn set_field(
 ) -> Result<(), LineFault>
     ensures ok { OnOk result (SetsFields
         (with_field name.now value.now (fields (view entry.old))) entry.old entry.new) }
-    ensures err { IfErr result (FaultOf (with_field name.now value.now (fields (view entry.old)))) }
+    ensures fault { IfErr result
+        (IsFaultOf (with_field name.now value.now (fields (view entry.old)))) }
 {
     match name {
         "title" => entry.set_title(read_value(alloc, value)?),
@@ -64,7 +91,7 @@ pub(crate) fn set_field(
 // What the value reads as, or why it isn't read.
 fn read_value<T: ReadText>(alloc: Global, value: &str) -> Result<T, LineFault>
     ensures ok { IfOk result (λ v. T.reads value.now ≡ Some (T.value v)) }
-    ensures fault { IfErr result (FaultOf (ok_or_refused (T.reads value.now))) }
+    ensures fault { IfErr result (IsFaultOf (ok_or_refused (T.reads value.now))) }
 {
     match T::from_str(alloc, value) {
         Ok(read) => Ok(read),
@@ -86,7 +113,7 @@ fn read_date(value: &str) -> Result<Date, LineFault>
 // A role and one person, cut at the first colon.
 fn read_affiliated(alloc: Global, value: &str) -> Result<PersonsWithRoles, LineFault>
     ensures ok { IfOk result (λ v. affiliated_of value.now ≡ Ok (roles_view v)) }
-    ensures fault { IfErr result (FaultOf (affiliated_of value.now)) }
+    ensures fault { IfErr result (IsFaultOf (affiliated_of value.now)) }
 {
     let Some((role, person)) = value.split_once(':') else {
         return Err(LineFault::Shape);

@@ -4,6 +4,7 @@
 
 mod fault;
 mod field;
+pub mod laws;
 mod line;
 
 pub use fault::LineFault;

@@ -1,13 +1,12 @@
 //! One line: a depth, a key, a type, and fields `name=value`, with a tab between two.
-ghost use Rattle.std.specs.Prelude.{◌≡◌, map, IfOk, IfErr, OnOk};
+ghost use Rattle.std.specs.Prelude.{◌≡◌, map, IfOk, IfErr};
 ghost use Rattle.std.specs.Char.{is_ascii_digit};
 ghost use Rattle.std.specs.List.{list_all};
-ghost use Rattle.haya_entry.specs.Tree.{view, fields};
-ghost use Rattle.haya_lines.specs.Line.{items, depth_read, field_read, fields_read, row_read};
-ghost use Rattle.haya_lines.specs.LineReading.{FaultOf, IsRow, SetsFields};
+ghost use Rattle.haya_lines.specs.Line.{items, depth_read, row_read};
+ghost use Rattle.haya_lines.specs.LineReading.{IsFaultOf, IsRow};
 
 use crate::fault::LineFault;
-use crate::field::set_field;
+use crate::field::read_fields;
 use haya_entry::{Entry, EntryType};
 use std::alloc::{AllocError, Global};
 
@@ -23,7 +22,7 @@ const MAX_DEPTH: usize = 500;
 /// ```
 pub fn read_line(alloc: Global, line: &str, deepest: usize) -> Result<(usize, Entry), LineFault>
     ensures row { IfOk result (IsRow (row_read deepest (items line.now))) }
-    ensures fault { IfErr result (FaultOf (row_read deepest (items line.now))) }
+    ensures fault { IfErr result (IsFaultOf (row_read deepest (items line.now))) }
 {
     let items = items_of(alloc, line)?;
     read_items(alloc, items.as_slice(), deepest)
@@ -39,7 +38,7 @@ fn items_of<'a>(alloc: Global, line: &'a str) -> Result<Vec<&'a str>, AllocError
 // The same, from the items.
 fn read_items(alloc: Global, items: &[&str], deepest: usize) -> Result<(usize, Entry), LineFault>
     ensures row { IfOk result (IsRow (row_read deepest (map (λ t. t.now) items.now))) }
-    ensures fault { IfErr result (FaultOf (row_read deepest (map (λ t. t.now) items.now))) }
+    ensures fault { IfErr result (IsFaultOf (row_read deepest (map (λ t. t.now) items.now))) }
 {
     let [depth, key, kind, more @ ..] = items else {
         return Err(LineFault::Shape);
@@ -53,31 +52,6 @@ fn read_items(alloc: Global, items: &[&str], deepest: usize) -> Result<(usize, E
     let mut entry = Entry::new(alloc, key, kind)?;
     read_fields(alloc, &mut entry, more)?;
     Ok((depth, entry))
-}
-
-// Sets the field of each item in turn.
-fn read_fields(alloc: Global, entry: &mut Entry, items: &[&str]) -> Result<(), LineFault>
-    ensures ok { OnOk result (SetsFields
-        (fields_read (fields (view entry.old)) (map (λ t. t.now) items.now)) entry.old entry.new) }
-    ensures fault { IfErr result (FaultOf
-        (fields_read (fields (view entry.old)) (map (λ t. t.now) items.now))) }
-{
-    'items: for item in items {
-        read_field(alloc, entry, item)?;
-    }
-    Ok(())
-}
-
-// Sets the field of one item.
-fn read_field(alloc: Global, entry: &mut Entry, item: &str) -> Result<(), LineFault>
-    ensures ok { OnOk result (SetsFields
-        (field_read (fields (view entry.old)) item.now) entry.old entry.new) }
-    ensures fault { IfErr result (FaultOf (field_read (fields (view entry.old)) item.now)) }
-{
-    match item.split_once('=') {
-        Some((name, value)) => set_field(alloc, entry, name, value),
-        None => Err(LineFault::Shape),
-    }
 }
 
 // One to three digits, for a depth of at most 500 that is no deeper than this.

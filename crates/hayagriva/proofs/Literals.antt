@@ -1,22 +1,18 @@
 -- What the hits of a query are by the computed reading of its text, in words of entries.
-use Rattle.std.proofs.Common.{◌≡◌, ℕ, List, [], ◌∷◌, Option, Some, None, refl, sym, ap, ◌∙◌}
-use Rattle.std.specs.Prelude.{All, IfSome, filter, map, Result, Ok, Err}
+use Rattle.std.proofs.Common.{◌≡◌, ℕ, List, [], ◌∷◌, Option, refl, sym, ap, ◌∙◌}
+use Rattle.std.specs.Prelude.{All, filter, map, Ok}
 use Rattle.std.specs.List.{AllZip}
 use Rattle.std.proofs.lemmas.List.Elements.{All-nil, All-cons}
 use Rattle.haya_entry.specs.Tree.{Tree}
 use Rattle.hayagriva.specs.declared.query.Hit.{Hit}
-use Rattle.hayagriva.specs.declared.selectors.Selector.{Selector}
-use Rattle.hayagriva.specs.declared.selectors.SelectorError.{SelectorError}
-use Rattle.hayagriva.specs.Binds.{bound_to}
-use Rattle.hayagriva.specs.Descent.{selector_read}
-use Rattle.hayagriva.specs.Fault.{Fault, fault}
-use Rattle.hayagriva.specs.Holds.{holds}
-use Rattle.hayagriva.specs.InWords.{picks, named_entry}
+use Rattle.haya_selectors.specs.Binds.{bound_to}
+use Rattle.haya_selectors.specs.Descent.{selector_read}
+use Rattle.haya_selectors.specs.Holds.{holds}
+use Rattle.haya_selectors.specs.InWords.{picks, named_entry}
 use Rattle.hayagriva.specs.Query.{hit_entry, hit_bound, IsHit, AreHits}
-use Rattle.hayagriva.specs.Reading.{IfReads, IsRead, TextFails, TextGives}
-use Rattle.hayagriva.specs.Syntax.{Syntax, syntax}
-use Rattle.hayagriva.proofs.InWords.{bound_to-named_entry, holds-picks, filter-same}
-use Rattle.hayagriva.proofs.OneOutcome.{is_computed}
+use Rattle.haya_selectors.specs.Reading.{IfReads}
+use Rattle.haya_selectors.specs.Syntax.{Syntax}
+use Rattle.haya_selectors.proofs.InWords.{bound_to-named_entry, holds-picks, filter-same}
 
 module _ (s : Syntax) where
   entries-hits : (ys : List Tree) (hits : List Hit) → AllZip (IsHit s) ys hits → map hit_entry hits ≡ ys
@@ -35,15 +31,6 @@ module _ (s : Syntax) where
     bound-hits (y ∷ ys) [] h = absurd h
 
 module _ (text : List ℕ) where
-  -- what a reader answers for the text is its computed reading
-  pub is_read : (result : Result Selector SelectorError) → TextGives text result → IsRead text result
-  is_read (Ok s) h = (is_computed text (Ok (syntax s))).1 h
-  is_read (Err e) h = by (fault e) h
-    where
-      by : (o : Option Fault) → IfSome o (TextFails text) → IfSome o (λ f. selector_read text ≡ Err f)
-      by None h = tt
-      by (Some f) h = (is_computed text (Err f)).1 h
-
   pub hits_are : (s : Syntax) (xs : List Tree) (hits : List Hit) → selector_read text ≡ Ok s → AreHits s xs hits → IfReads text (λ s. map hit_entry hits ≡ filter (picks s) xs)
   hits_are s xs hits e are = rw e (entries-hits s (filter (holds s) xs) hits are ∙ filter-same (holds-picks s) xs)
 

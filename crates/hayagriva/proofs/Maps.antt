@@ -1,10 +1,8 @@
 -- What the calls of a map do to a library.
-use Rattle.std.proofs.Common.{◌≡◌, ℕ, Bool, true, false, cond, List, [], ◌∷◌, ◌++◌, map, Option, None, Some, refl, sym, ap, ◌∙◌, subst}
+use Rattle.std.proofs.Common.{◌≡◌, ℕ, Bool, true, false, cond, List, [], ◌∷◌, ◌++◌, map, refl, sym, ap, ◌∙◌, subst}
 use Rattle.std.specs.Prelude.{String, string_bytes, option_map}
-use Rattle.std.specs.Borrow.{Bor}
 use Rattle.std.specs.List.{AllByRecursion, IsDistinct, list_any}
 use Rattle.std.specs.Map.{keys_of, values_of, lookup, remove_entry}
-use Rattle.std.specs.Option.{option_copied}
 use Rattle.std.specs.Str.{bytes_eq}
 use Rattle.std.specs.String.{string_eq}
 use Rattle.std.proofs.lemmas.List.{map-id}
@@ -15,16 +13,9 @@ use Rattle.std.proofs.lemmas.Slice.Eq.{bytes_eq-Decides}
 use Rattle.haya_entry.specs.declared.entry.Entry.{Entry}
 use Rattle.haya_entry.specs.Tree.{Tree, view}
 use Rattle.indexmap.specs.IndexMap.{insert_entry}
+use Rattle.haya_selectors.proofs.Options.{ap-cond}
 use Rattle.hayagriva.specs.Library.{key_of, has_key, get, with_replacement, push, remove, AreDistinct}
 use Rattle.hayagriva.specs.Stored.{keyed_entries, pairs_of, entries_of, texts_of, Fits}
-
-pub ap-cond : {X Y : Type 0} (f : X → Y) (b : Bool) (x y : X) → f (cond b x y) ≡ cond b (f x) (f y)
-ap-cond f true x y = refl
-ap-cond f false x y = refl
-
-pub option_map-copied : {X Y : Type 0} (f : X → Y) (o : Option (Bor X)) → option_map (λ x. f x.now) o ≡ option_map f (option_copied o)
-option_map-copied f None = refl
-option_map-copied f (Some x) = refl
 
 -- ---- from entries beside their keys to the list of entries
 pub distinct_keys : (ts : List Tree) → AreDistinct ts → IsDistinct bytes_eq (map key_of ts)

@@ -6,13 +6,13 @@ use Rattle.std.proofs.lemmas.List.Elements.{filter-append}
 use Rattle.std.proofs.lemmas.List.Sums.{sum_by-append, sum_by-cons}
 use Rattle.haya_entry.specs.Tree.{Tree, size}
 use Rattle.hayagriva.specs.declared.query.Hit.{Hit}
-use Rattle.hayagriva.specs.Calls.{calls}
-use Rattle.hayagriva.specs.Holds.{holds}
+use Rattle.haya_selectors.specs.Calls.{calls}
+use Rattle.haya_selectors.specs.Holds.{holds}
 use Rattle.hayagriva.specs.Query.{IsHit, AreHits}
 use Rattle.hayagriva.specs.QueryIter.{Asks, GivesHit, GivesNone, Stops}
 use Rattle.hayagriva.specs.QueryState.{QueryState, query_state}
-use Rattle.hayagriva.specs.Syntax.{Syntax, nodes}
-use Rattle.hayagriva.proofs.Bounds.{calls_at_most}
+use Rattle.haya_selectors.specs.Syntax.{Syntax, nodes}
+use Rattle.haya_selectors.proofs.Bounds.{calls_at_most}
 
 pub asks-none : (q : QueryState) → Asks q [] q
 asks-none q = record { selector = refl; entries = refl; ticks = omega arith }

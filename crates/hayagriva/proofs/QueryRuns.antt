@@ -6,13 +6,13 @@ use Rattle.std.specs.List.{last_or}
 use Rattle.std.proofs.lemmas.List.Sums.{sum_by-append}
 use Rattle.haya_entry.specs.Tree.{Tree}
 use Rattle.hayagriva.specs.declared.query.Hit.{Hit}
-use Rattle.hayagriva.specs.declared.selectors.SelectorError.TheVariants.{OutOfMemory}
-use Rattle.hayagriva.specs.Calls.{calls}
-use Rattle.hayagriva.specs.Holds.{holds}
+use Rattle.haya_selectors.specs.declared.selector.SelectorError.TheVariants.{OutOfMemory}
+use Rattle.haya_selectors.specs.Calls.{calls}
+use Rattle.haya_selectors.specs.Holds.{holds}
 use Rattle.hayagriva.specs.QueryIter.{Given, Asks, GivesHit, GivesNone, Stops, NextGives, GaveHits, GaveError, GaveAll, BeginsAnswer, EndsAnswer, StaysEnded, HitsInWords, EndInWords}
 use Rattle.hayagriva.specs.QueryState.{QueryState, query_state}
-use Rattle.hayagriva.specs.InWords.{picks, named_entry}
-use Rattle.hayagriva.proofs.InWords.{bound_to-named_entry, holds-picks, filter-same}
+use Rattle.haya_selectors.specs.InWords.{picks, named_entry}
+use Rattle.haya_selectors.proofs.InWords.{bound_to-named_entry, holds-picks, filter-same}
 use Rattle.hayagriva.proofs.Queries.{asks-none, asks-more, hits-append, hit-hits, all_hits}
 
 not_empty : (xs ys : List Tree) (x : Tree) → (xs ++ x ∷ []) ++ ys ≢ []

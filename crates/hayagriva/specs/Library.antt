@@ -1,14 +1,8 @@
 -- A library by value: a list of entries, no two of which have the same key.
-use Rattle.std.specs.Prelude.{◌≡◌, ◌≢◌, ℕ, Bool, not, List, [], ◌∷◌, ◌++◌, Option, option_map, map, filter, find, fold, if◌then◌else◌}
-use Rattle.std.specs.Borrow.{Bor}
+use Rattle.std.specs.Prelude.{◌≡◌, ◌≢◌, ℕ, Bool, not, List, [], ◌∷◌, ◌++◌, Option, map, filter, find, fold, if◌then◌else◌}
 use Rattle.std.specs.List.{list_any, AllPairs}
 use Rattle.std.specs.Str.{bytes_eq}
-use Rattle.haya_entry.specs.declared.entry.Entry.{Entry}
-use Rattle.haya_entry.specs.Tree.{Tree, fields, view}
-
--- a borrowed entry by value, if there is one
-abbrev pub entry_value : Option (Bor Entry) → Option Tree
-entry_value o = option_map (λ e. view e.now) o
+use Rattle.haya_entry.specs.Tree.{Tree, fields}
 
 abbrev pub key_of : Tree → List ℕ
 key_of t = (fields t).key

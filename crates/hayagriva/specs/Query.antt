@@ -1,41 +1,25 @@
 -- What a query answers: the entries where its selector holds, each with the entries that its names
 -- are bound to.
-use Rattle.std.specs.Prelude.{◌≡◌, ℕ, true, false, List, All, IfOk, IfSome, is_some, filter, map, option_map, Option, None, Some, Result, Ok, Err, String, Vec}
-use Rattle.std.specs.Borrow.{Bor}
-use Rattle.std.specs.HashMap.{HashMap, get_by_text}
+use Rattle.std.specs.Prelude.{◌≡◌, ℕ, List, All, IfOk, IfSome, filter, map, Option, Result, Ok, Err, Vec}
+use Rattle.std.specs.HashMap.{get_by_text}
 use Rattle.std.specs.List.{AllZip}
 use Rattle.std.specs.declared.alloc.Global.{Global}
-use Rattle.haya_entry.specs.declared.entry.Entry.{Entry}
 use Rattle.haya_entry.specs.Tree.{Tree, view}
 use Rattle.hayagriva.specs.declared.query.Hit.{Hit}
-use Rattle.hayagriva.specs.declared.selectors.SelectorError.{SelectorError}
-use Rattle.hayagriva.specs.Binds.{bound_to, is_bound}
-use Rattle.hayagriva.specs.Fault.{fault}
-use Rattle.hayagriva.specs.Holds.{holds}
-use Rattle.hayagriva.specs.InWords.{picks, named_entry}
-use Rattle.hayagriva.specs.Reading.{IfReads, TextReads, TextFails}
-use Rattle.hayagriva.specs.Syntax.{Syntax}
+use Rattle.haya_selectors.specs.declared.selector.SelectorError.{SelectorError}
+use Rattle.haya_selectors.specs.Applied.{AreBindings, entry_value}
+use Rattle.haya_selectors.specs.Fault.{fault}
+use Rattle.haya_selectors.specs.Holds.{holds}
+use Rattle.haya_selectors.specs.InWords.{picks, named_entry}
+use Rattle.haya_selectors.specs.Reading.{IfReads, TextReads, TextFails}
+use Rattle.haya_selectors.specs.Syntax.{Syntax}
 
 -- a hit's entry, and the entry that a name is bound to there
 abbrev pub hit_entry : Hit → Tree
 hit_entry hit = view hit.entry.now
 
 abbrev pub hit_bound : Hit → List ℕ → Option Tree
-hit_bound hit name = option_map (λ e. view e.now) (get_by_text hit.bindings name)
-
--- exactly the names that are bound at an entry where the selector holds, each with the entry that
--- it is bound to
-pub record AreBindings {Y S : Type 0} (s : Syntax) (x : Tree)
-    (bindings : HashMap (String Y) (Bor Entry) S) : Type 0 where
-  pub names : (name : List ℕ) → is_some (get_by_text bindings name) ≡ is_bound s x name
-  pub entries : (name : List ℕ) →
-      option_map (λ e. view e.now) (get_by_text bindings name) ≡ bound_to s x name
-
--- what a selector answers at an entry: its bindings, or nothing where it doesn't hold
-abbrev pub Applied : {Y S : Type 0} → Syntax → Tree → Option (HashMap (String Y) (Bor Entry) S) →
-    Type 0
-Applied s x None = holds s x ≡ false
-Applied s x (Some bindings) = (holds s x ≡ true) × AreBindings s x bindings
+hit_bound hit name = entry_value (get_by_text hit.bindings name)
 
 -- the hit of a selector at an entry: that entry with its bindings
 pub record IsHit (s : Syntax) (x : Tree) (hit : Hit) : Type 0 where

@@ -4,15 +4,15 @@ use Rattle.std.specs.Iterator.{Yields, YieldsThen}
 use Rattle.std.specs.List.{last_or}
 use Rattle.haya_entry.specs.Tree.{Tree}
 use Rattle.hayagriva.specs.declared.query.Hit.{Hit}
-use Rattle.hayagriva.specs.declared.selectors.SelectorError.{SelectorError}
-use Rattle.hayagriva.specs.declared.selectors.SelectorError.TheVariants.{OutOfMemory}
-use Rattle.hayagriva.specs.Calls.{calls}
-use Rattle.hayagriva.specs.Fault.{fault}
-use Rattle.hayagriva.specs.Holds.{holds}
-use Rattle.hayagriva.specs.InWords.{picks, named_entry}
+use Rattle.haya_selectors.specs.declared.selector.SelectorError.{SelectorError}
+use Rattle.haya_selectors.specs.declared.selector.SelectorError.TheVariants.{OutOfMemory}
+use Rattle.haya_selectors.specs.Calls.{calls}
+use Rattle.haya_selectors.specs.Fault.{fault}
+use Rattle.haya_selectors.specs.Holds.{holds}
+use Rattle.haya_selectors.specs.InWords.{picks, named_entry}
 use Rattle.hayagriva.specs.Query.{IsHit, AreHits, hit_entry, hit_bound}
 use Rattle.hayagriva.specs.QueryState.{QueryState, query_state}
-use Rattle.hayagriva.specs.Reading.{TextReads, TextFails}
+use Rattle.haya_selectors.specs.Reading.{TextReads, TextFails}
 
 -- what may start for a text over entries: the query of the selector that it reads as, before its
 -- first entry

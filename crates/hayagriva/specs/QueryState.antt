@@ -2,8 +2,8 @@
 use Rattle.std.specs.Prelude.{ℕ, List, refl}
 use Rattle.std.specs.Coded.{Coded, code_by, coded×, coded_list, coded_ℕ}
 use Rattle.haya_entry.specs.Tree.{Tree}
-use Rattle.hayagriva.specs.Syntax.{Syntax}
-use Rattle.hayagriva.specs.SyntaxCode.{syntax_coded}
+use Rattle.haya_selectors.specs.Syntax.{Syntax}
+use Rattle.haya_selectors.specs.SyntaxCode.{syntax_coded}
 use Rattle.hayagriva.specs.TreeCode.{tree_coded}
 
 -- its selector, the entries that it has yet to ask, of which none is left after an error, and how

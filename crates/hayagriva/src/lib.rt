@@ -1,18 +1,15 @@
-//! A literature library, and the selectors that pick its entries.
+//! A literature library, and queries that pick its entries by selectors.
 #![tactic(auto)]
 
-mod bound_select;
 pub mod laws;
 mod library;
 mod query;
-mod selectors;
 
-pub use bound_select::BoundSelect;
 pub use haya_entry::{Entry, Steps};
+pub use haya_selectors::{BoundSelect, Selector, SelectorError};
 pub use haya_text::{OutOfMemory, ReadFault, ReadText};
 pub use library::{Entries, IntoEntries, Keys, Library};
 pub use query::{Hit, Query};
-pub use selectors::{Selector, SelectorError};
 
 /// The values that entries are made of.
 pub mod types {

@@ -4,8 +4,8 @@ ghost use Rattle.std.specs.Prelude.{OnOk, OnErr, IfOk};
 ghost use Rattle.std.specs.Iterator.{Drains, IsFinite};
 ghost use Rattle.haya_entry.specs.declared.entry.Entry.{Entry as EntryData};
 ghost use Rattle.haya_entry.specs.Tree.{view};
-ghost use Rattle.hayagriva.specs.Library.{entry_value, key_of, get, push, from_entries, remove};
-ghost use Rattle.hayagriva.specs.Library.{AreDistinct};
+ghost use Rattle.haya_selectors.specs.Applied.{entry_value};
+ghost use Rattle.hayagriva.specs.Library.{key_of, get, push, from_entries, remove, AreDistinct};
 
 mod iter;
 

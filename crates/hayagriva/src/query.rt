@@ -2,19 +2,19 @@
 ghost use Rattle.std.specs.Prelude.{◌≡◌, ◌+◌, ◌*◌, ◌≤◌, ℕ, List, IfErr, IfOk, OnOk, sum_by};
 ghost use Rattle.std.specs.Str.{chars};
 ghost use Rattle.haya_entry.specs.Tree.{size};
-ghost use Rattle.hayagriva.specs.declared.selectors.SelectorError.TheVariants.{OutOfMemory as OutOfMemoryError};
-ghost use Rattle.hayagriva.specs.Calls.{calls};
+ghost use Rattle.haya_selectors.specs.declared.selector.SelectorError.TheVariants.{OutOfMemory as OutOfMemoryError};
+ghost use Rattle.haya_selectors.specs.Calls.{calls};
 ghost use Rattle.hayagriva.specs.Query.{AreHits, HitsAre, NameIs, QueryGives};
 ghost use Rattle.hayagriva.specs.QueryIter.{QueryStarts};
 ghost use Rattle.hayagriva.specs.QueryState.{query_state};
-ghost use Rattle.hayagriva.specs.Reading.{IfFails, IfReads};
-ghost use Rattle.hayagriva.specs.Syntax.{syntax, nodes};
+ghost use Rattle.haya_selectors.specs.Reading.{IfFails, IfReads};
+ghost use Rattle.haya_selectors.specs.Syntax.{syntax, nodes};
 
 mod iter;
 
-use crate::selectors::{Bindings, Compiled};
-use crate::{Library, Selector, SelectorError};
+use crate::Library;
 use haya_entry::{Entry, Steps};
+use haya_selectors::{Evaluator, Selector, SelectorError};
 use haya_text::OutOfMemory;
 pub use iter::Query;
 use iter::next_hit;
@@ -71,8 +71,8 @@ impl Library {
         ensures error { IfErr result (λ e. IfReads (chars text.now) (λ _. e ≡ OutOfMemoryError)) }
     {
         let selector = Selector::parse(alloc, text)?;
-        let compiled = Compiled::new(alloc, &selector)?;
-        Ok(Query::new(alloc, compiled, self.iter()))
+        let evaluator = Evaluator::new(alloc, &selector)?;
+        Ok(Query::new(evaluator, self.iter()))
     }
 
     // The entries where the selector holds.
@@ -87,11 +87,10 @@ impl Library {
             (steps.new ≡ steps.old + sum_by (calls (syntax selector.now)) self.now) }
         ensures most { steps.new ≤ steps.old + nodes (syntax selector.now) * sum_by size self.now }
     {
-        let compiled = Compiled::new(alloc, selector)?;
-        let mut found = Bindings::new(alloc);
+        let mut evaluator = Evaluator::new(alloc, selector)?;
         let mut hits = Vec::new(alloc);
         let mut rest = self.iter();
-        'hits: while let Some(hit) = next_hit(alloc, &compiled, &mut rest, &mut found, steps)? {
+        'hits: while let Some(hit) = next_hit(&mut evaluator, &mut rest, steps)? {
             hits.push(hit)?;
         }
         Ok(hits)

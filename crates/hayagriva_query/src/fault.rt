@@ -58,7 +58,7 @@ impl Fault {
 }
 
 impl From<SelectorError> for Fault {
-    ghost use Rattle.hayagriva.specs.declared.selectors.SelectorError.TheVariants as error;
+    ghost use Rattle.hayagriva.specs.declared.SelectorError.TheVariants as error;
     ghost use Rattle.hayagriva_query.specs.declared.fault.Fault.TheVariants.{OutOfMemory, Selector};
 
     ghost from_gives = { λ s e. (s ≡ error.OutOfMemory → e ≡ OutOfMemory)

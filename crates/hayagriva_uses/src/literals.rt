@@ -6,7 +6,7 @@ ghost use Rattle.std.specs.List.{list_any};
 ghost use Rattle.haya_entry.specs.declared.types.EntryType.TheVariants.{Article, Book, Periodical};
 ghost use Rattle.haya_entry.specs.Names.{is_of_type, has_name};
 ghost use Rattle.haya_entry.specs.Tree.{parents};
-ghost use Rattle.hayagriva.specs.declared.selectors.SelectorError.TheVariants.{OutOfMemory};
+ghost use Rattle.hayagriva.specs.declared.SelectorError.TheVariants.{OutOfMemory};
 ghost use Rattle.hayagriva.specs.InWords.{without_first};
 ghost use Rattle.hayagriva.specs.Query.{hit_bound, hit_entry};
 

@@ -4,8 +4,6 @@
 
 mod literals;
 mod sample;
-#[cfg(test)]
-mod tests;
 
 ghost use Rattle.std.specs.Prelude.{◌≡◌, IfOk, filter, length};
 ghost use Rattle.std.specs.Str.{chars};

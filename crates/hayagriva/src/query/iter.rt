@@ -3,14 +3,12 @@ ghost use Rattle.std.specs.Prelude.{◌≡◌, ◌≢◌, ◌≤◌};
 ghost use Rattle.std.specs.Iterator.{at_most, item_count};
 ghost use Rattle.hayagriva.specs.QueryIter.{NextGives, SearchGives};
 ghost use Rattle.hayagriva.specs.QueryState.{query_state};
-ghost use Rattle.hayagriva.specs.Root.{compiled_syntax};
 
 use super::Hit;
-use crate::selectors::{Bindings, Compiled};
-use crate::{Entries, SelectorError};
+use crate::Entries;
 use haya_entry::Steps;
+use haya_selectors::{Evaluator, SelectorError};
 use haya_text::OutOfMemory;
-use std::alloc::Global;
 use std::marker::Model;
 
 /// The hits of a selector over a library, in the library's order: each entry is evaluated when the
@@ -20,11 +18,8 @@ use std::marker::Model;
 /// after the last hit.
 #[derive(Drop)]
 pub struct Query<'s> {
-    alloc: Global,
-    compiled: Compiled,
+    evaluator: Evaluator<'s>,
     rest: Entries<'s>,
-    // A buffer.
-    found: Bindings<'s>,
     steps: Steps,
     // Whether an allocation has failed.
     failed: bool,
@@ -33,25 +28,22 @@ pub struct Query<'s> {
 impl<'s> Model for Query<'s> {
     ghost use Rattle.std.specs.Prelude.{[], if◌then◌else◌};
     ghost use Rattle.hayagriva.specs.QueryState.{QueryState, query_state, query_state_coded};
-    ghost use Rattle.hayagriva.specs.Root.{compiled_syntax};
 
     ghost Value = { QueryState };
 
     ghost coded = { query_state_coded };
 
     ghost view = { λ q.
-        query_state (compiled_syntax q.compiled) (if q.failed then [] else q.rest) q.steps };
+        query_state q.evaluator (if q.failed then [] else q.rest) q.steps };
 }
 
 impl<'s> Query<'s> {
-    pub(super) fn new(alloc: Global, compiled: Compiled, rest: Entries<'s>) -> Query<'s>
-        ensures { result ≡ query_state (compiled_syntax compiled) rest.entry 0 }
+    pub(super) fn new(evaluator: Evaluator<'s>, rest: Entries<'s>) -> Query<'s>
+        ensures { result ≡ query_state evaluator.entry rest.entry 0 }
     {
         Query {
-            alloc,
-            compiled,
+            evaluator,
             rest,
-            found: Bindings::new(alloc),
             steps: Steps::new(),
             failed: false,
         }
@@ -77,14 +69,7 @@ impl<'s> Iterator for Query<'s> {
         if self.failed {
             return None;
         }
-        let found = &mut self.found;
-        match next_hit(
-            self.alloc,
-            &self.compiled,
-            &mut self.rest,
-            found,
-            &mut self.steps,
-        ) {
+        match next_hit(&mut self.evaluator, &mut self.rest, &mut self.steps) {
             Ok(Some(hit)) => Some(Ok(hit)),
             Ok(None) => None,
             Err(error) => {
@@ -97,17 +82,15 @@ impl<'s> Iterator for Query<'s> {
 
 // The hit of the first entry that is left and picked, with a tick for each call of the evaluator.
 pub(super) fn next_hit<'s>(
-    alloc: Global,
-    compiled: &Compiled,
+    evaluator: &mut Evaluator<'s>,
     rest: &mut Entries<'s>,
-    found: &mut Bindings<'s>,
     steps: &mut Steps,
 ) -> Result<Option<Hit<'s>>, OutOfMemory>
-    ensures { SearchGives (query_state (compiled_syntax compiled.now) rest.old steps.old) result
-        (query_state (compiled_syntax compiled.now) rest.new steps.new) }
+    ensures { SearchGives (query_state evaluator.old rest.old steps.old) result
+        (query_state evaluator.new rest.new steps.new) }
 {
     'missed: while let Some(entry) = rest.next() {
-        if let Some(bindings) = compiled.apply(alloc, entry, found, steps)? {
+        if let Some(bindings) = evaluator.apply(entry, steps)? {
             return Ok(Some(Hit { entry, bindings }));
         }
     }

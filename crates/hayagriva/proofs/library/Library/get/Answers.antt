@@ -2,7 +2,8 @@ use Rattle.std.proofs.Common.{ap, ◌∙◌}
 use Rattle.std.specs.Prelude.{option_map}
 use Rattle.haya_entry.specs.Tree.{view}
 use Rattle.hayagriva.specs.Library.{get}
-use Rattle.hayagriva.proofs.Maps.{option_map-copied, get-lookup}
+use Rattle.haya_selectors.proofs.Options.{option_map-copied}
+use Rattle.hayagriva.proofs.Maps.{get-lookup}
 use Rattle.hayagriva.proofs.library.Library.get.Goals as goal
 
 pub returns : goal.returns

@@ -1,13 +1,13 @@
-use Rattle.std.proofs.Common.{length}
+use Rattle.std.proofs.Common.{◌≡◌, length}
+use Rattle.haya_selectors.specs.Syntax.{syntax}
 use Rattle.hayagriva.specs.QueryState.{query_state}
-use Rattle.hayagriva.specs.Root.{compiled_syntax}
 use Rattle.hayagriva.proofs.Queries.{HitsSoFar}
 use Rattle.hayagriva.proofs.library.Library.hits.Given as goal
 
 abbrev pub invariant-hits : goal.invariant-hits
 invariant-hits l =
-    let s = compiled_syntax l.compiled in
-    HitsSoFar (query_state s l.self l.fn.steps) l.hits.items (query_state s l.rest l.steps)
+    let s = syntax l.selector in
+    (l.evaluator ≡ s) × HitsSoFar (query_state s l.self l.fn.steps) l.hits.items (query_state s l.rest l.steps)
 
 abbrev pub decreases-hits : goal.decreases-hits
 decreases-hits l = length l.rest

@@ -1,0 +1,9 @@
+//! A law of the definitions. No program calls it.
+ghost use Rattle.haya_text.specs.Equality.{EqualsByValue};
+
+use crate::fault::LineFault;
+
+/// `==` holds exactly where both are equal.
+pub fn faults_equal_by_value()
+    ensures { EqualsByValue ⟦<LineFault as PartialEq>⟧.eq }
+{}

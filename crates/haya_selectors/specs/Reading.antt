@@ -1,0 +1,40 @@
+-- What the characters of a text read as.
+use Rattle.std.specs.Prelude.{◌≡◌, ℕ, List, IfErr, IfOk, IfSome, Result, Ok, Err}
+use Rattle.haya_selectors.specs.declared.selector.Selector.{Selector}
+use Rattle.haya_selectors.specs.declared.selector.SelectorError.{SelectorError}
+use Rattle.haya_selectors.specs.Descent.{selector_read}
+use Rattle.haya_selectors.specs.Fault.{Fault, fault}
+use Rattle.haya_selectors.specs.Grammar.{ExprForm, Reads, Fails}
+use Rattle.haya_selectors.specs.Syntax.{Syntax, syntax}
+use Rattle.haya_selectors.specs.Token.{Token, AreTokens}
+
+-- the text reads as this selector: an expression at its front, whatever follows
+pub record TextReads (text : List ℕ) (s : Syntax) : Type 0 where
+  pub tokens : List Token
+  pub rest : List Token
+  pub cut : AreTokens tokens text
+  pub reads : Reads ExprForm tokens s rest
+
+-- the text is no selector, for this fault
+pub record TextFails (text : List ℕ) (f : Fault) : Type 0 where
+  pub tokens : List Token
+  pub cut : AreTokens tokens text
+  pub fails : Fails ExprForm tokens f
+
+-- what a reader may answer for a text; out of memory says nothing of it
+abbrev pub TextGives : List ℕ → Result Selector SelectorError → Type 0
+TextGives text (Ok s) = TextReads text (syntax s)
+TextGives text (Err e) = IfSome (fault e) (TextFails text)
+
+-- the same by the computed reading
+abbrev pub IsRead : List ℕ → Result Selector SelectorError → Type 0
+IsRead text (Ok s) = selector_read text ≡ Ok (syntax s)
+IsRead text (Err e) = IfSome (fault e) (λ f. selector_read text ≡ Err f)
+
+-- what is said of the selector that the text reads as, where it reads as one, or of its fault,
+-- where it has one
+abbrev pub IfReads : List ℕ → (Syntax → Type 0) → Type 0
+IfReads text P = IfOk (selector_read text) P
+
+abbrev pub IfFails : List ℕ → (Fault → Type 0) → Type 0
+IfFails text P = IfErr (selector_read text) P

@@ -1,0 +1,322 @@
+//! The evaluator: one function at an entry, one on a list of parents, and what they share. Each
+//! goes by the number of a node, and from a node to its children alone, whose numbers are smaller.
+ghost use Rattle.std.specs.Prelude.{◌≡◌, ◌<◌, ◌≤◌, [], IfOk, OnSome, sum_by};
+ghost use Rattle.std.specs.Bool.{OnTrue};
+ghost use Rattle.haya_entry.specs.Tree.{view};
+ghost use Rattle.haya_selectors.specs.Compiled.{above};
+ghost use Rattle.haya_selectors.specs.Binds.{binds, binds_on, each_binds, first_binds, first_binds_on};
+ghost use Rattle.haya_selectors.specs.Binds.{pairs_at_first, pairs_at};
+ghost use Rattle.haya_selectors.specs.Calls.{calls, calls_on, first_calls, first_calls_on, free_calls};
+ghost use Rattle.haya_selectors.specs.Calls.{greedy_calls};
+ghost use Rattle.haya_selectors.specs.Candidates.{GivesCandidates, candidate_places};
+ghost use Rattle.haya_selectors.specs.Evaluation.{AddsAt, AddsAtIf, AddsOn, AddsOnFor, AddsOnIf};
+ghost use Rattle.haya_selectors.specs.Evaluation.{KeepsFound, Ticks, views};
+ghost use Rattle.haya_selectors.specs.Holds.{holds, some_holds, candidates, first_candidates};
+ghost use Rattle.haya_selectors.specs.Holds.{first_place as alone, greedy, least_free};
+ghost use Rattle.haya_selectors.specs.Places.{items_up_to};
+ghost use Rattle.haya_selectors.specs.Nodes.{members_at, node_count, slot_names, syntax_at};
+
+use crate::bindings::Bindings;
+use crate::names::Asked;
+use crate::node::Node;
+use crate::nodes::Nodes;
+use crate::places::{Candidates, all_places, is_taken, kept_places};
+use haya_entry::{Entry, Steps};
+use haya_text::OutOfMemory;
+use std::alloc::Global;
+
+// Whether the selector holds at an entry. Where it does, its bindings are added to `found`.
+#[cycle(evaluate)]
+pub(crate) fn holds_at<'e>(
+    nodes: &Nodes,
+    number: usize,
+    alloc: Global,
+    asked: &Asked<'e>,
+    found: &mut Bindings<'e>,
+    steps: &mut Steps,
+) -> Result<bool, OutOfMemory>
+    requires { number < node_count nodes.now }
+    ensures answer { IfOk result (λ b. b ≡ holds (syntax_at nodes.now number) (view asked.now)) }
+    ensures bound { IfOk result (AddsAtIf nodes.now (view asked.now) found.old found.new
+        (binds (syntax_at nodes.now number))) }
+    ensures ticks { Ticks result steps.old steps.new
+        (calls (syntax_at nodes.now number) (view asked.now)) }
+{
+    let before = found.len();
+    if form_holds_at(nodes, number, alloc, asked, found, steps)? {
+        return Ok(true);
+    }
+    found.truncate(before);
+    Ok(false)
+}
+
+// The same, but where it doesn't hold, what its parts have bound may be left in `found`.
+#[cycle(evaluate)]
+fn form_holds_at<'e>(
+    nodes: &Nodes,
+    number: usize,
+    alloc: Global,
+    asked: &Asked<'e>,
+    found: &mut Bindings<'e>,
+    steps: &mut Steps,
+) -> Result<bool, OutOfMemory>
+    requires { number < node_count nodes.now }
+    ensures answer { IfOk result (λ b. b ≡ holds (syntax_at nodes.now number) (view asked.now)) }
+    ensures bound { IfOk result (λ b. OnTrue b (AddsAt (slot_names nodes.now) (view asked.now)
+        found.old found.new (binds (syntax_at nodes.now number) (view asked.now)))) }
+    ensures kept { IfOk result (λ _. KeepsFound nodes.now found.old found.new) }
+    ensures ticks { Ticks result steps.old steps.new
+        (calls (syntax_at nodes.now number) (view asked.now)) }
+{
+    steps.tick();
+    match nodes.at(number) {
+        Node::Wildcard => Ok(true),
+        Node::Entry(entry_type) => Ok(asked.entry().entry_type() == *entry_type),
+        Node::Neg(inner) => Ok(!holds_at(nodes, *inner, alloc, asked, found, steps)?),
+        Node::Binding(slot, inner) => {
+            if !holds_at(nodes, *inner, alloc, asked, found, steps)? {
+                return Ok(false);
+            }
+            found.bind(*slot, asked.entry())?;
+            Ok(true)
+        }
+        Node::Attr(inner, names) => {
+            Ok(holds_at(nodes, *inner, alloc, asked, found, steps)? && asked.has(names))
+        }
+        Node::Alt(members) => any_holds(nodes, members, alloc, asked, found, steps),
+        Node::Multi(_) => Ok(false),
+        Node::Ancestrage(child, parent) => {
+            if !holds_at(nodes, *child, alloc, asked, found, steps)? {
+                return Ok(false);
+            }
+            let parents = asked.entry().parents();
+            Ok(candidates_on(nodes, *parent, alloc, parents, found, steps)?.is_some())
+        }
+    }
+}
+
+// Whether a member holds at an entry. The bindings of the first that does are added to `found`.
+#[cycle(evaluate)]
+fn any_holds<'e>(
+    nodes: &Nodes,
+    members: &[usize],
+    alloc: Global,
+    asked: &Asked<'e>,
+    found: &mut Bindings<'e>,
+    steps: &mut Steps,
+) -> Result<bool, OutOfMemory>
+    requires { above members.now ≤ node_count nodes.now }
+    ensures answer { IfOk result
+        (λ b. b ≡ some_holds (members_at nodes.now members.now) (view asked.now)) }
+    ensures bound { IfOk result (AddsAtIf nodes.now (view asked.now) found.old found.new
+        (first_binds (members_at nodes.now members.now))) }
+    ensures ticks { Ticks result steps.old steps.new
+        (first_calls (members_at nodes.now members.now) (view asked.now)) }
+{
+    for member in members {
+        if holds_at(nodes, *member, alloc, asked, found, steps)? {
+            return Ok(true);
+        }
+    }
+    Ok(false)
+}
+
+// The places of the parents that the selector stands for, or none where it doesn't hold on them.
+// Where it does, its bindings are added to `found`.
+#[cycle(evaluate)]
+fn candidates_on<'e>(
+    nodes: &Nodes,
+    number: usize,
+    alloc: Global,
+    parents: &'e [Entry],
+    found: &mut Bindings<'e>,
+    steps: &mut Steps,
+) -> Result<Option<Candidates>, OutOfMemory>
+    requires { number < node_count nodes.now }
+    ensures answer { GivesCandidates (views parents.now) result
+        (candidates (syntax_at nodes.now number) (views parents.now)) }
+    ensures bound { IfOk result (AddsOnIf nodes.now (views parents.now) found.old found.new
+        (binds_on (syntax_at nodes.now number))) }
+    ensures ticks { Ticks result steps.old steps.new
+        (calls_on (syntax_at nodes.now number) (views parents.now)) }
+{
+    let before = found.len();
+    let candidates = form_candidates_on(nodes, number, alloc, parents, found, steps)?;
+    if candidates.is_some() {
+        return Ok(candidates);
+    }
+    found.truncate(before);
+    Ok(None)
+}
+
+// The same, but where it doesn't hold, what its parts have bound may be left in `found`.
+#[cycle(evaluate)]
+fn form_candidates_on<'e>(
+    nodes: &Nodes,
+    number: usize,
+    alloc: Global,
+    parents: &'e [Entry],
+    found: &mut Bindings<'e>,
+    steps: &mut Steps,
+) -> Result<Option<Candidates>, OutOfMemory>
+    requires { number < node_count nodes.now }
+    ensures answer { GivesCandidates (views parents.now) result
+        (candidates (syntax_at nodes.now number) (views parents.now)) }
+    ensures bound { IfOk result (λ o. OnSome o (AddsOn (slot_names nodes.now)
+        (views parents.now) found.old found.new
+        (binds_on (syntax_at nodes.now number) (views parents.now)))) }
+    ensures kept { IfOk result (λ _. KeepsFound nodes.now found.old found.new) }
+    ensures ticks { Ticks result steps.old steps.new
+        (calls_on (syntax_at nodes.now number) (views parents.now)) }
+{
+    steps.tick();
+    match nodes.at(number) {
+        Node::Wildcard => Ok(all_places(parents)),
+        Node::Entry(_) | Node::Ancestrage(_, _) => {
+            first_alone(nodes, number, alloc, parents, found, steps)
+        }
+        Node::Neg(inner) => match candidates_on(nodes, *inner, alloc, parents, found, steps)? {
+            Some(_) => Ok(None),
+            None => Ok(Some(Candidates::Nothing)),
+        },
+        Node::Binding(slot, inner) => {
+            let Some(candidates) = candidates_on(nodes, *inner, alloc, parents, found, steps)?
+            else {
+                return Ok(None);
+            };
+            found.bind_first(*slot, parents, &candidates)?;
+            Ok(Some(Candidates::Nothing))
+        }
+        Node::Attr(inner, names) => {
+            let Some(candidates) = candidates_on(nodes, *inner, alloc, parents, found, steps)?
+            else {
+                return Ok(None);
+            };
+            kept_places(alloc, names, parents, candidates)
+        }
+        Node::Alt(members) => first_candidates_on(nodes, members, alloc, parents, found, steps),
+        Node::Multi(members) => each_takes_one(nodes, members, alloc, parents, found, steps),
+    }
+}
+
+// The places of the first member that holds on the parents, whose bindings are added to `found`.
+#[cycle(evaluate)]
+fn first_candidates_on<'e>(
+    nodes: &Nodes,
+    members: &[usize],
+    alloc: Global,
+    parents: &'e [Entry],
+    found: &mut Bindings<'e>,
+    steps: &mut Steps,
+) -> Result<Option<Candidates>, OutOfMemory>
+    requires { above members.now ≤ node_count nodes.now }
+    ensures answer { GivesCandidates (views parents.now) result
+        (first_candidates (members_at nodes.now members.now) (views parents.now)) }
+    ensures bound { IfOk result (AddsOnIf nodes.now (views parents.now) found.old found.new
+        (first_binds_on (members_at nodes.now members.now))) }
+    ensures ticks { Ticks result steps.old steps.new
+        (first_calls_on (members_at nodes.now members.now) (views parents.now)) }
+{
+    for member in members {
+        let candidates = candidates_on(nodes, *member, alloc, parents, found, steps)?;
+        if candidates.is_some() {
+            return Ok(candidates);
+        }
+    }
+    Ok(None)
+}
+
+// The places that the members take in turn, or none where a member finds no place. Where each
+// takes one, the bindings of each at its place are added to `found`.
+#[cycle(evaluate)]
+fn each_takes_one<'e>(
+    nodes: &Nodes,
+    members: &[usize],
+    alloc: Global,
+    parents: &'e [Entry],
+    found: &mut Bindings<'e>,
+    steps: &mut Steps,
+) -> Result<Option<Candidates>, OutOfMemory>
+    requires { above members.now ≤ node_count nodes.now }
+    ensures answer { GivesCandidates (views parents.now) result
+        (greedy (members_at nodes.now members.now) (views parents.now) []) }
+    ensures bound { IfOk result (AddsOnFor nodes.now (views parents.now) found.old found.new
+        (λ taken. each_binds (members_at nodes.now members.now) (views parents.now)
+        (candidate_places (views parents.now) taken))) }
+    ensures ticks { Ticks result steps.old steps.new
+        (greedy_calls (members_at nodes.now members.now) (views parents.now) []) }
+{
+    let before = found.len();
+    let mut taken = Vec::new(alloc);
+    for member in members {
+        match first_free(nodes, *member, alloc, parents, &taken, found, steps)? {
+            Some(place) => taken.push(place)?,
+            None => {
+                found.truncate(before);
+                return Ok(None);
+            }
+        }
+    }
+    Ok(Some(Candidates::Kept(taken)))
+}
+
+// The first place where the selector holds, as the one candidate. The bindings at that parent are
+// added to `found`.
+#[cycle(evaluate)]
+#[tactic(auto, using(crate::proofs::FreePlaces::least_of_all, crate::proofs::FreePlaces::calls_of_all))]
+fn first_alone<'e>(
+    nodes: &Nodes,
+    number: usize,
+    alloc: Global,
+    parents: &'e [Entry],
+    found: &mut Bindings<'e>,
+    steps: &mut Steps,
+) -> Result<Option<Candidates>, OutOfMemory>
+    requires { number < node_count nodes.now }
+    ensures answer { GivesCandidates (views parents.now) result
+        (alone (holds (syntax_at nodes.now number)) (views parents.now)) }
+    ensures bound { IfOk result (AddsOnIf nodes.now (views parents.now) found.old found.new
+        (pairs_at_first (holds (syntax_at nodes.now number))
+        (binds (syntax_at nodes.now number)))) }
+    ensures ticks { Ticks result steps.old steps.new
+        (sum_by (calls (syntax_at nodes.now number))
+        (items_up_to (holds (syntax_at nodes.now number)) (views parents.now))) }
+{
+    match first_free(nodes, number, alloc, parents, &[], found, steps)? {
+        Some(place) => Ok(Some(Candidates::One(place))),
+        None => Ok(None),
+    }
+}
+
+// The first place that isn't taken where the selector holds. The bindings at that parent are added
+// to `found`.
+#[cycle(evaluate)]
+fn first_free<'e>(
+    nodes: &Nodes,
+    number: usize,
+    alloc: Global,
+    parents: &'e [Entry],
+    taken: &[usize],
+    found: &mut Bindings<'e>,
+    steps: &mut Steps,
+) -> Result<Option<usize>, OutOfMemory>
+    requires { number < node_count nodes.now }
+    ensures answer { IfOk result (λ o.
+        o ≡ least_free (holds (syntax_at nodes.now number)) (views parents.now) taken.now) }
+    ensures bound { IfOk result (AddsOnFor nodes.now (views parents.now) found.old found.new
+        (pairs_at (binds (syntax_at nodes.now number)) (views parents.now))) }
+    ensures ticks { Ticks result steps.old steps.new
+        (free_calls (holds (syntax_at nodes.now number)) (calls (syntax_at nodes.now number))
+        (views parents.now) taken.now) }
+{
+    for (place, parent) in parents.iter().enumerate() {
+        if is_taken(taken, place) {
+            continue;
+        }
+        let asked = Asked::new(parent, 0);
+        if holds_at(nodes, number, alloc, &asked, found, steps)? {
+            return Ok(Some(place));
+        }
+    }
+    Ok(None)
+}

@@ -1,0 +1,149 @@
+//! The nodes of a compiled selector, and how a selector is compiled.
+ghost use Rattle.std.specs.Prelude.{◌≡◌, ◌<◌, ◌≤◌, [], IfOk, IsTrue, length, map};
+ghost use Rattle.haya_selectors.specs.BoundNames.{all_bound_names, bound_names};
+ghost use Rattle.haya_selectors.specs.Compiled.{above, all_fit, fits, name_of, node_syntax};
+ghost use Rattle.haya_selectors.specs.Syntax.{members_of, syntax, syntaxes};
+
+use crate::Selector;
+use crate::names::NameSet;
+use crate::node::Node;
+use haya_text::OutOfMemory;
+use std::alloc::Global;
+
+// Nodes, children before parents, the names of their slots, and the numbers of the names that they
+// ask for: all, and those that more than one asks for.
+#[derive(Drop)]
+pub(crate) struct Nodes {
+    nodes: Vec<Node>,
+    names: Vec<String>,
+    asked: u32,
+    asked_again: u32,
+    ghost fit: { IsTrue (all_fit (length names.items) 0 nodes.items) },
+}
+
+impl Nodes {
+    ghost use Rattle.haya_selectors.specs.Nodes.{Adds, AddsNames, Keeps, NamesSlot, node_count};
+    ghost use Rattle.haya_selectors.specs.Nodes.{slot_names, syntax_at};
+
+    // No nodes.
+    pub(crate) fn new(alloc: Global) -> Nodes
+        ensures nodes { node_count result ≡ 0 }
+        ensures names { slot_names result ≡ [] }
+    {
+        Nodes {
+            nodes: Vec::new(alloc),
+            names: Vec::new(alloc),
+            asked: 0,
+            asked_again: 0,
+        }
+    }
+
+    // The node of the number.
+    pub(crate) fn at(&self, number: usize) -> &Node
+        requires { number < node_count self.now }
+        ensures stands { syntax_at self.now number ≡
+            node_syntax (name_of (slot_names self.now)) (syntax_at self.now) result.now }
+        ensures fits { IsTrue (fits (length (slot_names self.now)) number result.now) }
+    {
+        &self.nodes[number]
+    }
+
+    // The name of the slot.
+    pub(crate) fn name(&self, slot: usize) -> &str
+        ensures { result.now ≡ name_of (slot_names self.now) slot }
+    {
+        match self.names.get(slot) {
+            Some(name) => name.as_str(),
+            None => "",
+        }
+    }
+
+    // The numbers of the names that more than one node asks for.
+    pub(crate) fn asked_again(&self) -> u32 {
+        self.asked_again
+    }
+
+    // Adds a node, and answers its number.
+    fn push(&mut self, node: Node) -> Result<usize, OutOfMemory>
+        requires { IsTrue (fits (length (slot_names self.old)) (node_count self.old) node) }
+        ensures stands { IfOk result (Adds self.old self.new
+            (node_syntax (name_of (slot_names self.old)) (syntax_at self.old) node)) }
+        ensures names { slot_names self.new ≡ slot_names self.old }
+    {
+        let number = self.nodes.len();
+        self.nodes.push(node)?;
+        Ok(number)
+    }
+
+    // The slot of the name, which is added where it has none.
+    fn slot_of(&mut self, alloc: Global, name: &str) -> Result<usize, OutOfMemory>
+        ensures { IfOk result (NamesSlot self.old self.new name.now) }
+    {
+        let known = self.names.iter().position(|other| name == other.as_str());
+        if let Some(slot) = known {
+            return Ok(slot);
+        }
+        let slot = self.names.len();
+        self.names.push(String::from_str(alloc, name)?)?;
+        Ok(slot)
+    }
+
+    // Adds the nodes of a selector, and answers the number of the last, which stands for it.
+    #[cycle(compile)]
+    pub(crate) fn add(&mut self, alloc: Global, selector: &Selector) -> Result<usize, OutOfMemory>
+        ensures stands { IfOk result (Adds self.old self.new (syntax selector.now)) }
+        ensures names { IfOk result (λ _.
+            AddsNames self.old self.new (bound_names (syntax selector.now))) }
+    {
+        match selector {
+            Selector::Wildcard => self.push(Node::Wildcard),
+            Selector::Entry(entry_type) => self.push(Node::Entry(*entry_type)),
+            Selector::Neg(inner) => {
+                let inner = self.add(alloc, inner)?;
+                self.push(Node::Neg(inner))
+            }
+            Selector::Binding(name, inner) => {
+                let inner = self.add(alloc, inner)?;
+                let slot = self.slot_of(alloc, name.as_str())?;
+                self.push(Node::Binding(slot, inner))
+            }
+            Selector::Attr(inner, names) => {
+                let inner = self.add(alloc, inner)?;
+                let names = NameSet::new(names);
+                self.asked_again |= self.asked & names.numbers();
+                self.asked |= names.numbers();
+                self.push(Node::Attr(inner, names))
+            }
+            Selector::Alt(members) => {
+                let members = self.add_all(alloc, members)?;
+                self.push(Node::Alt(members))
+            }
+            Selector::Multi(members) => {
+                let members = self.add_all(alloc, members)?;
+                self.push(Node::Multi(members))
+            }
+            Selector::Ancestrage(child, parent) => {
+                let child = self.add(alloc, child)?;
+                let parent = self.add(alloc, parent)?;
+                self.push(Node::Ancestrage(child, parent))
+            }
+        }
+    }
+
+    // Adds the nodes of selectors, and answers the numbers of those that stand for them.
+    #[cycle(compile)]
+    fn add_all(&mut self, alloc: Global, members: &[Selector]) -> Result<Vec<usize>, OutOfMemory>
+        ensures keeps { IfOk result (λ _. Keeps self.old self.new) }
+        ensures inside { IfOk result (λ numbers. above numbers.items ≤ node_count self.new) }
+        ensures stand { IfOk result (λ numbers.
+            syntaxes (map (syntax_at self.new) numbers.items) ≡ members_of members.now) }
+        ensures names { IfOk result (λ _.
+            AddsNames self.old self.new (all_bound_names (members_of members.now))) }
+    {
+        let mut numbers = Vec::with_capacity(alloc, members.len())?;
+        'members: for member in members {
+            numbers.push(self.add(alloc, member)?)?;
+        }
+        Ok(numbers)
+    }
+}

@@ -1,0 +1,92 @@
+//! Selectors, and the texts that they are read from.
+ghost use Rattle.std.specs.Prelude.{◌≡◌};
+ghost use Rattle.std.specs.Str.{chars};
+ghost use Rattle.haya_selectors.specs.declared.selector.SelectorError.TheVariants.{OutOfMemory as OutOfMemoryError};
+ghost use Rattle.haya_selectors.specs.Reading.{IsRead, TextGives};
+
+use crate::parse::expr;
+use crate::token::Tokens;
+use haya_entry::EntryType;
+use haya_text::OutOfMemory;
+use std::alloc::{AllocError, AllocFailed, Global};
+use thiserror::Error;
+
+/// Which entries are meant, and what their parts are called.
+#[derive(Debug, Drop, PartialEq, Eq)]
+pub enum Selector {
+    /// `*`: any entry.
+    Wildcard,
+    /// `book`: an entry of this type.
+    Entry(EntryType),
+    /// `!s`: an entry that `s` doesn't pick.
+    Neg(Box<Selector>),
+    /// `n:s`: what `s` picks, called `n`.
+    Binding(String, Box<Selector>),
+    /// `s[a, b]`: what `s` picks, with all of these names.
+    Attr(Box<Selector>, Vec<String>),
+    /// `a | b`: what the first of these that holds picks.
+    Alt(Vec<Selector>),
+    /// `a & b`: parents of which each of these picks one of its own.
+    Multi(Vec<Selector>),
+    /// `l > r`: what `l` picks, with parents that `r` picks.
+    Ancestrage(Box<Selector>, Box<Selector>),
+}
+
+impl Selector {
+    /// The selector at the front of a text; what follows it is ignored. An error is the first fault
+    /// from the left, or out of memory.
+    pub fn parse(alloc: Global, text: &str) -> Result<Selector, SelectorError>
+        ensures grammar { TextGives (chars text.now) result }
+        ensures computed { IsRead (chars text.now) result }
+    {
+        let mut tokens = Tokens::new(text);
+        expr(alloc, &mut tokens)
+    }
+}
+
+/// Why a text is no selector.
+#[derive(Debug, Drop, PartialEq, Eq, Error)]
+pub enum SelectorError {
+    /// A value was wanted, and something else or the end of the text stands there.
+    #[error("missing value")]
+    MissingValue,
+    /// After `[` or `,` in a list stands neither a name nor `]`.
+    #[error("malformed attribute")]
+    MalformedAttribute,
+    /// After a name in a list stands neither `,` nor `]`.
+    #[error("missing comma")]
+    MissingComma,
+    /// A `(` isn't closed.
+    #[error("unbalanced parentheses")]
+    UnbalancedParens,
+    /// The name of no type, in lower case.
+    #[error("unknown entry type: `{0}`")]
+    UnknownEntryType(String),
+    /// Out of memory, which says nothing of the text.
+    #[error("out of memory")]
+    OutOfMemory,
+}
+
+impl From<OutOfMemory> for SelectorError {
+    ghost from_gives = { λ _ e. e ≡ OutOfMemoryError };
+
+    fn from(_error: OutOfMemory) -> SelectorError {
+        SelectorError::OutOfMemory
+    }
+}
+
+impl From<AllocError> for SelectorError {
+    ghost from_gives = { λ _ e. e ≡ OutOfMemoryError };
+
+    fn from(_error: AllocError) -> SelectorError {
+        SelectorError::OutOfMemory
+    }
+}
+
+impl<T: Drop> From<AllocFailed<T>> for SelectorError {
+    ghost from_gives = { λ _ e. e ≡ OutOfMemoryError };
+
+    fn from(_error: AllocFailed<T>) -> SelectorError {
+        SelectorError::OutOfMemory
+    }
+}

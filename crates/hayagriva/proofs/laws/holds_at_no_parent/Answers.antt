@@ -1,5 +1,0 @@
-use Rattle.hayagriva.proofs.ParentSides.{holds_at_no_parent}
-use Rattle.hayagriva.proofs.laws.holds_at_no_parent.Goals as goal
-
-pub returns : goal.returns
-returns c = holds_at_no_parent

@@ -1,5 +1,0 @@
-use Rattle.hayagriva.proofs.ParentSides.{names_change_no_answer}
-use Rattle.hayagriva.proofs.laws.names_change_no_answer.Goals as goal
-
-pub returns : goal.returns
-returns c = names_change_no_answer

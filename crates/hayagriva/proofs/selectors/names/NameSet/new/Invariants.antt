@@ -1,7 +1,0 @@
-use Rattle.std.proofs.Common.{map, take}
-use Rattle.std.specs.Prelude.{string_bytes}
-use Rattle.hayagriva.specs.NameNumbers.{StandsForNames}
-use Rattle.hayagriva.proofs.selectors.names.NameSet.new.Given as goal
-
-abbrev pub invariant-names : goal.invariant-names
-invariant-names l = StandsForNames l.numbers l.unknown (map string_bytes (take l.name-index l.list.items))

@@ -1,0 +1,279 @@
+//! Selectors at worked entries. What loops holds an entry by reference alone.
+use crate::works::{below, english, entry, selector, string};
+use hayagriva::types::EntryType;
+use hayagriva::{BoundSelect, Entry, Selector, Steps};
+use std::process::Abort;
+
+#[derive(Clone, Copy)]
+enum Work {
+    Article,
+    Blog,
+    Book,
+    BookInEnglish,
+    Periodical,
+    WebInEnglish,
+}
+
+// Its key, its type, and whether it is in English.
+fn parts(work: Work) -> (&'static str, EntryType, bool) {
+    match work {
+        Work::Article => ("article", EntryType::Article, false),
+        Work::Blog => ("blog", EntryType::Blog, false),
+        Work::Book => ("book", EntryType::Book, false),
+        Work::BookInEnglish => ("book", EntryType::Book, true),
+        Work::Periodical => ("periodical", EntryType::Periodical, false),
+        Work::WebInEnglish => ("web", EntryType::Web, true),
+    }
+}
+
+fn made(rt: &(impl Abort + AllocGlobal), work: Work) -> Entry {
+    let (key, kind, in_english) = parts(work);
+    if in_english {
+        english(rt, key, kind)
+    } else {
+        entry(rt, key, kind)
+    }
+}
+
+fn add_parents(rt: &(impl Abort + AllocGlobal), child: &mut Entry, parents: &[Work]) {
+    for parent in parents {
+        child.parents.push(made(rt, *parent)).expect(rt, "memory");
+    }
+}
+
+fn article(rt: &(impl Abort + AllocGlobal), parents: &[Work]) -> Entry {
+    let mut article = made(rt, Work::Article);
+    add_parents(rt, &mut article, parents);
+    article
+}
+
+// `no` where the selector doesn't hold, else `yes`, or the key of the entry that `a` is bound to.
+fn applied(rt: &(impl Abort + AllocGlobal), selector: &Selector, entry: &Entry) -> String {
+    match selector.apply(rt.alloc(), entry).expect(rt, "memory") {
+        None => string(rt, "no"),
+        Some(map) => match map.get("a") {
+            Some(bound) => string(rt, bound.key()),
+            None => string(rt, "yes"),
+        },
+    }
+}
+
+// The same by `matches`, `bound` and `bound_select`; `unlike` where the last two differ.
+fn asked(rt: &(impl Abort + AllocGlobal), selector: &Selector, entry: &Entry) -> String {
+    let holds = selector.matches(rt.alloc(), entry).expect(rt, "memory");
+    let bound = selector.bound(rt.alloc(), entry, "a").expect(rt, "memory");
+    let selected = entry
+        .bound_select(rt.alloc(), selector, "a")
+        .expect(rt, "memory");
+    if bound != selected {
+        return string(rt, "unlike");
+    }
+    match bound {
+        Some(bound) => string(rt, bound.key()),
+        None => string(rt, if holds { "yes" } else { "no" }),
+    }
+}
+
+fn is_answer(rt: &(impl Abort + AllocGlobal), text: &str, entry: &Entry, wanted: &str) -> bool {
+    let selector = selector(rt, text);
+    let whole = applied(rt, &selector, entry);
+    let apart = asked(rt, &selector, entry);
+    drop(selector);
+    whole.as_str() == wanted && apart.as_str() == wanted
+}
+
+// Each row: a selector, the parents of an article, and the answer.
+const ON_PARENTS: &[(&str, &[Work], &str)] = &[
+    (
+        "* > a:*[language]",
+        &[Work::Blog, Work::WebInEnglish],
+        "web",
+    ),
+    (
+        "* > book[language]",
+        &[Work::Book, Work::BookInEnglish],
+        "no",
+    ),
+    ("* > !blog", &[], "yes"),
+    ("* > !blog", &[Work::WebInEnglish, Work::Blog], "no"),
+    ("a:* > a:*", &[Work::WebInEnglish], "web"),
+    ("a:* > a:*", &[], "no"),
+    ("* > (* & article)", &[Work::Article, Work::Book], "no"),
+    ("* > (article & a:*)", &[Work::Article, Work::Book], "book"),
+    (
+        "article > periodical > web",
+        &[Work::Periodical, Work::WebInEnglish],
+        "yes",
+    ),
+    ("article > (blog | a:web)", &[Work::WebInEnglish], "web"),
+    (
+        "* > (a:* & b:*)[language]",
+        &[Work::Blog, Work::WebInEnglish],
+        "blog",
+    ),
+    ("* > (a:* & b:*)[language]", &[Work::Blog, Work::Book], "no"),
+    (
+        "* > (book | web)[language]",
+        &[Work::Book, Work::WebInEnglish],
+        "no",
+    ),
+    (
+        "* > (book | web)[language]",
+        &[Work::Blog, Work::WebInEnglish],
+        "yes",
+    ),
+    (
+        "a:(*[nothing] | b:article) > c:*",
+        &[Work::Periodical],
+        "article",
+    ),
+    (
+        "b:(*[nothing] | a:article) > c:*",
+        &[Work::Periodical],
+        "article",
+    ),
+    (
+        "b:(*[nothing] | c:article) > a:*",
+        &[Work::Periodical],
+        "periodical",
+    ),
+    ("(a:article > blog) | b:article", &[Work::Periodical], "yes"),
+    (
+        "(b:article > blog) | a:article",
+        &[Work::Periodical],
+        "article",
+    ),
+    ("(a:article > blog) | b:article", &[Work::Blog], "article"),
+    ("article & article", &[], "no"),
+    ("a:article[language]", &[], "no"),
+    ("a:*", &[Work::Blog], "article"),
+];
+
+fn is_answer_on(
+    rt: &(impl Abort + AllocGlobal),
+    text: &str,
+    parents: &[Work],
+    wanted: &str,
+) -> bool {
+    let entry = article(rt, parents);
+    let is = is_answer(rt, text, &entry, wanted);
+    drop(entry);
+    is
+}
+
+#[test]
+fn holds_and_binds_on_parents(rt: HostRuntime) {
+    for (text, parents, wanted) in ON_PARENTS {
+        assert!(rt; is_answer_on(&rt, *text, *parents, *wanted), "{text}");
+    }
+}
+
+// Each row: a selector, an entry without parents, and the answer.
+const WITHOUT_PARENTS: &[(&str, Work, &str)] = &[
+    ("!book[language]", Work::WebInEnglish, "yes"),
+    ("!book[language]", Work::Article, "no"),
+    ("!book[language]", Work::BookInEnglish, "no"),
+    ("article | blog", Work::WebInEnglish, "no"),
+    ("*[language, nothing]", Work::WebInEnglish, "no"),
+    ("*[nothing, language]", Work::WebInEnglish, "no"),
+    ("*[language, ]", Work::WebInEnglish, "yes"),
+];
+
+fn is_answer_at(rt: &(impl Abort + AllocGlobal), text: &str, work: Work, wanted: &str) -> bool {
+    let entry = made(rt, work);
+    let is = is_answer(rt, text, &entry, wanted);
+    drop(entry);
+    is
+}
+
+#[test]
+fn holds_without_parents(rt: HostRuntime) {
+    for (text, work, wanted) in WITHOUT_PARENTS {
+        assert!(rt; is_answer_at(&rt, *text, *work, *wanted), "{text}");
+    }
+}
+
+// An article whose periodical stands in a web site: the web isn't a parent of the article.
+#[test]
+fn asks_direct_parents_alone(rt: HostRuntime) {
+    let periodical = below(
+        &rt,
+        made(&rt, Work::Periodical),
+        made(&rt, Work::WebInEnglish),
+    );
+    let entry = below(&rt, made(&rt, Work::Article), periodical);
+    assert!(rt; is_answer(&rt, "article > periodical > web", &entry, "no"));
+    assert!(rt; is_answer(&rt, "article > (periodical > web)", &entry, "yes"));
+    drop(entry);
+}
+
+fn holds_above_any(rt: &(impl Abort + AllocGlobal), parents: Selector) -> bool {
+    let child = Box::new(rt.alloc(), Selector::Wildcard).expect(rt, "memory");
+    let above = Box::new(rt.alloc(), parents).expect(rt, "memory");
+    let selector = Selector::Ancestrage(child, above);
+    let entry = made(rt, Work::Article);
+    let holds = selector.matches(rt.alloc(), &entry).expect(rt, "memory");
+    drop(entry);
+    drop(selector);
+    holds
+}
+
+// No text reads as these: an `Alt` without members never holds, a `Multi` without members always
+// does.
+#[test]
+fn lists_without_members(rt: HostRuntime) {
+    assert!(rt; !holds_above_any(&rt, Selector::Alt(Vec::new(rt.alloc()))));
+    assert!(rt; holds_above_any(&rt, Selector::Multi(Vec::new(rt.alloc()))));
+}
+
+fn long_selector(rt: &(impl Abort + AllocGlobal)) -> String {
+    let mut text = string(rt, "article > (book");
+    for _ in 0..200 {
+        text.push_str(" | misc").expect(rt, "memory");
+    }
+    text.push_str(" | a:web)").expect(rt, "memory");
+    text
+}
+
+// A web site behind 150 blogs, by a selector of 200 members.
+#[test]
+fn many_parents_and_members(rt: HostRuntime) {
+    let text = long_selector(&rt);
+    let blogs = article(&rt, &[Work::Blog; 150]);
+    let entry = below(&rt, blogs, made(&rt, Work::WebInEnglish));
+    assert!(rt; is_answer(&rt, text.as_str(), &entry, "web"));
+    drop(entry);
+}
+
+// Each row: a selector, the parents of an article, and how often the evaluator is entered at the
+// article.
+const CALLS: &[(&str, &[Work], u64)] = &[
+    ("* > a:*[language]", &[Work::Blog, Work::WebInEnglish], 5),
+    ("* > book[language]", &[Work::Book, Work::BookInEnglish], 5),
+    ("* > (* & article)", &[Work::Article, Work::Book], 5),
+];
+
+fn calls_at(rt: &(impl Abort + AllocGlobal), text: &str, entry: &Entry) -> u64 {
+    let selector = selector(rt, text);
+    let mut steps = Steps::new();
+    let found = selector
+        .apply_counted(rt.alloc(), entry, &mut steps)
+        .expect(rt, "memory");
+    drop(found);
+    drop(selector);
+    steps.seen()
+}
+
+fn calls(rt: &(impl Abort + AllocGlobal), text: &str, parents: &[Work]) -> u64 {
+    let entry = article(rt, parents);
+    let calls = calls_at(rt, text, &entry);
+    drop(entry);
+    calls
+}
+
+#[test]
+fn counts_calls(rt: HostRuntime) {
+    for (text, parents, wanted) in CALLS {
+        assert_eq!(rt; calls(&rt, *text, *parents), *wanted, "{text}");
+    }
+}

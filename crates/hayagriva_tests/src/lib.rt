@@ -1,0 +1,16 @@
+//! The calls of `hayagriva` at worked rows, as a caller sees them. They stand in a crate of their
+//! own, so that the gate doesn't prove another crate once more with them.
+#![tactic(auto)]
+
+#[cfg(test)]
+mod apply;
+#[cfg(test)]
+mod copies;
+#[cfg(test)]
+mod library;
+#[cfg(test)]
+mod parse;
+#[cfg(test)]
+mod query;
+#[cfg(test)]
+mod works;
