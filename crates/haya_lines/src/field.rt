@@ -42,12 +42,7 @@ fn read_field(alloc: Global, entry: &mut Entry, item: &str) -> Result<(), LineFa
 
 // Sets the field with this name to what the value reads as. Authors, editors and affiliated people
 // are appended; any other value takes the place of what was there.
-fn set_field(
-    alloc: Global,
-    entry: &mut Entry,
-    name: &str,
-    value: &str,
-) -> Result<(), LineFault>
+fn set_field(alloc: Global, entry: &mut Entry, name: &str, value: &str) -> Result<(), LineFault>
     ensures ok { OnOk result (SetsFields
         (with_field name.now value.now (fields (view entry.old))) entry.old entry.new) }
     ensures fault { IfErr result

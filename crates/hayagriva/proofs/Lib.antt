@@ -6,3 +6,4 @@ pub mod Queries
 pub mod QueryRuns
 mod LibraryRows
 pub use Rattle.haya_entry.proofs.Trees
+pub use Rattle.haya_selectors.proofs.OneOutcome

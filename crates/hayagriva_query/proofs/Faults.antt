@@ -7,7 +7,7 @@ use Rattle.std.specs.Str.Lines.{lines}
 use Rattle.hayagriva.specs.Fault.{Fault}
 use Rattle.hayagriva.specs.Reading.{TextReads, TextFails}
 use Rattle.hayagriva.specs.Syntax.{Syntax}
-use Rattle.haya_selectors.proofs.OneOutcome.{one_reading}
+use Rattle.hayagriva.proofs.OneOutcome.{one_reading}
 use Rattle.haya_lines.specs.Line.{Row}
 use Rattle.hayagriva_query.specs.Input.{rows_read}
 use Rattle.hayagriva_query.specs.Output.{KeepsAtFault}

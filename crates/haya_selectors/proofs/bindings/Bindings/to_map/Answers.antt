@@ -11,7 +11,7 @@ use Rattle.haya_selectors.specs.Compiled.{name_of}
 use Rattle.haya_selectors.specs.Evaluation.{named_pairs}
 use Rattle.haya_selectors.specs.Nodes.{slot_names}
 use Rattle.haya_selectors.proofs.Lasts.{last_of-push}
-use Rattle.haya_selectors.proofs.Options.{option_map-cond, option_map-copied}
+use Rattle.haya_selectors.proofs.Options.{option_map-cond}
 use Rattle.haya_selectors.proofs.bindings.Bindings.to_map.Goals as goal
 
 last_more : (q : List ℕ) (name : ℕ → List ℕ) (items : List (ℕ × Bor Entry)) (i : ℕ) (x : ℕ × Bor Entry) → i < length items → x ≡ get_or items i x
