@@ -1,11 +1,10 @@
 //! What a selector answers at an entry.
 ghost use Rattle.std.specs.Prelude.{◌≡◌, ◌+◌, ◌*◌, ◌≤◌, IfOk, OnOk};
 ghost use Rattle.haya_entry.specs.Tree.{view, size};
+ghost use Rattle.haya_selectors.specs.Applied.{Applied, entry_value};
 ghost use Rattle.haya_selectors.specs.Binds.{bound_select};
 ghost use Rattle.haya_selectors.specs.Calls.{calls};
 ghost use Rattle.haya_selectors.specs.Holds.{holds as holds_for};
-ghost use Rattle.haya_selectors.specs.Applied.{entry_value};
-ghost use Rattle.haya_selectors.specs.Applied.{Applied};
 ghost use Rattle.haya_selectors.specs.Syntax.{syntax, nodes};
 
 use crate::Selector;

@@ -1,8 +1,8 @@
 //! What the names of a selector stand for, asked of an entry.
 ghost use Rattle.std.specs.Prelude.{◌≡◌, IfOk};
 ghost use Rattle.haya_entry.specs.Tree.{Tree, view};
-ghost use Rattle.haya_selectors.specs.Binds.{bound_select};
 ghost use Rattle.haya_selectors.specs.Applied.{entry_value};
+ghost use Rattle.haya_selectors.specs.Binds.{bound_select};
 ghost use Rattle.haya_selectors.specs.Syntax.{syntax};
 
 use crate::Selector;

@@ -1,14 +1,13 @@
 //! A compiled selector, asked of entries.
 ghost use Rattle.std.specs.Prelude.{◌≡◌, ◌+◌, ◌<◌, ◌≤◌, [], IfOk, OnOk, if◌then◌else◌};
 ghost use Rattle.haya_entry.specs.Tree.{at, view};
+ghost use Rattle.haya_selectors.specs.Applied.{Applied, entry_value};
 ghost use Rattle.haya_selectors.specs.Binds.{binds, bound_select};
 ghost use Rattle.haya_selectors.specs.BoundNames.{bound_names, distinct_names};
 ghost use Rattle.haya_selectors.specs.Calls.{calls};
 ghost use Rattle.haya_selectors.specs.Evaluation.{Ticks, pair_entries, pairs_view};
 ghost use Rattle.haya_selectors.specs.Holds.{holds};
-ghost use Rattle.haya_selectors.specs.Applied.{entry_value};
 ghost use Rattle.haya_selectors.specs.Nodes.{node_count, slot_names};
-ghost use Rattle.haya_selectors.specs.Applied.{Applied};
 ghost use Rattle.haya_selectors.specs.Syntax.{syntax};
 
 use crate::Selector;
