@@ -10,6 +10,7 @@ ghost use Rattle.haya_selectors.specs.Syntax.{syntax, nodes};
 use crate::Selector;
 use crate::bindings::Bindings;
 use crate::compiled::Compiled;
+use crate::prepared::PreparedSelector;
 use haya_entry::{Entry, Steps};
 use haya_text::OutOfMemory;
 use std::alloc::Global;
@@ -45,8 +46,7 @@ impl Selector {
         ensures fewer { steps.new ≤ steps.old + calls (syntax self.now) (view entry.now) }
         ensures most { steps.new ≤ steps.old + nodes (syntax self.now) * size (view entry.now) }
     {
-        let compiled = Compiled::new(alloc, self)?;
-        compiled.apply(alloc, entry, &mut Bindings::new(alloc), steps)
+        PreparedSelector::new(alloc, self)?.apply(entry, steps)
     }
 
     /// Whether the selector holds at an entry. The only error is `OutOfMemory`.

@@ -1,7 +1,7 @@
 //! A compiled selector, asked of entries.
-ghost use Rattle.std.specs.Prelude.{◌≡◌, ◌+◌, ◌<◌, ◌≤◌, [], IfOk, OnOk, if◌then◌else◌};
+ghost use Rattle.std.specs.Prelude.{◌≡◌, ◌<◌, [], IfOk, if◌then◌else◌};
 ghost use Rattle.haya_entry.specs.Tree.{at, view};
-ghost use Rattle.haya_selectors.specs.Applied.{Applied, entry_value};
+ghost use Rattle.haya_selectors.specs.Applied.{entry_value};
 ghost use Rattle.haya_selectors.specs.Binds.{binds, bound_select};
 ghost use Rattle.haya_selectors.specs.BoundNames.{bound_names, distinct_names};
 ghost use Rattle.haya_selectors.specs.Calls.{calls};
@@ -18,12 +18,11 @@ use crate::nodes::Nodes;
 use haya_entry::{Entry, Steps};
 use haya_text::OutOfMemory;
 use std::alloc::Global;
-use std::collections::HashMap;
 
 // A selector as nodes, of which the root stands for the whole.
 #[derive(Drop)]
 pub(crate) struct Compiled {
-    nodes: Nodes,
+    pub(crate) nodes: Nodes,
     root: usize,
     ghost inside: { root < node_count nodes },
 }
@@ -62,27 +61,6 @@ impl Compiled {
         found.truncate(0);
         let asked = Asked::new(entry, self.nodes.asked_again());
         holds_at(&self.nodes, self.root, alloc, &asked, found, steps)
-    }
-
-    // What its names stand for at an entry, as `Selector::apply_counted` says. `found` is a buffer.
-    pub(crate) fn apply<'e>(
-        &self,
-        alloc: Global,
-        entry: &'e Entry,
-        found: &mut Bindings<'e>,
-        steps: &mut Steps,
-    ) -> Result<Option<HashMap<String, &'e Entry>>, OutOfMemory>
-        ensures answer { IfOk result (Applied (compiled_syntax self.now) (view entry.now)) }
-        ensures ticks { OnOk result
-            (steps.new ≡ steps.old + calls (compiled_syntax self.now) (view entry.now)) }
-        ensures fewer { steps.new ≤
-            steps.old + calls (compiled_syntax self.now) (view entry.now) }
-    {
-        if self.holds(alloc, entry, found, steps)? {
-            Ok(Some(found.to_map(alloc, &self.nodes)?))
-        } else {
-            Ok(None)
-        }
     }
 
     // The entry that a name was bound to last at an entry, as `Selector::bound` says.

@@ -14,7 +14,7 @@ mod iter;
 
 use crate::Library;
 use haya_entry::{Entry, Steps};
-use haya_selectors::{Evaluator, Selector, SelectorError};
+use haya_selectors::{PreparedSelector, Selector, SelectorError};
 use haya_text::OutOfMemory;
 pub use iter::Query;
 use iter::next_hit;
@@ -71,8 +71,8 @@ impl Library {
         ensures error { IfErr result (λ e. IfReads (chars text.now) (λ _. e ≡ OutOfMemoryError)) }
     {
         let selector = Selector::parse(alloc, text)?;
-        let evaluator = Evaluator::new(alloc, &selector)?;
-        Ok(Query::new(evaluator, self.iter()))
+        let prepared = PreparedSelector::new(alloc, &selector)?;
+        Ok(Query::new(prepared, self.iter()))
     }
 
     // The entries where the selector holds.
@@ -87,10 +87,10 @@ impl Library {
             (steps.new ≡ steps.old + sum_by (calls (syntax selector.now)) self.now) }
         ensures most { steps.new ≤ steps.old + nodes (syntax selector.now) * sum_by size self.now }
     {
-        let mut evaluator = Evaluator::new(alloc, selector)?;
+        let mut prepared = PreparedSelector::new(alloc, selector)?;
         let mut hits = Vec::new(alloc);
         let mut rest = self.iter();
-        'hits: while let Some(hit) = next_hit(&mut evaluator, &mut rest, steps)? {
+        'hits: while let Some(hit) = next_hit(&mut prepared, &mut rest, steps)? {
             hits.push(hit)?;
         }
         Ok(hits)

@@ -1,5 +1,6 @@
 //! Selectors at worked entries. What loops holds an entry by reference alone.
 use crate::works::{below, english, entry, selector, string};
+use haya_selectors::PreparedSelector;
 use hayagriva::types::EntryType;
 use hayagriva::{BoundSelect, Entry, Selector, Steps};
 use std::process::Abort;
@@ -276,4 +277,65 @@ fn counts_calls(rt: HostRuntime) {
     for (text, parents, wanted) in CALLS {
         assert_eq!(rt; calls(&rt, *text, *parents), *wanted, "{text}");
     }
+}
+
+// The keys of what `a` and `b` are bound to, a dash where a name isn't bound, `no` where the
+// selector doesn't hold.
+fn keys_at<'e>(
+    rt: &(impl Abort + AllocGlobal),
+    selector: &mut PreparedSelector<'e>,
+    entry: &'e Entry,
+    steps: &mut Steps,
+) -> String {
+    let Some(map) = selector.apply(entry, steps).expect(rt, "memory") else {
+        return string(rt, "no");
+    };
+    let mut keys = string(rt, "");
+    for name in ["a", "b"] {
+        let key = map.get(name).map_or("-", |bound| bound.key());
+        keys.push_str(key).expect(rt, "memory");
+    }
+    keys
+}
+
+// What is bound at a web site and then at an article, and the calls in all.
+fn keys_in_turn(
+    rt: &(impl Abort + AllocGlobal),
+    text: &str,
+    web: &Entry,
+    article: &Entry,
+) -> (String, u64) {
+    let read = selector(rt, text);
+    let mut prepared = PreparedSelector::new(rt.alloc(), &read).expect(rt, "memory");
+    let mut steps = Steps::new();
+    let mut keys = keys_at(rt, &mut prepared, web, &mut steps);
+    let next = keys_at(rt, &mut prepared, article, &mut steps);
+    keys.push_str(next.as_str()).expect(rt, "memory");
+    drop(prepared);
+    drop(read);
+    (keys, steps.seen())
+}
+
+// Each row: a selector, what is bound at each, and the calls at both.
+const IN_TURN: &[(&str, &str, u64)] = &[
+    ("a:web | b:article", "web--article", 3 + 5),
+    ("article > a:blog", "noblog-", 2 + 5),
+    ("book", "nono", 2),
+];
+
+// What a selector has bound at one entry is forgotten at the next.
+#[test]
+fn asked_of_one_after_another(rt: HostRuntime) {
+    let web = made(&rt, Work::WebInEnglish);
+    let blogs = article(&rt, &[Work::Blog; 150]);
+    let article = below(&rt, blogs, made(&rt, Work::WebInEnglish));
+    for (text, wanted, calls) in IN_TURN {
+        let (keys, seen) = keys_in_turn(&rt, *text, &web, &article);
+        assert!(rt; keys.as_str() == *wanted && seen == *calls, "{text}");
+    }
+    let text = long_selector(&rt);
+    let (keys, _) = keys_in_turn(&rt, text.as_str(), &web, &article);
+    assert_eq!(rt; keys.as_str(), "noweb-");
+    drop(article);
+    drop(web);
 }

@@ -7,7 +7,7 @@ ghost use Rattle.hayagriva.specs.QueryState.{query_state};
 use super::Hit;
 use crate::Entries;
 use haya_entry::Steps;
-use haya_selectors::{Evaluator, SelectorError};
+use haya_selectors::{PreparedSelector, SelectorError};
 use haya_text::OutOfMemory;
 use std::marker::Model;
 
@@ -18,7 +18,7 @@ use std::marker::Model;
 /// after the last hit.
 #[derive(Drop)]
 pub struct Query<'s> {
-    evaluator: Evaluator<'s>,
+    selector: PreparedSelector<'s>,
     rest: Entries<'s>,
     steps: Steps,
     // Whether an allocation has failed.
@@ -34,15 +34,15 @@ impl<'s> Model for Query<'s> {
     ghost coded = { query_state_coded };
 
     ghost view = { λ q.
-        query_state q.evaluator (if q.failed then [] else q.rest) q.steps };
+        query_state q.selector (if q.failed then [] else q.rest) q.steps };
 }
 
 impl<'s> Query<'s> {
-    pub(super) fn new(evaluator: Evaluator<'s>, rest: Entries<'s>) -> Query<'s>
-        ensures { result ≡ query_state evaluator.entry rest.entry 0 }
+    pub(super) fn new(selector: PreparedSelector<'s>, rest: Entries<'s>) -> Query<'s>
+        ensures { result ≡ query_state selector.entry rest.entry 0 }
     {
         Query {
-            evaluator,
+            selector,
             rest,
             steps: Steps::new(),
             failed: false,
@@ -69,7 +69,7 @@ impl<'s> Iterator for Query<'s> {
         if self.failed {
             return None;
         }
-        match next_hit(&mut self.evaluator, &mut self.rest, &mut self.steps) {
+        match next_hit(&mut self.selector, &mut self.rest, &mut self.steps) {
             Ok(Some(hit)) => Some(Ok(hit)),
             Ok(None) => None,
             Err(error) => {
@@ -82,15 +82,15 @@ impl<'s> Iterator for Query<'s> {
 
 // The hit of the first entry that is left and picked, with a tick for each call of the evaluator.
 pub(super) fn next_hit<'s>(
-    evaluator: &mut Evaluator<'s>,
+    selector: &mut PreparedSelector<'s>,
     rest: &mut Entries<'s>,
     steps: &mut Steps,
 ) -> Result<Option<Hit<'s>>, OutOfMemory>
-    ensures { SearchGives (query_state evaluator.old rest.old steps.old) result
-        (query_state evaluator.new rest.new steps.new) }
+    ensures { SearchGives (query_state selector.old rest.old steps.old) result
+        (query_state selector.new rest.new steps.new) }
 {
     'missed: while let Some(entry) = rest.next() {
-        if let Some(bindings) = evaluator.apply(entry, steps)? {
+        if let Some(bindings) = selector.apply(entry, steps)? {
             return Ok(Some(Hit { entry, bindings }));
         }
     }

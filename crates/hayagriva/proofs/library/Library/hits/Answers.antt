@@ -3,7 +3,7 @@ use Rattle.hayagriva.proofs.Queries.{all_hits, most_so_far, no_hits, one_hit}
 use Rattle.hayagriva.proofs.library.Library.hits.Goals as goal
 
 pub hits-init : goal.hits-init
-hits-init c = (c.in_ok-evaluator.ensures, rw (c.new-hits.ensures.items, c.iter-rest.ensures.entries) (no_hits _))
+hits-init c = (c.in_ok-prepared.ensures, rw (c.new-hits.ensures.items, c.iter-rest.ensures.entries) (no_hits _))
 
 pub returns-in_err-hit-clause-most : goal.returns-in_err-hit-clause-most
 returns-in_err-hit-clause-most c = most_so_far _ _ _ _ c.hits.invariant.1 (rw c.hits.invariant.0 at c.in_err-hit.ensures.ticks)

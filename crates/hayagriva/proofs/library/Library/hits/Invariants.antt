@@ -7,7 +7,7 @@ use Rattle.hayagriva.proofs.library.Library.hits.Given as goal
 abbrev pub invariant-hits : goal.invariant-hits
 invariant-hits l =
     let s = syntax l.selector in
-    (l.evaluator ≡ s) × HitsSoFar (query_state s l.self l.fn.steps) l.hits.items (query_state s l.rest l.steps)
+    (l.prepared ≡ s) × HitsSoFar (query_state s l.self l.fn.steps) l.hits.items (query_state s l.rest l.steps)
 
 abbrev pub decreases-hits : goal.decreases-hits
 decreases-hits l = length l.rest

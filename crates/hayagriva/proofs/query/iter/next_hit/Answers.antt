@@ -8,13 +8,13 @@ use Rattle.hayagriva.proofs.Queries.{Misses, no_miss, one_miss, then_hit, then_s
 use Rattle.hayagriva.proofs.query.iter.next_hit.Goals as goal
 
 pub missed-init : goal.missed-init
-missed-init c = (refl, no_miss (query_state c.args.evaluator.now c.args.rest.now c.args.steps.now))
+missed-init c = (refl, no_miss (query_state c.args.selector.now c.args.rest.now c.args.steps.now))
 
 pub returns-in-Some-2 : goal.returns-in-Some-2
 returns-in-Some-2 c =
-    let s = c.args.evaluator.now in
+    let s = c.args.selector.now in
     let x = view c.in-Some.entry.now in
-    let same : c.missed.evaluator ≡ s = c.missed.invariant.0 in
+    let same : c.missed.selector ≡ s = c.missed.invariant.0 in
     let left : c.missed.rest ≡ x ∷ c.next.new.self = c.in-Some.ensures.steps in
     let so_far : Misses (query_state s c.args.rest.now c.args.steps.now) (query_state s (x ∷ c.next.new.self) c.missed.steps) = rw left at c.missed.invariant.1 in
     let (holding, bindings) = rw (c.in-Some-2.is, same) at c.in_ok-bindings.ensures.answer in
@@ -23,9 +23,9 @@ returns-in-Some-2 c =
 
 pub missed-preserved : goal.missed-preserved
 missed-preserved c =
-    let s = c.args.evaluator.now in
+    let s = c.args.selector.now in
     let x = view c.in-Some.entry.now in
-    let same : c.missed.evaluator ≡ s = c.missed.invariant.0 in
+    let same : c.missed.selector ≡ s = c.missed.invariant.0 in
     let left : c.missed.rest ≡ x ∷ c.next.new.self = c.in-Some.ensures.steps in
     let so_far : Misses (query_state s c.args.rest.now c.args.steps.now) (query_state s (x ∷ c.next.new.self) c.missed.steps) = rw left at c.missed.invariant.1 in (
       c.in_ok-bindings.ensures.selector ∙ same,
@@ -38,9 +38,9 @@ stops_at_err q r (Err x) e h = h
 
 pub returns-in_err-bindings : goal.returns-in_err-bindings
 returns-in_err-bindings c =
-    let s = c.args.evaluator.now in
+    let s = c.args.selector.now in
     let x = view c.in-Some.entry.now in
-    let same : c.missed.evaluator ≡ s = c.missed.invariant.0 in
+    let same : c.missed.selector ≡ s = c.missed.invariant.0 in
     let left : c.missed.rest ≡ x ∷ c.next.new.self = c.in-Some.ensures.steps in
     let so_far : Misses (query_state s c.args.rest.now c.args.steps.now) (query_state s (x ∷ c.next.new.self) c.missed.steps) = rw left at c.missed.invariant.1 in
     rw (c.in_err-bindings.ensures.selector, same)

@@ -6,5 +6,5 @@ use Rattle.hayagriva.proofs.query.iter.next_hit.Given as goal
 -- none of the entries so far is a hit
 abbrev pub invariant-missed : goal.invariant-missed
 invariant-missed l =
-    let s = l.fn.evaluator in
-    (l.evaluator ≡ s) × Misses (query_state s l.fn.rest l.fn.steps) (query_state s l.rest l.steps)
+    let s = l.fn.selector in
+    (l.selector ≡ s) × Misses (query_state s l.fn.rest l.fn.steps) (query_state s l.rest l.steps)

@@ -16,15 +16,24 @@ use std::marker::Model;
 
 /// A selector made ready to be asked of one entry after another: it is compiled once. By value it
 /// is the selector.
+///
+/// ```
+/// let mut selector = PreparedSelector::new(alloc, &Selector::parse(alloc, "a:book")?)?;
+/// for entry in &entries {
+///     if let Some(bindings) = selector.apply(entry, &mut steps)? {
+///         // `a` is bound to the book
+///     }
+/// }
+/// ```
 #[derive(Drop)]
-pub struct Evaluator<'e> {
+pub struct PreparedSelector<'e> {
     alloc: Global,
     compiled: Compiled,
     // A buffer.
     found: Bindings<'e>,
 }
 
-impl<'e> Model for Evaluator<'e> {
+impl<'e> Model for PreparedSelector<'e> {
     ghost use Rattle.haya_selectors.specs.Root.{compiled_syntax};
     ghost use Rattle.haya_selectors.specs.Syntax.{Syntax};
     ghost use Rattle.haya_selectors.specs.SyntaxCode.{syntax_coded};
@@ -33,15 +42,15 @@ impl<'e> Model for Evaluator<'e> {
 
     ghost coded = { syntax_coded };
 
-    ghost view = { λ e. compiled_syntax e.compiled };
+    ghost view = { λ p. compiled_syntax p.compiled };
 }
 
-impl<'e> Evaluator<'e> {
-    /// The evaluator of a selector. The only error is out of memory.
-    pub fn new(alloc: Global, selector: &Selector) -> Result<Evaluator<'e>, OutOfMemory>
-        ensures { IfOk result (λ evaluator. evaluator ≡ syntax selector.now) }
+impl<'e> PreparedSelector<'e> {
+    /// The selector, compiled. The only error is `OutOfMemory`.
+    pub fn new(alloc: Global, selector: &Selector) -> Result<PreparedSelector<'e>, OutOfMemory>
+        ensures { IfOk result (λ prepared. prepared ≡ syntax selector.now) }
     {
-        Ok(Evaluator {
+        Ok(PreparedSelector {
             alloc,
             compiled: Compiled::new(alloc, selector)?,
             found: Bindings::new(alloc),
@@ -60,7 +69,12 @@ impl<'e> Evaluator<'e> {
         ensures ticks { OnOk result (steps.new ≡ steps.old + calls self.old (view entry.now)) }
         ensures fewer { steps.new ≤ steps.old + calls self.old (view entry.now) }
     {
-        self.compiled
-            .apply(self.alloc, entry, &mut self.found, steps)
+        let holds = self
+            .compiled
+            .holds(self.alloc, entry, &mut self.found, steps)?;
+        if !holds {
+            return Ok(None);
+        }
+        Ok(Some(self.found.to_map(self.alloc, &self.compiled.nodes)?))
     }
 }
