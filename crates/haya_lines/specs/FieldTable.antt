@@ -104,7 +104,28 @@ with_last vs v = Some (unwrap_or vs [] ++ v ∷ [])
 abbrev pub with_number : List ℕ → List ℕ → Fields → Fields
 with_number key value f = record f { serial_number = Some (with_serial key value f.serial_number) }
 
--- each name, with what its values read as and what they change
+-- each name of a number, a time or a serial number, with what its values read as and what they change
+abbrev pub number_table : List (List ℕ × Setter)
+number_table =
+    (codes "issue", field_setter number_or_text_of (λ v f. record f { issue = Some v }))
+    ∷ (codes "chapter", field_setter number_or_text_of (λ v f. record f { chapter = Some v }))
+    ∷ (codes "volume", field_setter number_or_text_of (λ v f. record f { volume = Some v }))
+    ∷ (codes "edition", field_setter number_or_text_of (λ v f. record f { edition = Some v }))
+    ∷ (codes "volume-total", field_setter number_of (λ v f. record f { volume_total = Some v }))
+    ∷ (codes "page-total", field_setter number_of (λ v f. record f { page_total = Some v }))
+    ∷ (codes "page-range", field_setter pages_or_text_of (λ v f. record f { page_range = Some v }))
+    ∷ (codes "time-range", field_setter range_or_text_of (λ v f. record f { time_range = Some v }))
+    ∷ (codes "runtime", field_setter duration_or_text_of (λ v f. record f { runtime = Some v }))
+    ∷ (codes "serial-number", field_setter bytes_of (with_number (codes "serial")))
+    ∷ (codes "doi", field_setter bytes_of (with_number (codes "doi")))
+    ∷ (codes "isbn", field_setter bytes_of (with_number (codes "isbn")))
+    ∷ (codes "issn", field_setter bytes_of (with_number (codes "issn")))
+    ∷ (codes "pmid", field_setter bytes_of (with_number (codes "pmid")))
+    ∷ (codes "pmcid", field_setter bytes_of (with_number (codes "pmcid")))
+    ∷ (codes "arxiv", field_setter bytes_of (with_number (codes "arxiv")))
+    ∷ []
+
+-- the same of each name
 abbrev pub field_table : List (List ℕ × Setter)
 field_table =
     (codes "title", field_setter text_of (λ v f. record f { title = Some v }))
@@ -131,26 +152,16 @@ field_table =
     ∷ (codes "date", field_setter date_of (λ v f. record f { date = Some v }))
     ∷ (codes "publisher", field_setter publisher_of (λ v f. record f { publisher = Some v }))
     ∷ (codes "url", field_setter url_of (λ v f. record f { url = Some v }))
-    ∷ (codes "issue", field_setter number_or_text_of (λ v f. record f { issue = Some v }))
-    ∷ (codes "chapter", field_setter number_or_text_of (λ v f. record f { chapter = Some v }))
-    ∷ (codes "volume", field_setter number_or_text_of (λ v f. record f { volume = Some v }))
-    ∷ (codes "edition", field_setter number_or_text_of (λ v f. record f { edition = Some v }))
-    ∷ (codes "volume-total", field_setter number_of (λ v f. record f { volume_total = Some v }))
-    ∷ (codes "page-total", field_setter number_of (λ v f. record f { page_total = Some v }))
-    ∷ (codes "page-range", field_setter pages_or_text_of (λ v f. record f { page_range = Some v }))
-    ∷ (codes "time-range", field_setter range_or_text_of (λ v f. record f { time_range = Some v }))
-    ∷ (codes "runtime", field_setter duration_or_text_of (λ v f. record f { runtime = Some v }))
     ∷ (codes "language", field_setter bytes_of (λ v f. record f { language = Some v }))
-    ∷ (codes "serial-number", field_setter bytes_of (with_number (codes "serial")))
-    ∷ (codes "doi", field_setter bytes_of (with_number (codes "doi")))
-    ∷ (codes "isbn", field_setter bytes_of (with_number (codes "isbn")))
-    ∷ (codes "issn", field_setter bytes_of (with_number (codes "issn")))
-    ∷ (codes "pmid", field_setter bytes_of (with_number (codes "pmid")))
-    ∷ (codes "pmcid", field_setter bytes_of (with_number (codes "pmcid")))
-    ∷ (codes "arxiv", field_setter bytes_of (with_number (codes "arxiv")))
-    ∷ []
+    ∷ number_table
 
--- the fields after the value is set under this name, or why it can't be
+-- the fields after the value is set under this name of a table, or why it can't be
+abbrev pub with_field_of : List (List ℕ × Setter) → List ℕ → Setter
+with_field_of table name value f =
+    and_then (ok_or (lookup (bytes_eq name) table) UnknownField) (λ set. set value f)
+
 abbrev pub with_field : List ℕ → Setter
-with_field name value f =
-    and_then (ok_or (lookup (bytes_eq name) field_table) UnknownField) (λ set. set value f)
+with_field = with_field_of field_table
+
+abbrev pub with_number_field : List ℕ → Setter
+with_number_field = with_field_of number_table

@@ -4,7 +4,7 @@ ghost use Rattle.haya_people.specs.Person.{person_view};
 ghost use Rattle.haya_people.specs.Roles.{role_view, roles_view};
 ghost use Rattle.haya_entry.specs.Tree.{Sets, view, fields};
 ghost use Rattle.haya_lines.specs.FieldTable.{affiliated_of, date_of, ok_or_refused, role_of};
-ghost use Rattle.haya_lines.specs.FieldTable.{with_field, with_last, with_number};
+ghost use Rattle.haya_lines.specs.FieldTable.{with_field, with_last, with_number, with_number_field};
 ghost use Rattle.haya_lines.specs.Line.{field_read, fields_read};
 ghost use Rattle.haya_lines.specs.LineReading.{IsFaultOf, SetsFields};
 
@@ -64,6 +64,25 @@ fn set_field(alloc: Global, entry: &mut Entry, name: &str, value: &str) -> Resul
         "date" => entry.set_date(read_date(value)?),
         "publisher" => entry.set_publisher(read_value(alloc, value)?),
         "url" => entry.set_url(read_value(alloc, value)?),
+        "language" => entry.set_language(String::from_str(alloc, value)?),
+        _ => set_number_field(alloc, entry, name, value)?,
+    }
+    Ok(())
+}
+
+// The same of a number, a time or a serial number.
+fn set_number_field(
+    alloc: Global,
+    entry: &mut Entry,
+    name: &str,
+    value: &str,
+) -> Result<(), LineFault>
+    ensures ok { OnOk result (SetsFields
+        (with_number_field name.now value.now (fields (view entry.old))) entry.old entry.new) }
+    ensures fault { IfErr result
+        (IsFaultOf (with_number_field name.now value.now (fields (view entry.old)))) }
+{
+    match name {
         "issue" => entry.set_issue(read_value(alloc, value)?),
         "chapter" => entry.set_chapter(read_value(alloc, value)?),
         "volume" => entry.set_volume(read_value(alloc, value)?),
@@ -73,7 +92,6 @@ fn set_field(alloc: Global, entry: &mut Entry, name: &str, value: &str) -> Resul
         "page-range" => entry.set_page_range(read_value(alloc, value)?),
         "time-range" => entry.set_time_range(read_value(alloc, value)?),
         "runtime" => entry.set_runtime(read_value(alloc, value)?),
-        "language" => entry.set_language(String::from_str(alloc, value)?),
         "serial-number" => set_number(alloc, entry, "serial", value)?,
         "doi" | "isbn" | "issn" | "pmid" | "pmcid" | "arxiv" => {
             set_number(alloc, entry, name, value)?
