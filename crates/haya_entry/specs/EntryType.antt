@@ -40,8 +40,10 @@ type_name Original = codes "Original"
 -- every type
 abbrev pub all_types : List EntryType
 all_types =
-    Article ∷ Chapter ∷ Entry ∷ Anthos ∷ Report ∷ Thesis ∷ Web ∷ Scene ∷ Artwork ∷ Patent ∷ Case ∷ Newspaper ∷ Legislation ∷ Manuscript ∷ Post ∷
-    Misc ∷ Performance ∷ Periodical ∷ Proceedings ∷ Book ∷ Blog ∷ Reference ∷ Conference ∷ Anthology ∷ Repository ∷ Thread ∷ Video ∷ Audio ∷ Exhibition ∷ Original ∷ []
+    Article ∷ Chapter ∷ Entry ∷ Anthos ∷ Report ∷ Thesis ∷ Web ∷ Scene ∷ Artwork ∷ Patent ∷
+    Case ∷ Newspaper ∷ Legislation ∷ Manuscript ∷ Post ∷ Misc ∷ Performance ∷ Periodical ∷
+    Proceedings ∷ Book ∷ Blog ∷ Reference ∷ Conference ∷ Anthology ∷ Repository ∷ Thread ∷
+    Video ∷ Audio ∷ Exhibition ∷ Original ∷ []
 
 -- the text with its ASCII letters in lower case
 abbrev pub in_lower_case : List ℕ → List ℕ

@@ -154,7 +154,8 @@ keyed_serial_number key t = serial_text key (fields t).serial_number
 
 -- the entry with this serial number under the key, in the place of the one that was there
 abbrev pub with_keyed_serial_number : List ℕ → List ℕ → Tree → Tree
-with_keyed_serial_number key text = with_fields (λ f. record f { serial_number = Some (with_serial key text f.serial_number) })
+with_keyed_serial_number key text =
+    with_fields (λ f. record f { serial_number = Some (with_serial key text f.serial_number) })
 
 -- the same of an entry that isn't a tree yet
 abbrev pub serial_of : List ℕ → Entry → Option (List ℕ)
@@ -203,7 +204,8 @@ new_entry key kind = node (no_fields key kind) no_trees
 
 -- these fields with the people of others
 abbrev pub with_people_of : Fields → Fields → Fields
-with_people_of from f = record f { authors = from.authors; editors = from.editors; affiliated = from.affiliated }
+with_people_of from f =
+    record f { authors = from.authors; editors = from.editors; affiliated = from.affiliated }
 
 -- these fields with all that others have but their key, type and people
 abbrev pub with_rest_of : Fields → Fields → Fields

@@ -104,7 +104,8 @@ with_last vs v = Some (unwrap_or vs [] ++ v ∷ [])
 abbrev pub with_number : List ℕ → List ℕ → Fields → Fields
 with_number key value f = record f { serial_number = Some (with_serial key value f.serial_number) }
 
--- each name of a number, a time or a serial number, with what its values read as and what they change
+-- each name of a number, a time or a serial number, with what its values read as and what they
+-- change
 abbrev pub number_table : List (List ℕ × Setter)
 number_table =
     (codes "issue", field_setter number_or_text_of (λ v f. record f { issue = Some v }))

@@ -4,7 +4,8 @@ ghost use Rattle.haya_people.specs.Person.{person_view};
 ghost use Rattle.haya_people.specs.Roles.{role_view, roles_view};
 ghost use Rattle.haya_entry.specs.Tree.{Sets, view, fields};
 ghost use Rattle.haya_lines.specs.FieldTable.{affiliated_of, date_of, ok_or_refused, role_of};
-ghost use Rattle.haya_lines.specs.FieldTable.{with_field, with_last, with_number, with_number_field};
+ghost use Rattle.haya_lines.specs.FieldTable.{with_field, with_last, with_number};
+ghost use Rattle.haya_lines.specs.FieldTable.{with_number_field};
 ghost use Rattle.haya_lines.specs.Line.{field_read, fields_read};
 ghost use Rattle.haya_lines.specs.LineReading.{IsFaultOf, SetsFields};
 
