@@ -8,3 +8,4 @@ mod LookupLemmas
 mod RoleLemmas
 mod FirstValues
 mod LookupRows
+pub mod Results

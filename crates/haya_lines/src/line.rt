@@ -50,8 +50,7 @@ fn read_items(alloc: Global, items: &[&str], deepest: usize) -> Result<(usize, E
         return Err(LineFault::UnknownType);
     };
     let mut entry = Entry::new(alloc, key, kind)?;
-    read_fields(alloc, &mut entry, more)?;
-    Ok((depth, entry))
+    read_fields(alloc, &mut entry, more).and(Ok((depth, entry)))
 }
 
 // One to three digits, for a depth of at most 500 that is no deeper than this.

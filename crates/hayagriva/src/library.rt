@@ -61,7 +61,7 @@ impl Library {
     {
         let mut library = Library::new(alloc);
         for entry in entries {
-            library.push(&entry)?;
+            library.insert(entry)?;
         }
         Ok(library)
     }
@@ -126,8 +126,12 @@ impl Library {
         ensures err { OnErr result (self.new ≡ self.old) }
     {
         let alloc = *self.stored.allocator();
-        let key = String::from_str(alloc, entry.key())?;
-        self.stored.insert(key, entry)?;
+        let Ok(key) = String::from_str(alloc, entry.key()) else {
+            // By a call: at an exit, the drop of an entry is proved field by field.
+            drop(entry);
+            return Err(OutOfMemory);
+        };
+        drop(self.stored.insert(key, entry)?);
         Ok(())
     }
 

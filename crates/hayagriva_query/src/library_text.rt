@@ -64,11 +64,13 @@ impl Reader {
             (FaultInLine number (row_read (length self.old.chain.items) (items line.now))) }
     {
         match read_line(alloc, line, self.chain.len()) {
-            Ok((depth, entry)) => {
-                self.close_to(depth)?;
-                self.chain.push(entry)?;
-                Ok(())
-            }
+            Ok((depth, entry)) => match self.close_to(depth) {
+                Ok(()) => Ok(self.chain.push(entry)?),
+                Err(fault) => {
+                    drop(entry);
+                    Err(fault)
+                }
+            },
             Err(fault) => Err(Fault::of_line(number, fault)),
         }
     }

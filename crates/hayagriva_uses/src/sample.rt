@@ -1,6 +1,6 @@
 //! A small library: an article in a journal on a web site, an article on a blog, and a note without
-//! parents. Each function owns few entries where a call may fail: every path that drops one is
-//! proved.
+//! parents. Where a call fails, the entries are dropped by calls: at an exit, the drop of an entry
+//! is proved field by field.
 use hayagriva::types::{EntryType, FormatString};
 use hayagriva::{Entry, Library};
 use std::alloc::Global;
@@ -9,9 +9,19 @@ fn text(alloc: Global, value: &str) -> anyhow::Result<String> {
     Ok(String::from_str(alloc, value)?)
 }
 
-fn below(mut child: Entry, parent: Entry) -> anyhow::Result<Entry> {
-    child.parents.push(parent)?;
-    Ok(child)
+// An entry with one more parent.
+fn below(child: anyhow::Result<Entry>, parent: anyhow::Result<Entry>) -> anyhow::Result<Entry> {
+    match (child, parent) {
+        (Ok(mut child), Ok(parent)) => Ok(child.parents.push(parent).and(Ok(child))?),
+        (Err(fault), other) | (other, Err(fault)) => {
+            drop(other);
+            Err(fault)
+        }
+    }
+}
+
+fn empty(alloc: Global, key: &str, kind: EntryType) -> anyhow::Result<Entry> {
+    Ok(Entry::new(alloc, key, kind)?)
 }
 
 fn site(alloc: Global) -> anyhow::Result<Entry> {
@@ -31,22 +41,22 @@ fn journal(alloc: Global) -> anyhow::Result<Entry> {
 fn paper(alloc: Global) -> anyhow::Result<Entry> {
     let doi = text(alloc, "10.1145/24039.24041")?;
     let mut paper = Entry::new(alloc, "dependence", EntryType::Article)?;
-    paper.set_doi(doi)?;
-    Ok(paper)
+    Ok(paper.set_doi(doi).and(Ok(paper))?)
 }
 
 fn paper_in_journal(alloc: Global) -> anyhow::Result<Entry> {
-    let journal = below(journal(alloc)?, site(alloc)?)?;
-    below(paper(alloc)?, journal)
+    below(paper(alloc), below(journal(alloc), site(alloc)))
 }
 
 fn post(alloc: Global) -> anyhow::Result<Entry> {
-    let blog = Entry::new(alloc, "blog", EntryType::Blog)?;
-    below(Entry::new(alloc, "post", EntryType::Article)?, blog)
+    below(
+        empty(alloc, "post", EntryType::Article),
+        empty(alloc, "blog", EntryType::Blog),
+    )
 }
 
 fn note(alloc: Global) -> anyhow::Result<Entry> {
-    Ok(Entry::new(alloc, "note", EntryType::Misc)?)
+    empty(alloc, "note", EntryType::Misc)
 }
 
 fn add(library: &mut Library, entry: anyhow::Result<Entry>) -> anyhow::Result<()> {

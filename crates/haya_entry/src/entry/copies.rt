@@ -25,9 +25,17 @@ impl Entry {
         ensures { IfOk result (λ copy. view copy ≡ with_parents [] (view self.now)) }
     {
         let mut copy = Entry::new(alloc, self.key(), self.entry_type())?;
-        copy.copy_people(alloc, self)?;
-        copy.copy_rest(alloc, self)?;
-        Ok(copy)
+        copy.copy_fields(alloc, self).and(Ok(copy))
+    }
+
+    // Takes all that isn't the key, the type or a parent over from another entry.
+    fn copy_fields(&mut self, alloc: Global, from: &Entry) -> Result<(), OutOfMemory>
+        ensures { OnOk result (Sets self.old self.new (λ f.
+            with_rest_of (fields (view from.now)) (with_people_of (fields (view from.now)) f))) }
+    {
+        self.copy_people(alloc, from)?;
+        self.copy_rest(alloc, from)?;
+        Ok(())
     }
 
     // Takes the people over from another entry.
