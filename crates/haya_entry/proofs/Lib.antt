@@ -8,4 +8,3 @@ mod LookupLemmas
 mod RoleLemmas
 mod FirstValues
 mod LookupRows
-pub mod Results

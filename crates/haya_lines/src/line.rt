@@ -50,7 +50,14 @@ fn read_items(alloc: Global, items: &[&str], deepest: usize) -> Result<(usize, E
         return Err(LineFault::UnknownType);
     };
     let mut entry = Entry::new(alloc, key, kind)?;
-    read_fields(alloc, &mut entry, more).and(Ok((depth, entry)))
+    match read_fields(alloc, &mut entry, more) {
+        Ok(()) => Ok((depth, entry)),
+        Err(fault) => {
+            // By a call: at an exit, the drop of an entry is proved field by field.
+            drop(entry);
+            Err(fault)
+        }
+    }
 }
 
 // One to three digits, for a depth of at most 500 that is no deeper than this.

@@ -131,7 +131,9 @@ impl Library {
             drop(entry);
             return Err(OutOfMemory);
         };
-        drop(self.stored.insert(key, entry)?);
+        if let Some(replaced) = self.stored.insert(key, entry)? {
+            drop(replaced);
+        }
         Ok(())
     }
 

@@ -67,6 +67,7 @@ impl Reader {
             Ok((depth, entry)) => match self.close_to(depth) {
                 Ok(()) => Ok(self.chain.push(entry)?),
                 Err(fault) => {
+                    // By a call: at an exit, the drop of an entry is proved field by field.
                     drop(entry);
                     Err(fault)
                 }
