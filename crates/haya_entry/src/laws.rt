@@ -1,31 +1,38 @@
 //! Laws of the definitions. No program calls them.
-ghost use Rattle.std.specs.Prelude.{◌≡◌, ◌↔◌, ℕ, List, true, Some, if◌then◌else◌};
+ghost use Rattle.std.specs.Prelude.{◌≡◌, ℕ, List, true, Some, if◌then◌else◌};
 ghost use Rattle.std.specs.Str.{bytes_eq};
 ghost use Rattle.haya_entry.specs.declared.entry.Entry.{Entry as EntryData};
-ghost use Rattle.haya_entry.specs.declared.types.EntryType.{EntryType as EntryTypeData};
-ghost use Rattle.haya_entry.specs.declared.types.SerialNumber.{SerialNumber as SerialNumberData};
 ghost use Rattle.haya_entry.specs.Levels.{AncestorsOnce};
 ghost use Rattle.haya_entry.specs.Names.{has_name};
 ghost use Rattle.haya_entry.specs.SerialNumber.{serial_view};
 ghost use Rattle.haya_entry.specs.Tree.{Tree, view, keyed_serial_number, with_keyed_serial_number};
+ghost use Rattle.haya_text.specs.Equality.{EqualsByValue, EqualsByView, HashesAlike};
 
 use crate::{Entry, EntryType, SerialNumber};
+use std::hash::Hash;
 
 /// `==` of two entries holds exactly where their values are equal, parents and all that is above
 /// them included.
 pub fn entries_equal_by_value()
-    ensures { (a b : EntryData) → (⟦<Entry as PartialEq>⟧.eq a b ≡ true) ↔ (view a ≡ view b) }
+    ensures { EqualsByView ⟦<Entry as PartialEq>⟧.eq view }
 {}
 
 /// `==` of two types holds exactly where they are the same type.
 pub fn types_equal_by_value()
-    ensures { (a b : EntryTypeData) → (⟦<EntryType as PartialEq>⟧.eq a b ≡ true) ↔ (a ≡ b) }
+    ensures { EqualsByValue ⟦<EntryType as PartialEq>⟧.eq }
 {}
 
 /// `==` of two serial numbers holds exactly where their values are equal.
 pub fn serial_numbers_equal_by_value()
-    ensures { (a b : SerialNumberData) →
-        (⟦<SerialNumber as PartialEq>⟧.eq a b ≡ true) ↔ (serial_view a ≡ serial_view b) }
+    ensures { EqualsByView ⟦<SerialNumber as PartialEq>⟧.eq serial_view }
+{}
+
+/// Entries, types and serial numbers that are equal by `==` hash alike.
+pub fn equal_entries_hash_alike()
+    ensures entry { HashesAlike ⟦<Entry as PartialEq>⟧.eq ⟦<Entry as Hash>⟧.hash_input }
+    ensures kind { HashesAlike ⟦<EntryType as PartialEq>⟧.eq ⟦<EntryType as Hash>⟧.hash_input }
+    ensures serial { HashesAlike ⟦<SerialNumber as PartialEq>⟧.eq
+        ⟦<SerialNumber as Hash>⟧.hash_input }
 {}
 
 /// Equal entries have the same names.

@@ -1,5 +1,6 @@
 -- The fields of a line: each name, what its values read as, and what they change.
-use Rattle.std.specs.Prelude.{ℕ, ◌+◌, ◌==◌, List, [], ◌∷◌, ◌++◌, take, drop, position, Option, Some, option_map, ok_or, unwrap_or, Result, Ok, Err, codes}
+use Rattle.std.specs.Prelude.{ℕ, ◌+◌, ◌==◌, List, [], ◌∷◌, ◌++◌, take, drop, position, codes}
+use Rattle.std.specs.Prelude.{Option, Some, option_map, ok_or, unwrap_or, Result, Ok, Err}
 use Rattle.std.specs.Map.{lookup}
 use Rattle.std.specs.Result.{result_ok}
 use Rattle.std.specs.Str.{bytes_eq, chars}
@@ -133,7 +134,10 @@ field_table =
     ∷ (codes "location", field_setter text_of (λ v f. record f { location = Some v }))
     ∷ (codes "organization", field_setter text_of (λ v f. record f { organization = Some v }))
     ∷ (codes "archive", field_setter text_of (λ v f. record f { archive = Some v }))
-    ∷ (codes "archive-location", field_setter text_of (λ v f. record f { archive_location = Some v }))
+    ∷ (
+      codes "archive-location",
+      field_setter text_of (λ v f. record f { archive_location = Some v }),
+    )
     ∷ (codes "call-number", field_setter text_of (λ v f. record f { call_number = Some v }))
     ∷ (codes "note", field_setter text_of (λ v f. record f { note = Some v }))
     ∷ (codes "abstract", field_setter text_of (λ v f. record f { abstract_ = Some v }))

@@ -2,18 +2,13 @@
 ghost use Rattle.std.specs.Prelude.{◌≡◌, ◌↔◌, ℕ, List, true, Ok, Err};
 ghost use Rattle.std.specs.Str.{chars};
 ghost use Rattle.std.specs.Cmp.{IsTotalOrder};
-ghost use Rattle.haya_text.specs.Equality.{EqualsByValue};
+ghost use Rattle.haya_text.specs.Equality.{EqualsByValue, EqualsByView, HashesAlike};
 ghost use Rattle.haya_numbers.specs.Numeric.{NumericView, value_view, numeric_view, csl_order};
 ghost use Rattle.haya_numbers.specs.NumericBack.{reads_back as is_back};
 ghost use Rattle.haya_numbers.specs.NumericGrammar.{IsFault, ReadsAs};
 ghost use Rattle.haya_numbers.specs.NumericPrinted.{shown_numeric};
 ghost use Rattle.haya_numbers.specs.NumericReading.{numeric_read};
-ghost use Rattle.haya_numbers.specs.declared.numeric.Numeric as numeric;
 ghost use Rattle.haya_numbers.specs.declared.numeric.NumericError.{NumericError};
-ghost use Rattle.haya_numbers.specs.declared.numeric.NumericDelimiter as delimiter;
-ghost use Rattle.haya_numbers.specs.declared.numeric.NumericValue as numeric_value;
-ghost use Rattle.haya_numbers.specs.declared.numeric.form.GrammarGender as gender;
-ghost use Rattle.haya_numbers.specs.declared.numeric.form.NumberForm as form;
 
 pub mod pages;
 
@@ -22,10 +17,8 @@ use std::hash::Hash;
 
 /// `==` of numbers and of their values holds exactly where both are equal by value.
 pub fn equal_by_value()
-    ensures numeric { (a b : numeric.Numeric)
-        → (⟦<Numeric as PartialEq>⟧.eq a b ≡ true) ↔ (numeric_view a ≡ numeric_view b) }
-    ensures value { (a b : numeric_value.NumericValue)
-        → (⟦<NumericValue as PartialEq>⟧.eq a b ≡ true) ↔ (value_view a ≡ value_view b) }
+    ensures numeric { EqualsByView ⟦<Numeric as PartialEq>⟧.eq numeric_view }
+    ensures value { EqualsByView ⟦<NumericValue as PartialEq>⟧.eq value_view }
 {}
 
 /// `==` of delimiters, forms, genders and faults of numbers holds exactly where both are the same.
@@ -38,18 +31,14 @@ pub fn kinds_equal_by_value()
 
 /// Numbers and what they hold, and forms and genders, that are equal by `==` hash alike.
 pub fn equal_numbers_hash_alike()
-    ensures numeric { (a b : numeric.Numeric) → ⟦<Numeric as PartialEq>⟧.eq a b ≡ true →
-        ⟦<Numeric as Hash>⟧.hash_input a ≡ ⟦<Numeric as Hash>⟧.hash_input b }
-    ensures value { (a b : numeric_value.NumericValue)
-        → ⟦<NumericValue as PartialEq>⟧.eq a b ≡ true
-        → ⟦<NumericValue as Hash>⟧.hash_input a ≡ ⟦<NumericValue as Hash>⟧.hash_input b }
-    ensures delimiter { (a b : delimiter.NumericDelimiter)
-        → ⟦<NumericDelimiter as PartialEq>⟧.eq a b ≡ true
-        → ⟦<NumericDelimiter as Hash>⟧.hash_input a ≡ ⟦<NumericDelimiter as Hash>⟧.hash_input b }
-    ensures form { (a b : form.NumberForm) → ⟦<NumberForm as PartialEq>⟧.eq a b ≡ true →
-        ⟦<NumberForm as Hash>⟧.hash_input a ≡ ⟦<NumberForm as Hash>⟧.hash_input b }
-    ensures gender { (a b : gender.GrammarGender) → ⟦<GrammarGender as PartialEq>⟧.eq a b ≡ true →
-        ⟦<GrammarGender as Hash>⟧.hash_input a ≡ ⟦<GrammarGender as Hash>⟧.hash_input b }
+    ensures numeric { HashesAlike ⟦<Numeric as PartialEq>⟧.eq ⟦<Numeric as Hash>⟧.hash_input }
+    ensures value { HashesAlike ⟦<NumericValue as PartialEq>⟧.eq
+        ⟦<NumericValue as Hash>⟧.hash_input }
+    ensures delimiter { HashesAlike ⟦<NumericDelimiter as PartialEq>⟧.eq
+        ⟦<NumericDelimiter as Hash>⟧.hash_input }
+    ensures form { HashesAlike ⟦<NumberForm as PartialEq>⟧.eq ⟦<NumberForm as Hash>⟧.hash_input }
+    ensures gender { HashesAlike ⟦<GrammarGender as PartialEq>⟧.eq
+        ⟦<GrammarGender as Hash>⟧.hash_input }
 {}
 
 /// The order of numbers is total: of any two one is first or they tie, and it goes on along chains.

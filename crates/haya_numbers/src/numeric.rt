@@ -16,23 +16,31 @@ use thiserror::Error;
 /// A number or a set of numbers, perhaps with a text before and one after it.
 #[derive(Debug, Drop, PartialEq, Eq, Hash)]
 pub struct Numeric {
+    /// The number, or the numbers.
     pub value: NumericValue,
+    /// The text before it.
     pub prefix: Option<Box<String>>,
+    /// The text after it.
     pub suffix: Option<Box<String>>,
 }
 
 /// One number, or a set of numbers, each with the delimiter that follows it.
 #[derive(Debug, Drop, PartialEq, Eq, Hash)]
 pub enum NumericValue {
+    /// One number.
     Number(i32),
+    /// Numbers, and what stands behind each.
     Set(Vec<(i32, Option<NumericDelimiter>)>),
 }
 
 /// What stands between two numbers of a set.
 #[derive(Clone, Copy, Debug, PartialEq, Eq, Hash)]
 pub enum NumericDelimiter {
+    /// A comma, printed with a blank behind it.
     Comma,
+    /// An ampersand, printed between blanks.
     Ampersand,
+    /// A hyphen, printed as an en dash.
     Hyphen,
 }
 

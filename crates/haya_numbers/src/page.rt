@@ -16,17 +16,22 @@ use thiserror::Error;
 /// Pages and ranges of pages, with what separates them.
 #[derive(Debug, Drop, PartialEq, Eq, Hash)]
 pub struct PageRanges {
+    /// The pages, ranges and separators in the order of the text.
     pub ranges: Vec<PageRangesPart>,
 }
 
 /// A page, a range of pages, or what separates two of these.
 #[derive(Debug, Drop, PartialEq, Eq, Hash)]
 pub enum PageRangesPart {
+    /// An ampersand between two pages or ranges.
     Ampersand,
+    /// A comma between two pages or ranges.
     Comma,
     /// A range whose hyphen was written behind a backslash.
     EscapedRange(Numeric, Numeric),
+    /// One page.
     SinglePage(Numeric),
+    /// A range, from its first page to its last.
     Range(Numeric, Numeric),
 }
 

@@ -189,6 +189,7 @@ fn is_separator(grapheme: &str) -> bool
         .is_some_and(|c| c.is_whitespace() || c == '-')
 }
 
+// Whether a grapheme begins with a hyphen.
 #[tactic(auto, unfolding(crate::specs::Initials::begins_with_hyphen))]
 fn begins_with_hyphen(grapheme: &str) -> bool
     ensures { result ≡ begins_with_hyphen grapheme.now }

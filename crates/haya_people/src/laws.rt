@@ -1,13 +1,10 @@
 //! Laws of the definitions. No program calls them.
-ghost use Rattle.std.specs.Prelude.{◌≡◌, ◌↔◌, ℕ, Bool, List, true};
-ghost use Rattle.haya_text.specs.Equality.{EqualsByValue};
+ghost use Rattle.std.specs.Prelude.{◌≡◌, ◌↔◌, ℕ, Bool, List};
+ghost use Rattle.haya_text.specs.Equality.{EqualsByValue, EqualsByView, HashesAlike};
 ghost use Rattle.haya_people.specs.Initials.{Grapheme};
 ghost use Rattle.haya_people.specs.Person.{person_view};
 ghost use Rattle.haya_people.specs.WordCuts.{AreWords};
 ghost use Rattle.haya_people.specs.Words.{Word, words};
-ghost use Rattle.haya_people.specs.declared.person.Person as person;
-ghost use Rattle.haya_people.specs.declared.role.PersonRole as role;
-ghost use Rattle.haya_people.specs.declared.role.PersonsWithRoles as roles;
 
 mod orders;
 
@@ -20,8 +17,7 @@ use std::hash::Hash;
 
 /// `==` of persons holds exactly where both are equal by value.
 pub fn equal_by_value()
-    ensures { (a b : person.Person)
-        → (⟦<Person as PartialEq>⟧.eq a b ≡ true) ↔ (person_view a ≡ person_view b) }
+    ensures { EqualsByView ⟦<Person as PartialEq>⟧.eq person_view }
 {}
 
 /// `==` of faults holds exactly where both are the same.
@@ -31,13 +27,10 @@ pub fn faults_equal_by_value()
 
 /// Persons, roles, and persons with their role that are equal by `==` hash alike.
 pub fn equal_persons_hash_alike()
-    ensures person { (a b : person.Person) → ⟦<Person as PartialEq>⟧.eq a b ≡ true →
-        ⟦<Person as Hash>⟧.hash_input a ≡ ⟦<Person as Hash>⟧.hash_input b }
-    ensures role { (a b : role.PersonRole) → ⟦<PersonRole as PartialEq>⟧.eq a b ≡ true →
-        ⟦<PersonRole as Hash>⟧.hash_input a ≡ ⟦<PersonRole as Hash>⟧.hash_input b }
-    ensures persons { (a b : roles.PersonsWithRoles)
-        → ⟦<PersonsWithRoles as PartialEq>⟧.eq a b ≡ true
-        → ⟦<PersonsWithRoles as Hash>⟧.hash_input a ≡ ⟦<PersonsWithRoles as Hash>⟧.hash_input b }
+    ensures person { HashesAlike ⟦<Person as PartialEq>⟧.eq ⟦<Person as Hash>⟧.hash_input }
+    ensures role { HashesAlike ⟦<PersonRole as PartialEq>⟧.eq ⟦<PersonRole as Hash>⟧.hash_input }
+    ensures persons { HashesAlike ⟦<PersonsWithRoles as PartialEq>⟧.eq
+        ⟦<PersonsWithRoles as Hash>⟧.hash_input }
 {}
 
 /// The words of a text, and those of a given name's graphemes, are its one cut into longest words

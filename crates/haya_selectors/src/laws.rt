@@ -1,9 +1,8 @@
 //! Laws of the definitions. No program calls them.
-ghost use Rattle.std.specs.Prelude.{◌≡◌, ◌↔◌, ℕ, List, true};
+ghost use Rattle.std.specs.Prelude.{◌≡◌, ℕ, List, true};
+ghost use Rattle.haya_text.specs.Equality.{EqualsByView};
 ghost use Rattle.haya_entry.specs.declared.entry.Entry.{Entry as EntryData};
 ghost use Rattle.haya_entry.specs.Tree.{Tree, view};
-ghost use Rattle.haya_selectors.specs.declared.selector.Selector.{Selector as SelectorData};
-ghost use Rattle.haya_selectors.specs.declared.selector.SelectorError.{SelectorError as SelectorErrorData};
 ghost use Rattle.haya_selectors.specs.Assignment.{GreedyAssigns, GreedyFinds};
 ghost use Rattle.haya_selectors.specs.Binds.{bound_to};
 ghost use Rattle.haya_selectors.specs.Fault.{fault};
@@ -92,12 +91,10 @@ pub fn names_in_words()
 
 /// `==` of two selectors holds exactly where their values are equal.
 pub fn selectors_equal_by_value()
-    ensures { (a b : SelectorData) →
-        (⟦<Selector as PartialEq>⟧.eq a b ≡ true) ↔ (syntax a ≡ syntax b) }
+    ensures { EqualsByView ⟦<Selector as PartialEq>⟧.eq syntax }
 {}
 
 /// `==` of two errors holds exactly where they say the same fault, or both say out of memory.
 pub fn selector_errors_equal_by_value()
-    ensures { (a b : SelectorErrorData) →
-        (⟦<SelectorError as PartialEq>⟧.eq a b ≡ true) ↔ (fault a ≡ fault b) }
+    ensures { EqualsByView ⟦<SelectorError as PartialEq>⟧.eq fault }
 {}

@@ -11,6 +11,8 @@ mod numbers;
 #[cfg(test)]
 mod people;
 #[cfg(test)]
+mod shown;
+#[cfg(test)]
 mod text;
 #[cfg(test)]
 mod time;

@@ -1,6 +1,7 @@
 //! Worked rows, and what each call gives back where there is memory. A failed allocation ends a
 //! test, and what is owned is let go by a call: so no test has a path on which it has to drop a
 //! value.
+use crate::shown::{ends_at_a_fault, is_shown};
 use haya_numbers::{Numeric, PageRanges, PageRangesPart};
 use haya_text::{ChunkedReadError, FormatString, ReadText, TryClone};
 use haya_time::{Date, Duration, DurationRange};
@@ -32,14 +33,6 @@ fn read<R: ReadText>(rt: &(impl Abort + AllocGlobal), text: &str) -> R {
 
 fn copied<T: TryClone>(rt: &(impl Abort + AllocGlobal), value: &T) -> T {
     value.try_clone(rt.alloc()).expect(rt, "memory")
-}
-
-// Whether it is shown so.
-fn is_shown<D: fmt::Display>(rt: &(impl Abort + AllocGlobal), value: &D, wanted: &str) -> bool {
-    format!(in rt.alloc(); "{value}")
-        .expect(rt, "memory")
-        .as_str()
-        == wanted
 }
 
 // Whether it is given as this text, borrowed where it is one.
@@ -159,6 +152,18 @@ fn pages_and_durations_are_read(rt: HostRuntime) {
     let range = MaybeTyped::from(DurationRange::new(minute, None));
     assert!(rt; read::<MaybeTyped<DurationRange>>(&rt, "01:00-01:00") == range);
     assert!(rt; is_text::<DurationRange>(&rt, "01:00-"));
+}
+
+#[test]
+fn a_writers_fault_ends_the_call(rt: HostRuntime) {
+    for text in ["x1-4, 5y", "no number"] {
+        let value = read::<MaybeTyped<Numeric>>(&rt, text);
+        assert!(rt; ends_at_a_fault(&value), "{text}");
+        drop(value);
+    }
+    let url = read::<QualifiedUrl>(&rt, "https://aeon.co");
+    assert!(rt; ends_at_a_fault(&url));
+    drop(url);
 }
 
 // A long text is kept, copied and given back.

@@ -2,7 +2,7 @@
 ghost use Rattle.std.specs.Prelude.{◌≡◌, ◌↔◌, ℕ, List, true, Some, None};
 ghost use Rattle.std.specs.Str.{IsUtf8};
 ghost use Rattle.haya_text.specs.Chunks.{Chunk, chunk_view, chunks, characters};
-ghost use Rattle.haya_text.specs.Equality.{EqualsByValue, EqualsByView};
+ghost use Rattle.haya_text.specs.Equality.{EqualsByValue, EqualsByView, HashesAlike};
 ghost use Rattle.haya_text.specs.Foldable.{foldable_view, foldable_chunks, fold_error_view};
 ghost use Rattle.haya_text.specs.Grammar.{ReadsAs, IsRefusedAt};
 ghost use Rattle.haya_text.specs.Normal.{norm, IsNormal};
@@ -18,6 +18,7 @@ use crate::{
     FoldableChunkedString, FoldableKind, FoldableStringChunk, FormatString, LongShortForm,
     OutOfMemory, StringChunk,
 };
+use std::hash::Hash;
 
 /// `==` of texts and of their chunks holds exactly where both are equal by value.
 pub fn equal_by_value()
@@ -33,6 +34,24 @@ pub fn kinds_equal_by_value()
     ensures chunk { EqualsByValue ⟦<ChunkKind as PartialEq>⟧.eq }
     ensures foldable { EqualsByValue ⟦<FoldableKind as PartialEq>⟧.eq }
     ensures form { EqualsByValue ⟦<LongShortForm as PartialEq>⟧.eq }
+{}
+
+/// Texts, their chunks, kinds and forms that are equal by `==` hash alike.
+pub fn equal_texts_hash_alike()
+    ensures chunk { HashesAlike ⟦<StringChunk as PartialEq>⟧.eq ⟦<StringChunk as Hash>⟧.hash_input }
+    ensures chunked { HashesAlike ⟦<ChunkedString as PartialEq>⟧.eq
+        ⟦<ChunkedString as Hash>⟧.hash_input }
+    ensures foldable_chunk { HashesAlike ⟦<FoldableStringChunk as PartialEq>⟧.eq
+        ⟦<FoldableStringChunk as Hash>⟧.hash_input }
+    ensures foldable { HashesAlike ⟦<FoldableChunkedString as PartialEq>⟧.eq
+        ⟦<FoldableChunkedString as Hash>⟧.hash_input }
+    ensures format { HashesAlike ⟦<FormatString as PartialEq>⟧.eq
+        ⟦<FormatString as Hash>⟧.hash_input }
+    ensures kind { HashesAlike ⟦<ChunkKind as PartialEq>⟧.eq ⟦<ChunkKind as Hash>⟧.hash_input }
+    ensures foldable_kind { HashesAlike ⟦<FoldableKind as PartialEq>⟧.eq
+        ⟦<FoldableKind as Hash>⟧.hash_input }
+    ensures form { HashesAlike ⟦<LongShortForm as PartialEq>⟧.eq
+        ⟦<LongShortForm as Hash>⟧.hash_input }
 {}
 
 /// `==` of errors goes by all fields: by the variant, by the place of a brace, and by the text that

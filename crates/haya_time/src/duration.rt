@@ -15,10 +15,15 @@ use std::alloc::Global;
 /// than make up the next one.
 #[derive(Clone, Copy, Debug, Default, PartialEq, Eq, Hash)]
 pub struct Duration {
+    /// Days.
     pub days: u32,
+    /// Hours beside the days.
     pub hours: u32,
+    /// Minutes beside the hours.
     pub minutes: u32,
+    /// Seconds beside the minutes.
     pub seconds: u8,
+    /// Milliseconds beside the seconds.
     pub milliseconds: u16,
 }
 

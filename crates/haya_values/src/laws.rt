@@ -3,7 +3,7 @@ ghost use Rattle.std.specs.Cmp.{IsTotalOrder};
 ghost use Rattle.haya_numbers.specs.Numeric.{csl_order, numeric_view};
 ghost use Rattle.haya_numbers.specs.Pages.{parts};
 ghost use Rattle.haya_numbers.specs.PagesOrder.{pages_order};
-ghost use Rattle.haya_text.specs.Equality.{EqualsByView};
+ghost use Rattle.haya_text.specs.Equality.{EqualsByView, HashesAlike};
 ghost use Rattle.haya_values.specs.MaybeTyped.{maybe_typed_view};
 ghost use Rattle.haya_values.specs.OneOrMany.{one_or_many_view};
 ghost use Rattle.haya_values.specs.Order.{typed_first};
@@ -14,6 +14,7 @@ use crate::{MaybeTyped, OneOrMany, Publisher, QualifiedUrl};
 use haya_numbers::{Numeric, PageRanges};
 use haya_text::TryClone;
 use haya_time::{Duration, DurationRange};
+use std::hash::Hash;
 
 /// `==` of values that are typed or a text, and of one or many values, holds exactly where both are
 /// equal by value, at each type whose own `==` does.
@@ -36,6 +37,18 @@ pub fn equal_by_value()
         (maybe_typed_view (λ r. r)) }
     ensures url { EqualsByView ⟦<QualifiedUrl as PartialEq>⟧.eq url_view }
     ensures publisher { EqualsByView ⟦<Publisher as PartialEq>⟧.eq publisher_view }
+{}
+
+/// Values that are typed or a text, and that are equal by `==`, hash alike, whatever the type.
+pub fn equal_values_hash_alike_of_the_type<T: Hash>()
+    ensures { HashesAlike ⟦<MaybeTyped<T> as PartialEq>⟧.eq
+        ⟦<MaybeTyped<T> as Hash>⟧.hash_input }
+{}
+
+/// Addresses and publishers that are equal by `==` hash alike.
+pub fn equal_values_hash_alike()
+    ensures url { HashesAlike ⟦<QualifiedUrl as PartialEq>⟧.eq ⟦<QualifiedUrl as Hash>⟧.hash_input }
+    ensures publisher { HashesAlike ⟦<Publisher as PartialEq>⟧.eq ⟦<Publisher as Hash>⟧.hash_input }
 {}
 
 /// `csl_cmp` of numbers and pages that may be texts is a total preorder: of any two one is first or

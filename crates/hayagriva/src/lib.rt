@@ -6,7 +6,7 @@ mod library;
 mod query;
 
 pub use haya_entry::{Entry, Steps};
-pub use haya_selectors::{BoundSelect, Selector, SelectorError};
+pub use haya_selectors::{BoundSelect, PreparedSelector, Selector, SelectorError};
 pub use haya_text::{OutOfMemory, ReadFault, ReadText};
 pub use library::{Entries, IntoEntries, Keys, Library};
 pub use query::{Hit, Query};

@@ -1,38 +1,31 @@
 //! Selectors at worked entries. What loops holds an entry by reference alone.
-use crate::works::{below, english, entry, selector, string};
-use haya_selectors::PreparedSelector;
+use crate::works::{below, dated, entry, selector, string, with_url};
 use hayagriva::types::EntryType;
-use hayagriva::{BoundSelect, Entry, Selector, Steps};
+use hayagriva::{BoundSelect, Entry, PreparedSelector, Selector, Steps};
 use std::process::Abort;
 
 #[derive(Clone, Copy)]
 enum Work {
     Article,
+    ArticleWithUrl,
     Blog,
     Book,
-    BookInEnglish,
+    BookWithDate,
+    BookWithUrl,
     Periodical,
-    WebInEnglish,
-}
-
-// Its key, its type, and whether it is in English.
-fn parts(work: Work) -> (&'static str, EntryType, bool) {
-    match work {
-        Work::Article => ("article", EntryType::Article, false),
-        Work::Blog => ("blog", EntryType::Blog, false),
-        Work::Book => ("book", EntryType::Book, false),
-        Work::BookInEnglish => ("book", EntryType::Book, true),
-        Work::Periodical => ("periodical", EntryType::Periodical, false),
-        Work::WebInEnglish => ("web", EntryType::Web, true),
-    }
+    WebWithUrl,
 }
 
 fn made(rt: &(impl Abort + AllocGlobal), work: Work) -> Entry {
-    let (key, kind, in_english) = parts(work);
-    if in_english {
-        english(rt, key, kind)
-    } else {
-        entry(rt, key, kind)
+    match work {
+        Work::Article => entry(rt, "article", EntryType::Article),
+        Work::ArticleWithUrl => with_url(rt, "article", EntryType::Article),
+        Work::Blog => entry(rt, "blog", EntryType::Blog),
+        Work::Book => entry(rt, "book", EntryType::Book),
+        Work::BookWithDate => dated(rt, "book", EntryType::Book),
+        Work::BookWithUrl => with_url(rt, "book", EntryType::Book),
+        Work::Periodical => entry(rt, "periodical", EntryType::Periodical),
+        Work::WebWithUrl => with_url(rt, "web", EntryType::Web),
     }
 }
 
@@ -48,31 +41,42 @@ fn article(rt: &(impl Abort + AllocGlobal), parents: &[Work]) -> Entry {
     article
 }
 
-// `no` where the selector doesn't hold, else `yes`, or the key of the entry that `a` is bound to.
+// The names that selectors here bind.
+const NAMES: [&str; 2] = ["a", "i"];
+
+fn binding(rt: &(impl Abort + AllocGlobal), name: &str, bound: &Entry) -> String {
+    format!(in rt.alloc(); "{name}={}", bound.key()).expect(rt, "memory")
+}
+
+// `no` where the selector doesn't hold, else `yes`, or the first name that is bound, with the key.
 fn applied(rt: &(impl Abort + AllocGlobal), selector: &Selector, entry: &Entry) -> String {
-    match selector.apply(rt.alloc(), entry).expect(rt, "memory") {
-        None => string(rt, "no"),
-        Some(map) => match map.get("a") {
-            Some(bound) => string(rt, bound.key()),
-            None => string(rt, "yes"),
-        },
+    let Some(map) = selector.apply(rt.alloc(), entry).expect(rt, "memory") else {
+        return string(rt, "no");
+    };
+    for name in NAMES {
+        if let Some(bound) = map.get(name) {
+            return binding(rt, name, bound);
+        }
     }
+    string(rt, "yes")
 }
 
 // The same by `matches`, `bound` and `bound_select`; `unlike` where the last two differ.
 fn asked(rt: &(impl Abort + AllocGlobal), selector: &Selector, entry: &Entry) -> String {
     let holds = selector.matches(rt.alloc(), entry).expect(rt, "memory");
-    let bound = selector.bound(rt.alloc(), entry, "a").expect(rt, "memory");
-    let selected = entry
-        .bound_select(rt.alloc(), selector, "a")
-        .expect(rt, "memory");
-    if bound != selected {
-        return string(rt, "unlike");
+    for name in NAMES {
+        let bound = selector.bound(rt.alloc(), entry, name).expect(rt, "memory");
+        let selected = entry
+            .bound_select(rt.alloc(), selector, name)
+            .expect(rt, "memory");
+        if bound != selected {
+            return string(rt, "unlike");
+        }
+        if let Some(bound) = bound {
+            return binding(rt, name, bound);
+        }
     }
-    match bound {
-        Some(bound) => string(rt, bound.key()),
-        None => string(rt, if holds { "yes" } else { "no" }),
-    }
+    string(rt, if holds { "yes" } else { "no" })
 }
 
 fn is_answer(rt: &(impl Abort + AllocGlobal), text: &str, entry: &Entry, wanted: &str) -> bool {
@@ -85,69 +89,65 @@ fn is_answer(rt: &(impl Abort + AllocGlobal), text: &str, entry: &Entry, wanted:
 
 // Each row: a selector, the parents of an article, and the answer.
 const ON_PARENTS: &[(&str, &[Work], &str)] = &[
-    (
-        "* > a:*[language]",
-        &[Work::Blog, Work::WebInEnglish],
-        "web",
-    ),
-    (
-        "* > book[language]",
-        &[Work::Book, Work::BookInEnglish],
-        "no",
-    ),
+    ("* > i:*[url]", &[Work::Blog, Work::WebWithUrl], "i=web"),
+    ("* > book[date]", &[Work::Book, Work::BookWithDate], "no"),
     ("* > !blog", &[], "yes"),
-    ("* > !blog", &[Work::WebInEnglish, Work::Blog], "no"),
-    ("a:* > a:*", &[Work::WebInEnglish], "web"),
+    ("* > !blog", &[Work::WebWithUrl, Work::Blog], "no"),
+    ("a:* > a:*", &[Work::WebWithUrl], "a=web"),
     ("a:* > a:*", &[], "no"),
     ("* > (* & article)", &[Work::Article, Work::Book], "no"),
-    ("* > (article & a:*)", &[Work::Article, Work::Book], "book"),
+    (
+        "* > (article & a:*)",
+        &[Work::Article, Work::Book],
+        "a=book",
+    ),
     (
         "article > periodical > web",
-        &[Work::Periodical, Work::WebInEnglish],
+        &[Work::Periodical, Work::WebWithUrl],
         "yes",
     ),
-    ("article > (blog | a:web)", &[Work::WebInEnglish], "web"),
+    ("article > (blog | a:web)", &[Work::WebWithUrl], "a=web"),
     (
-        "* > (a:* & b:*)[language]",
-        &[Work::Blog, Work::WebInEnglish],
-        "blog",
+        "* > (a:* & b:*)[url]",
+        &[Work::Blog, Work::WebWithUrl],
+        "a=blog",
     ),
-    ("* > (a:* & b:*)[language]", &[Work::Blog, Work::Book], "no"),
+    ("* > (a:* & b:*)[url]", &[Work::Blog, Work::Book], "no"),
     (
-        "* > (book | web)[language]",
-        &[Work::Book, Work::WebInEnglish],
+        "* > (book | web)[url]",
+        &[Work::Book, Work::WebWithUrl],
         "no",
     ),
     (
-        "* > (book | web)[language]",
-        &[Work::Blog, Work::WebInEnglish],
+        "* > (book | web)[url]",
+        &[Work::Blog, Work::WebWithUrl],
         "yes",
     ),
     (
         "a:(*[nothing] | b:article) > c:*",
         &[Work::Periodical],
-        "article",
+        "a=article",
     ),
     (
         "b:(*[nothing] | a:article) > c:*",
         &[Work::Periodical],
-        "article",
+        "a=article",
     ),
     (
         "b:(*[nothing] | c:article) > a:*",
         &[Work::Periodical],
-        "periodical",
+        "a=periodical",
     ),
     ("(a:article > blog) | b:article", &[Work::Periodical], "yes"),
     (
         "(b:article > blog) | a:article",
         &[Work::Periodical],
-        "article",
+        "a=article",
     ),
-    ("(a:article > blog) | b:article", &[Work::Blog], "article"),
+    ("(a:article > blog) | b:article", &[Work::Blog], "a=article"),
     ("article & article", &[], "no"),
-    ("a:article[language]", &[], "no"),
-    ("a:*", &[Work::Blog], "article"),
+    ("a:article[url]", &[], "no"),
+    ("a:*", &[Work::Blog], "a=article"),
 ];
 
 fn is_answer_on(
@@ -171,13 +171,13 @@ fn holds_and_binds_on_parents(rt: HostRuntime) {
 
 // Each row: a selector, an entry without parents, and the answer.
 const WITHOUT_PARENTS: &[(&str, Work, &str)] = &[
-    ("!book[language]", Work::WebInEnglish, "yes"),
-    ("!book[language]", Work::Article, "no"),
-    ("!book[language]", Work::BookInEnglish, "no"),
-    ("article | blog", Work::WebInEnglish, "no"),
-    ("*[language, nothing]", Work::WebInEnglish, "no"),
-    ("*[nothing, language]", Work::WebInEnglish, "no"),
-    ("*[language, ]", Work::WebInEnglish, "yes"),
+    ("!book[url]", Work::ArticleWithUrl, "yes"),
+    ("!book[url]", Work::Article, "no"),
+    ("!book[url]", Work::BookWithUrl, "no"),
+    ("article | blog", Work::WebWithUrl, "no"),
+    ("*[url, nothing]", Work::WebWithUrl, "no"),
+    ("*[nothing, url]", Work::WebWithUrl, "no"),
+    ("*[url, ]", Work::WebWithUrl, "yes"),
 ];
 
 fn is_answer_at(rt: &(impl Abort + AllocGlobal), text: &str, work: Work, wanted: &str) -> bool {
@@ -200,7 +200,7 @@ fn asks_direct_parents_alone(rt: HostRuntime) {
     let periodical = below(
         &rt,
         made(&rt, Work::Periodical),
-        made(&rt, Work::WebInEnglish),
+        made(&rt, Work::WebWithUrl),
     );
     let entry = below(&rt, made(&rt, Work::Article), periodical);
     assert!(rt; is_answer(&rt, "article > periodical > web", &entry, "no"));
@@ -241,16 +241,16 @@ fn long_selector(rt: &(impl Abort + AllocGlobal)) -> String {
 fn many_parents_and_members(rt: HostRuntime) {
     let text = long_selector(&rt);
     let blogs = article(&rt, &[Work::Blog; 150]);
-    let entry = below(&rt, blogs, made(&rt, Work::WebInEnglish));
-    assert!(rt; is_answer(&rt, text.as_str(), &entry, "web"));
+    let entry = below(&rt, blogs, made(&rt, Work::WebWithUrl));
+    assert!(rt; is_answer(&rt, text.as_str(), &entry, "a=web"));
     drop(entry);
 }
 
 // Each row: a selector, the parents of an article, and how often the evaluator is entered at the
 // article.
 const CALLS: &[(&str, &[Work], u64)] = &[
-    ("* > a:*[language]", &[Work::Blog, Work::WebInEnglish], 5),
-    ("* > book[language]", &[Work::Book, Work::BookInEnglish], 5),
+    ("* > i:*[url]", &[Work::Blog, Work::WebWithUrl], 5),
+    ("* > book[date]", &[Work::Book, Work::BookWithDate], 5),
     ("* > (* & article)", &[Work::Article, Work::Book], 5),
 ];
 
@@ -326,9 +326,9 @@ const IN_TURN: &[(&str, &str, u64)] = &[
 // What a selector has bound at one entry is forgotten at the next.
 #[test]
 fn asked_of_one_after_another(rt: HostRuntime) {
-    let web = made(&rt, Work::WebInEnglish);
+    let web = made(&rt, Work::WebWithUrl);
     let blogs = article(&rt, &[Work::Blog; 150]);
-    let article = below(&rt, blogs, made(&rt, Work::WebInEnglish));
+    let article = below(&rt, blogs, made(&rt, Work::WebWithUrl));
     for (text, wanted, calls) in IN_TURN {
         let (keys, seen) = keys_in_turn(&rt, *text, &web, &article);
         assert!(rt; keys.as_str() == *wanted && seen == *calls, "{text}");

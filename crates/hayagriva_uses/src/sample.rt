@@ -70,6 +70,7 @@ fn fill(library: &mut Library, alloc: Global) -> anyhow::Result<()> {
     add(library, note(alloc))
 }
 
+/// The library of the three works.
 pub fn library(alloc: Global) -> anyhow::Result<Library> {
     let mut library = Library::new(alloc);
     fill(&mut library, alloc)?;

@@ -21,6 +21,7 @@ impl Entry {
         Ok(copy)
     }
 
+    // A copy of all but the parents.
     fn copy_without_parents(&self, alloc: Global) -> Result<Entry, OutOfMemory>
         ensures { IfOk result (λ copy. view copy ≡ with_parents [] (view self.now)) }
     {

@@ -2,7 +2,7 @@
 ghost use Rattle.std.specs.Prelude.{◌≡◌, ◌↔◌, ℕ, List, true, map, Ok, Err};
 ghost use Rattle.std.specs.Cmp.{IsTotalOrder};
 ghost use Rattle.std.specs.Str.{chars};
-ghost use Rattle.haya_text.specs.Equality.{EqualsByValue};
+ghost use Rattle.haya_text.specs.Equality.{EqualsByValue, EqualsByView, HashesAlike};
 ghost use Rattle.haya_numbers.specs.Cuts.{dash_split, escaped_split};
 ghost use Rattle.haya_numbers.specs.Halves.{AreHalves, IsDash, IsEscapedHyphen};
 ghost use Rattle.haya_numbers.specs.Pages.{PartView, part_view, parts};
@@ -12,7 +12,6 @@ ghost use Rattle.haya_numbers.specs.PagesPrinted.{shown_pages};
 ghost use Rattle.haya_numbers.specs.PagesReading.{pages_read, part_read, IsFirstFault};
 ghost use Rattle.haya_numbers.specs.Pieces.{pieces, AreItsPieces};
 ghost use Rattle.haya_numbers.specs.declared.page.PageRanges as pages;
-ghost use Rattle.haya_numbers.specs.declared.page.PageRangesPart as part;
 ghost use Rattle.haya_numbers.specs.declared.page.PageRangesPartErr as fault;
 
 use crate::{PageNumberError, PageRanges, PageRangesPart, PageRangesPartErr};
@@ -43,10 +42,8 @@ pub fn reads_by_pieces()
 
 /// `==` of parts and of lists of pages holds exactly where both are equal by value.
 pub fn equal_by_value()
-    ensures part { (a b : part.PageRangesPart) →
-        (⟦<PageRangesPart as PartialEq>⟧.eq a b ≡ true) ↔ (part_view a ≡ part_view b) }
-    ensures pages { (a b : pages.PageRanges) →
-        (⟦<PageRanges as PartialEq>⟧.eq a b ≡ true) ↔ (parts a ≡ parts b) }
+    ensures part { EqualsByView ⟦<PageRangesPart as PartialEq>⟧.eq part_view }
+    ensures pages { EqualsByView ⟦<PageRanges as PartialEq>⟧.eq parts }
 {}
 
 /// `==` of faults of pages holds exactly where both are the same, a number's fault included.
@@ -57,10 +54,9 @@ pub fn faults_equal_by_value()
 
 /// Parts and lists of pages that are equal by `==` hash alike.
 pub fn equal_pages_hash_alike()
-    ensures part { (a b : part.PageRangesPart) → ⟦<PageRangesPart as PartialEq>⟧.eq a b ≡ true →
-        ⟦<PageRangesPart as Hash>⟧.hash_input a ≡ ⟦<PageRangesPart as Hash>⟧.hash_input b }
-    ensures pages { (a b : pages.PageRanges) → ⟦<PageRanges as PartialEq>⟧.eq a b ≡ true →
-        ⟦<PageRanges as Hash>⟧.hash_input a ≡ ⟦<PageRanges as Hash>⟧.hash_input b }
+    ensures part { HashesAlike ⟦<PageRangesPart as PartialEq>⟧.eq
+        ⟦<PageRangesPart as Hash>⟧.hash_input }
+    ensures pages { HashesAlike ⟦<PageRanges as PartialEq>⟧.eq ⟦<PageRanges as Hash>⟧.hash_input }
 {}
 
 /// `csl_cmp` of parts and of lists of pages is a total preorder.

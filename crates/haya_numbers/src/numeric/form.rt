@@ -27,8 +27,11 @@ pub enum NumberForm {
 /// The grammatical gender of what a number stands beside.
 #[derive(Clone, Copy, Debug, PartialEq, Eq, Hash)]
 pub enum GrammarGender {
+    /// Neither masculine nor feminine.
     Neuter,
+    /// Masculine.
     Masculine,
+    /// Feminine.
     Feminine,
 }
 

@@ -4,22 +4,20 @@ ghost use Rattle.std.specs.Prelude.{IsSorted};
 ghost use Rattle.haya_people.specs.Particles.{name_particle, IsParticleOf};
 ghost use Rattle.haya_people.specs.Tables.{is_sorted_table};
 ghost use Rattle.std.specs.Cmp.{IsTotalOrder};
+ghost use Rattle.haya_text.specs.Equality.{EqualsByView};
 ghost use Rattle.haya_text.specs.declared.strings.format.LongShortForm.{LongShortForm};
 ghost use Rattle.haya_people.specs.Orders.{csl_cmp_by, text_cmp};
 ghost use Rattle.haya_people.specs.Roles.{role_named, role_read, role_view, roles_view};
 ghost use Rattle.haya_people.specs.declared.person.Person as person;
 ghost use Rattle.haya_people.specs.declared.role.PersonRole as role;
-ghost use Rattle.haya_people.specs.declared.role.PersonsWithRoles as roles;
 
 use crate::{Person, PersonRole, PersonsWithRoles};
 use std::cmp::Ordering;
 
 /// `==` of roles, and of persons with their role, holds exactly where both are equal by value.
 pub fn roles_equal_by_value()
-    ensures role { (a b : role.PersonRole) →
-        (⟦<PersonRole as PartialEq>⟧.eq a b ≡ true) ↔ (role_view a ≡ role_view b) }
-    ensures persons { (a b : roles.PersonsWithRoles) →
-        (⟦<PersonsWithRoles as PartialEq>⟧.eq a b ≡ true) ↔ (roles_view a ≡ roles_view b) }
+    ensures role { EqualsByView ⟦<PersonRole as PartialEq>⟧.eq role_view }
+    ensures persons { EqualsByView ⟦<PersonsWithRoles as PartialEq>⟧.eq roles_view }
 {}
 
 /// A text is read as a role exactly where it is the role's name: so as none only where no role has

@@ -2,6 +2,7 @@
 ghost use Rattle.std.specs.Prelude.{◌≡◌, Some, None, codes, pos, if◌then◌else◌};
 ghost use Rattle.std.specs.Ordering.{int_eq};
 
+use crate::shown::{ends_at_a_fault, is_shown};
 use haya_numbers::{
     GrammarGender, NumberForm, Numeric, NumericDelimiter, NumericError, NumericValue, Ordinals,
 };
@@ -19,14 +20,6 @@ fn number(rt: &(impl Abort + AllocGlobal), text: &str) -> Numeric {
             Numeric::new(0)
         }
     }
-}
-
-// Whether it is shown so.
-fn is_shown<D: fmt::Display>(rt: &(impl Abort + AllocGlobal), value: &D, wanted: &str) -> bool {
-    format!(in rt.alloc(); "{value}")
-        .expect(rt, "memory")
-        .as_str()
-        == wanted
 }
 
 // Whether the numbers are written so, for a machine or not.
@@ -282,4 +275,33 @@ fn writes_forms(rt: HostRuntime) {
         drop(written);
         drop(read);
     }
+}
+
+// The numbers of a value, without its affixes.
+#[derive(Drop)]
+struct Numbers<'a>(&'a Numeric);
+
+impl fmt::Display for Numbers<'_> {
+    fn fmt<W: fmt::Write>(&self, f: &mut fmt::Formatter<W>) -> fmt::Result {
+        self.0.fmt_value(f, false)
+    }
+}
+
+// The same as ordinal words.
+#[derive(Drop)]
+struct Words<'a>(&'a Numeric);
+
+impl fmt::Display for Words<'_> {
+    fn fmt<W: fmt::Write>(&self, f: &mut fmt::Formatter<W>) -> fmt::Result {
+        self.0.with_form(f, NumberForm::LongOrdinal, None, &English)
+    }
+}
+
+#[test]
+fn a_writers_fault_ends_the_call(rt: HostRuntime) {
+    let read = number(&rt, "x1-4, 5y");
+    assert!(rt; ends_at_a_fault(&read));
+    assert!(rt; ends_at_a_fault(&Numbers(&read)));
+    assert!(rt; ends_at_a_fault(&Words(&read)));
+    drop(read);
 }

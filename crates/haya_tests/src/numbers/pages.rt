@@ -1,10 +1,10 @@
 //! Worked rows of pages, and what each call gives where there is memory. A failed allocation ends a
 //! test, and what is owned is let go by a call: so no test has a path on
 //! which it has to drop pages.
+use crate::shown::{ends_at_a_fault, is_shown};
 use haya_numbers::*;
 use haya_text::{ReadFault, ReadText, TryClone};
 use std::cmp::Ordering;
-use std::fmt;
 use std::process::Abort;
 
 fn pages(rt: &(impl Abort + AllocGlobal), text: &str) -> PageRanges {
@@ -13,14 +13,6 @@ fn pages(rt: &(impl Abort + AllocGlobal), text: &str) -> PageRanges {
 
 fn part(rt: &(impl Abort + AllocGlobal), text: &str) -> PageRangesPart {
     PageRangesPart::from_str(rt.alloc(), text).expect(rt, "a part")
-}
-
-// Whether it is shown so.
-fn is_shown<D: fmt::Display>(rt: &(impl Abort + AllocGlobal), value: &D, wanted: &str) -> bool {
-    format!(in rt.alloc(); "{value}")
-        .expect(rt, "memory")
-        .as_str()
-        == wanted
 }
 
 // A text, how many parts it has, how they are shown, and whether they are plural.
@@ -191,6 +183,13 @@ fn pages_read_back(rt: HostRuntime) {
         assert_eq!(rt; read.reads_back(), back, "{text}");
         drop(read);
     }
+}
+
+#[test]
+fn a_writers_fault_ends_the_call(rt: HostRuntime) {
+    let read = pages(&rt, "1-4, 5 & 6");
+    assert!(rt; ends_at_a_fault(&read));
+    drop(read);
 }
 
 // A list of many ranges is shown as it was written, copied, and found equal.

@@ -1,8 +1,8 @@
-//! What each call gives back where there is memory. A refused allocation ends a test.
+//! What each call gives back where there is memory. A failed allocation ends a test.
 use super::particles::{maybe, named, string};
+use crate::shown::Short;
 use haya_people::*;
 use haya_text::{ReadFault, ReadText};
-use std::fmt;
 use std::process::Abort;
 
 // The name, the given name, the prefix and the suffix of a person.
@@ -51,6 +51,10 @@ const READ: &[(&str, Parts)] = &[
     ),
     // The feminine ordinal is no lower case letter, but has the property Lowercase.
     ("ª Dissmer", ("Dissmer", None, Some("ª"), None)),
+    (
+        "Günther,Hans-Joseph",
+        ("Günther", Some("Hans-Joseph"), None, None),
+    ),
     ("Doe,", ("Doe", Some(""), None, None)),
     (" , ,", ("", Some(""), None, Some(""))),
     ("", ("", None, None, None)),
@@ -302,27 +306,6 @@ fn long_names_are_read_and_put_in_form(rt: HostRuntime) {
     assert!(rt; name.as_str() == wanted.expect(&rt, "memory").as_str());
     drop(copy);
     drop(read);
-}
-
-// A writer that takes so many texts and no more, and counts those that it is handed.
-#[derive(Drop)]
-struct Short {
-    room: usize,
-    handed: usize,
-}
-
-impl fmt::Write for Short {
-    fn write_str(&mut self, text: &str) -> fmt::Result {
-        if text.is_empty() {
-            return Ok(());
-        }
-        self.handed = self.handed.wrapping_add(1);
-        if self.handed > self.room {
-            Err(fmt::Error)
-        } else {
-            Ok(())
-        }
-    }
 }
 
 #[test]

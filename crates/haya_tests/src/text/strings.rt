@@ -3,6 +3,7 @@
 //! stays short.
 ghost use Rattle.std.specs.Prelude.{◌≡◌, option_map, IfOk};
 
+use crate::shown::{ends_at_a_fault, is_shown};
 use haya_text::ChunkKind::{Math, Normal, Verbatim};
 use haya_text::*;
 use std::alloc::Global;
@@ -37,14 +38,6 @@ fn has(
 
 fn is_serialized(rt: &(impl Abort + AllocGlobal), text: &ChunkedString, wanted: &str) -> bool {
     text.to_serialized(rt.alloc()).expect(rt, "memory").as_str() == wanted
-}
-
-// Whether it is shown so.
-fn is_shown<D: fmt::Display>(rt: &(impl Abort + AllocGlobal), value: &D, wanted: &str) -> bool {
-    format!(in rt.alloc(); "{value}")
-        .expect(rt, "memory")
-        .as_str()
-        == wanted
 }
 
 // A text, the chunks that it reads as, and what these are serialized as.
@@ -213,37 +206,6 @@ fn one_chunk(rt: HostRuntime) {
     );
 }
 
-// A writer that takes so many texts and no more, and counts those that it is handed.
-#[derive(Drop)]
-struct Short {
-    room: usize,
-    handed: usize,
-}
-
-impl fmt::Write for Short {
-    fn write_str(&mut self, _text: &str) -> fmt::Result {
-        self.handed = self.handed.wrapping_add(1);
-        if self.handed > self.room {
-            Err(fmt::Error)
-        } else {
-            Ok(())
-        }
-    }
-}
-
-#[test]
-fn a_writers_fault_ends_the_call(rt: HostRuntime) {
-    let text = text_of(&rt, &[("a", Normal), ("b{", Verbatim), ("x", Math)]);
-    for room in 0..5 {
-        let mut out = Short { room, handed: 0 };
-        assert!(rt; text.fmt_serialized(&mut out).is_err());
-        assert_eq!(rt; out.handed, room + 1);
-        let mut out = Short { room, handed: 0 };
-        assert_eq!(rt; write!(out, "{text}").is_err(), room < 5);
-    }
-    drop(text);
-}
-
 #[test]
 fn math_is_not_folded(rt: HostRuntime) {
     let chunks = [("a", Normal), ("x", Math)];
@@ -304,6 +266,26 @@ impl fmt::Display for ShortForm<'_> {
     fn fmt<W: fmt::Write>(&self, f: &mut fmt::Formatter<W>) -> fmt::Result {
         self.0.fmt_short(f)
     }
+}
+
+// A text as it is serialized.
+#[derive(Drop)]
+struct Serialized<'a>(&'a ChunkedString);
+
+impl fmt::Display for Serialized<'_> {
+    fn fmt<W: fmt::Write>(&self, f: &mut fmt::Formatter<W>) -> fmt::Result {
+        self.0.fmt_serialized(f)
+    }
+}
+
+#[test]
+fn a_writers_fault_ends_the_call(rt: HostRuntime) {
+    let chunked = text_of(&rt, &[("a", Normal), ("b{", Verbatim), ("x", Math)]);
+    assert!(rt; ends_at_a_fault(&chunked) && ends_at_a_fault(&Serialized(&chunked)));
+    drop(chunked);
+    let text = FormatString::with_value(rt.alloc(), string(&rt, "a{b}")).expect(&rt, "memory");
+    assert!(rt; ends_at_a_fault(&text) && ends_at_a_fault(&ShortForm(&text)));
+    drop(text);
 }
 
 // Whether the text has these forms, as they are shown.

@@ -1,17 +1,10 @@
 //! What texts read as, and what durations are printed as.
+use crate::shown::{ends_at_a_fault, is_shown};
 use haya_text::{ReadFault, ReadText, TryClone};
 use haya_time::DurationError::{Malformed, TooLarge};
 use haya_time::{Duration, DurationError, DurationRange};
-use std::fmt;
 use std::process::Abort;
 use std::str::FromStr;
-
-fn is_shown<D: fmt::Display>(rt: &(impl Abort + AllocGlobal), value: &D, wanted: &str) -> bool {
-    format!(in rt.alloc(); "{value}")
-        .expect(rt, "memory")
-        .as_str()
-        == wanted
-}
 
 // Days, hours, minutes, seconds and milliseconds.
 type Values = (u32, u32, u32, u8, u16);
@@ -147,6 +140,7 @@ fn hand_made_values_are_printed(rt: HostRuntime) {
     );
     assert!(rt; is_shown(&rt, &DurationRange::new(time(MINUTE), None), "01:00"));
     assert!(rt; is_shown(&rt, &Duration::default(), "00:00"));
+    assert!(rt; ends_at_a_fault(&time(GREATEST)) && ends_at_a_fault(&range));
 }
 
 #[test]

@@ -56,6 +56,7 @@ impl ChunkedString {
         self.push_chunk(StringChunk { value, kind })
     }
 
+    // Whether the last chunk is of this kind.
     fn ends_in(&self, kind: ChunkKind) -> bool
         ensures { result ≡ ends_in kind (chunks self.now) }
     {
@@ -65,6 +66,7 @@ impl ChunkedString {
         }
     }
 
+    // Puts the text behind that of the last chunk.
     fn grow_last(&mut self, text: &str) -> Result<(), OutOfMemory>
         ensures ok { OnOk result (chunks self.new ≡ grow_last (chunks self.old) text.now) }
         ensures err { OnErr result (chunks self.new ≡ chunks self.old) }

@@ -150,6 +150,7 @@ impl ChunkedString {
     }
 }
 
+// Whether a chunk is math.
 fn has_math(items: &[StringChunk]) -> bool
     ensures { result ≡ list_any (λ c. sameb the_type c.kind ChunkKind.Math) items.now }
 {

@@ -15,7 +15,9 @@ use std::str::FromStr;
 /// A stretch of time, from a start to an end.
 #[derive(Clone, Copy, Debug, PartialEq, Eq, Hash)]
 pub struct DurationRange {
+    /// Where it begins.
     pub start: Duration,
+    /// Where it ends.
     pub end: Duration,
 }
 

@@ -1,12 +1,11 @@
 //! Laws of dates.
-ghost use Rattle.std.specs.Prelude.{◌≡◌, ◌↔◌, ℕ, List, None, Some, Err, Ok, true};
+ghost use Rattle.std.specs.Prelude.{◌≡◌, ◌↔◌, ℕ, List, None, Some, Err, Ok};
 ghost use Rattle.std.specs.Cmp.{IsTotalOrder};
 ghost use Rattle.std.specs.declared.cmp.Ordering.TheVariants.{Equal};
 ghost use Rattle.std.specs.Str.{chars};
-ghost use Rattle.haya_text.specs.Equality.{EqualsByValue};
+ghost use Rattle.haya_text.specs.Equality.{EqualsByValue, HashesAlike};
 ghost use Rattle.haya_time.specs.declared.date.Date as date;
 ghost use Rattle.haya_time.specs.declared.date.DateError as error;
-ghost use Rattle.haya_time.specs.declared.date.Season as season;
 ghost use Rattle.haya_time.specs.DateForms.{IsRefusedAs, ReadsAs};
 ghost use Rattle.haya_time.specs.DateOrder.{HasNoOrder, date_csl_cmp};
 ghost use Rattle.haya_time.specs.DatePrinted.{date_text};
@@ -32,7 +31,7 @@ pub fn csl_order_of_dates()
 
 /// `==` holds exactly where all fields are equal.
 pub fn dates_equal_by_value()
-    ensures { (a b : date.Date) → (⟦<Date as PartialEq>⟧.eq a b ≡ true) ↔ (a ≡ b) }
+    ensures { EqualsByValue ⟦<Date as PartialEq>⟧.eq }
 {}
 
 /// `==` of seasons and of faults of dates holds exactly where both are the same, with the same day.
@@ -43,10 +42,8 @@ pub fn kinds_equal_by_value()
 
 /// Dates and seasons that are equal by `==` hash alike.
 pub fn equal_dates_hash_alike()
-    ensures date { (a b : date.Date) → ⟦<Date as PartialEq>⟧.eq a b ≡ true →
-        ⟦<Date as Hash>⟧.hash_input a ≡ ⟦<Date as Hash>⟧.hash_input b }
-    ensures season { (a b : season.Season) → ⟦<Season as PartialEq>⟧.eq a b ≡ true →
-        ⟦<Season as Hash>⟧.hash_input a ≡ ⟦<Season as Hash>⟧.hash_input b }
+    ensures date { HashesAlike ⟦<Date as PartialEq>⟧.eq ⟦<Date as Hash>⟧.hash_input }
+    ensures season { HashesAlike ⟦<Season as PartialEq>⟧.eq ⟦<Season as Hash>⟧.hash_input }
 {}
 
 /// A text has one value or one fault, and the forms of dates say which: each text

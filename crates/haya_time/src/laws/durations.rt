@@ -2,7 +2,7 @@
 ghost use Rattle.std.specs.Prelude.{◌≡◌, ◌↔◌, ◌⊎◌, ◌<◌, ◌^◌, ℕ, List, true, Ok, Err};
 ghost use Rattle.std.specs.Cmp.{IsTotalOrder};
 ghost use Rattle.std.specs.Str.{chars};
-ghost use Rattle.haya_text.specs.Equality.{EqualsByValue};
+ghost use Rattle.haya_text.specs.Equality.{EqualsByValue, HashesAlike};
 ghost use Rattle.haya_time.specs.DurationBack.{reads_back, range_reads_back};
 ghost use Rattle.haya_time.specs.DurationGrammar.{IsDuration, RangeTooLarge, ReadsAs, ReadsAsRange};
 ghost use Rattle.haya_time.specs.DurationGrammar.{ReadsTooLarge};
@@ -11,7 +11,6 @@ ghost use Rattle.haya_time.specs.DurationPrint.{duration_text, range_text};
 ghost use Rattle.haya_time.specs.DurationReading.{duration_read, range_read};
 ghost use Rattle.haya_time.specs.declared.duration.Duration as duration;
 ghost use Rattle.haya_time.specs.declared.duration.range.DurationRange as range;
-ghost use Rattle.haya_time.specs.declared.duration.reading.DurationError as fault;
 ghost use Rattle.haya_time.specs.declared.duration.reading.DurationError.TheVariants as error;
 
 use crate::{Duration, DurationError, DurationRange};
@@ -51,10 +50,8 @@ pub fn order_of_durations()
     ensures total { IsTotalOrder duration_cmp }
     ensures equal { (a b : duration.Duration) →
         (duration_cmp a b ≡ Ordering.Equal) ↔ (a ≡ b) }
-    ensures eq { (a b : duration.Duration) →
-        (⟦<Duration as PartialEq>⟧.eq a b ≡ true) ↔ (a ≡ b) }
-    ensures range_eq { (a b : range.DurationRange) →
-        (⟦<DurationRange as PartialEq>⟧.eq a b ≡ true) ↔ (a ≡ b) }
+    ensures eq { EqualsByValue ⟦<Duration as PartialEq>⟧.eq }
+    ensures range_eq { EqualsByValue ⟦<DurationRange as PartialEq>⟧.eq }
 {}
 
 /// `==` of faults of durations holds exactly where both are the same.
@@ -64,12 +61,11 @@ pub fn faults_equal_by_value()
 
 /// Durations, ranges and faults of them that are equal by `==` hash alike.
 pub fn equal_durations_hash_alike()
-    ensures duration { (a b : duration.Duration) → ⟦<Duration as PartialEq>⟧.eq a b ≡ true →
-        ⟦<Duration as Hash>⟧.hash_input a ≡ ⟦<Duration as Hash>⟧.hash_input b }
-    ensures range { (a b : range.DurationRange) → ⟦<DurationRange as PartialEq>⟧.eq a b ≡ true →
-        ⟦<DurationRange as Hash>⟧.hash_input a ≡ ⟦<DurationRange as Hash>⟧.hash_input b }
-    ensures fault { (a b : fault.DurationError) → ⟦<DurationError as PartialEq>⟧.eq a b ≡ true →
-        ⟦<DurationError as Hash>⟧.hash_input a ≡ ⟦<DurationError as Hash>⟧.hash_input b }
+    ensures duration { HashesAlike ⟦<Duration as PartialEq>⟧.eq ⟦<Duration as Hash>⟧.hash_input }
+    ensures range { HashesAlike ⟦<DurationRange as PartialEq>⟧.eq
+        ⟦<DurationRange as Hash>⟧.hash_input }
+    ensures fault { HashesAlike ⟦<DurationError as PartialEq>⟧.eq
+        ⟦<DurationError as Hash>⟧.hash_input }
 {}
 
 /// What `Duration::reads_back` and `DurationRange::reads_back` accept is read back from its printed

@@ -120,6 +120,18 @@ const HITS: &[Row] = &[
     ),
     ("* > (periodical | blog)", SAMPLE, "dependence\nfeminism\n"),
     ("* > v:*[volume, issue]", SAMPLE, "dependence\tv=toplas\n"),
+    ("*[url, nothing]", SAMPLE, ""),
+    (
+        "a:(*[nothing] | b:article) > c:*",
+        SAMPLE,
+        "dependence\ta=dependence\tb=dependence\tc=toplas\n\
+         feminism\ta=feminism\tb=feminism\tc=aeon\n",
+    ),
+    (
+        "(a:article > blog) | b:article",
+        SAMPLE,
+        "dependence\tb=dependence\nfeminism\ta=feminism\n",
+    ),
     ("*[doi] | *[language]", SMALL, "paper\nnote\n"),
     (
         "article > (j:periodical > w:*[language])",
