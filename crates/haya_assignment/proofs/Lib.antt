@@ -1,0 +1,9 @@
+mod Numbers
+mod Reaching
+mod Shifting
+pub mod Holding
+mod Placing
+mod Listing
+mod Bridging
+mod Lowering
+mod LawsOfLists

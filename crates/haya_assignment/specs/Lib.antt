@@ -1,0 +1,6 @@
+pub mod Answer
+pub mod Assignment
+pub mod Laws
+pub mod Placed
+pub mod Search
+pub mod Shift

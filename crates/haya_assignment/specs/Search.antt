@@ -1,0 +1,86 @@
+-- What a search for a position keeps, and what it finds.
+use Rattle.std.specs.Prelude.{◌≡◌, ◌≢◌, ℕ, ◌+◌, ◌<◌, ◌≤◌, ◌⊎◌, Bool, false, true, List, Option}
+use Rattle.std.specs.Prelude.{Some, None, Contains, get_or, length, slice_get}
+use Rattle.haya_assignment.specs.Placed.{Grows, IsApart}
+use Rattle.haya_assignment.specs.declared.search.Reached.{Reached}
+
+-- the holders are members below a number
+abbrev pub AreBelow : ℕ → List (Option ℕ) → Type 0
+AreBelow n holders = (j u : ℕ) → slice_get holders j ≡ Some (Some u) → u < n
+
+-- of each position its holder, if one of the members but `other` has it
+pub record AreHolders (other parents : ℕ) (positions : List ℕ) (holders : List (Option ℕ))
+    : Type 0 where
+  pub as_many : length holders ≡ parents
+  pub free : (j : ℕ) → slice_get holders j ≡ Some None →
+      (u : ℕ) → u < length positions → u ≢ other → get_or positions u 0 ≢ j
+  pub held : (j u : ℕ) → slice_get holders j ≡ Some (Some u) →
+      (u < length positions) × (u ≢ other) × (get_or positions u 0 ≡ j)
+
+-- the member is accepted at the position, which the other has
+pub record IsVia (A : ℕ → ℕ → Bool) (holders : List (Option ℕ)) (member other : ℕ) : Type 0 where
+  pub position : ℕ
+  pub held : slice_get holders position ≡ Some (Some other)
+  pub accepted : A member position ≡ true
+
+-- members that were reached, each but the first by way of one before it, which is accepted at its
+-- position; `seen` flags them
+pub record IsReached (A : ℕ → ℕ → Bool) (first : ℕ) (holders : List (Option ℕ))
+    (members from : List ℕ) (seen : List Bool) : Type 0 where
+  pub some : 0 < length members
+  pub as_many : length from ≡ length members
+  pub known : (t : ℕ) → t < length members → get_or members t 0 < length seen
+  pub flagged : (u : ℕ) → get_or seen u false ≡ true → Contains members u
+  pub flags : (t : ℕ) → t < length members → get_or seen (get_or members t 0) false ≡ true
+  pub apart : IsApart members
+  pub after : (t : ℕ) → 0 < t → t < length members → first ≤ get_or members t 0
+  pub earlier : (t : ℕ) → 0 < t → t < length members → get_or from t 0 < t
+  pub via : (t : ℕ) → 0 < t → t < length members →
+      IsVia A holders (get_or members (get_or from t 0) 0) (get_or members t 0)
+
+abbrev pub Reaches : (ℕ → ℕ → Bool) → ℕ → List (Option ℕ) → Reached → Type 0
+Reaches A first holders r =
+    IsReached A first holders r.members.items r.from.items r.seen.items
+
+-- the members reached by way of the first have positions below a bound
+abbrev pub IsEarly : ℕ → List (Option ℕ) → Reached → Type 0
+IsEarly bound holders r = (t : ℕ) → 0 < t → t < length r.members.items →
+    get_or r.from.items t 0 ≡ 0 →
+    (j : ℕ) × (slice_get holders j ≡ Some (Some (get_or r.members.items t 0))) × (j < bound)
+
+-- the member is accepted at the position, which is free
+abbrev pub IsFree : (ℕ → ℕ → Bool) → List (Option ℕ) → ℕ → ℕ → Type 0
+IsFree A holders i j = (A i j ≡ true) × (slice_get holders j ≡ Some None)
+
+-- the position is held by a member before the `first`, which doesn't move, or by one reached
+pub record IsClosed (first : ℕ) (holders : List (Option ℕ)) (members : List ℕ) (j : ℕ)
+    : Type 0 where
+  pub holder : ℕ
+  pub held : slice_get holders j ≡ Some (Some holder)
+  pub which : (holder < first) ⊎ Contains members holder
+
+-- the positions where the reached members after the first are accepted, up to a place, are closed
+abbrev pub IsSearched : (ℕ → ℕ → Bool) → ℕ → ℕ → List (Option ℕ) → List ℕ → Type 0
+IsSearched A first end holders members = (t j : ℕ) → 0 < t → t < end →
+    A (get_or members t 0) j ≡ true → IsClosed first holders members j
+
+-- so are those of all of them, and of the first below a bound
+pub record IsSearchedBelow (A : ℕ → ℕ → Bool) (first bound : ℕ) (holders : List (Option ℕ))
+    (members : List ℕ) : Type 0 where
+  pub later : IsSearched A first (length members) holders members
+  pub below : (j : ℕ) → j < bound → A (get_or members 0 0) j ≡ true →
+      IsClosed first holders members j
+
+-- a member reached, at a place, that is accepted at a free position; a way to it leads by way of a
+-- position of the first below which there is none
+pub record HasFound (A : ℕ → ℕ → Bool) (first : ℕ) (holders : List (Option ℕ)) (r : Reached)
+    (at position : ℕ) : Type 0 where
+  pub in_reached : at < length r.members.items
+  pub free : IsFree A holders (get_or r.members.items at 0) position
+  pub bound : ℕ
+  pub early : IsEarly (bound + 1) holders r
+  pub end_early : at ≡ 0 → position < bound + 1
+  pub before : List ℕ
+  pub some : 0 < length before
+  pub grown : Grows before r.members.items
+  pub searched : IsSearchedBelow A first bound holders before

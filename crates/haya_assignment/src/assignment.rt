@@ -1,0 +1,120 @@
+//! The call, and its answers.
+ghost use Rattle.std.specs.Prelude.{◌≡◌, ℕ, List, ◌+◌, ◌*◌, ◌≤◌, All, IfOk, OnOk, length, vec_len};
+ghost use Rattle.haya_assignment.specs.Answer.{IsAnswer, IsCompleted, OnFound};
+ghost use Rattle.haya_assignment.specs.Assignment.{rows, true_positions};
+ghost use Rattle.haya_assignment.specs.Placed.{accepts, IsLeastBelow, IsPlaced};
+
+use crate::place::place;
+use haya_entry::Steps;
+use haya_text::OutOfMemory;
+use std::alloc::Global;
+
+/// The least assignment, or members that are accepted at fewer positions than they are.
+#[derive(PartialEq, Eq, Debug, Drop)]
+pub enum Assignment {
+    /// For each member in turn its position.
+    Found(Vec<usize>),
+    /// The members, in ascending order.
+    Short(Vec<usize>),
+}
+
+/// The places of the flags that are set, in ascending order.
+fn set_places(alloc: Global, flags: &[bool]) -> Result<Vec<usize>, OutOfMemory>
+    ensures { IfOk result (λ v. v.items ≡ true_positions flags.now) }
+{
+    let mut places = Vec::new(alloc);
+    'flags: for place in 0..flags.len() {
+        if flags[place] {
+            places.push(place)?;
+        }
+    }
+    Ok(places)
+}
+
+/// Some assignment, or members that are accepted at fewer positions than they are.
+fn complete(
+    alloc: Global,
+    table: &[Vec<bool>],
+    parents: usize,
+    steps: &mut Steps,
+) -> Result<Assignment, OutOfMemory>
+    requires width { All (λ row. vec_len row ≡ parents) table.now }
+    ensures answer { IfOk result (IsCompleted (rows table.now) parents) }
+    ensures at_least { IfOk result (λ a. OnFound a (steps.old + length table.now ≤ steps.new)) }
+    ensures onward { steps.old ≤ steps.new }
+    ensures at_most { steps.new ≤ steps.old + length table.now * (length table.now * parents) }
+{
+    let mut positions = Vec::new(alloc);
+    'members: for member in 0..table.len() {
+        positions.push(0)?;
+        if let Some(reached) = place(alloc, table, parents, 0, member, &mut positions, steps)? {
+            return Ok(Assignment::Short(set_places(alloc, &reached)?));
+        }
+    }
+    Ok(Assignment::Found(positions))
+}
+
+/// Makes the assignment the least: each member in turn has the least position that it can have
+/// beside those before it.
+fn lower(
+    alloc: Global,
+    table: &[Vec<bool>],
+    parents: usize,
+    positions: &mut [usize],
+    steps: &mut Steps,
+) -> Result<(), OutOfMemory>
+    requires width { All (λ row. vec_len row ≡ parents) table.now }
+    requires one_each { length positions.old ≡ length table.now }
+    requires placed { IsPlaced (accepts (rows table.now)) positions.old }
+    ensures one_each { length positions.new ≡ length table.now }
+    ensures placed { OnOk result (IsPlaced (accepts (rows table.now)) positions.new) }
+    ensures least { OnOk result (IsLeastBelow (accepts (rows table.now)) (length table.now)
+        positions.new) }
+    ensures onward { steps.old ≤ steps.new }
+    ensures at_most { steps.new ≤ steps.old + length table.now * (length table.now * parents) }
+{
+    'members: for member in 0..table.len() {
+        place(alloc, table, parents, member, member, positions, steps)?;
+    }
+    Ok(())
+}
+
+/// The least assignment of the members to positions, each to one of its own: `table[i][j]` says
+/// whether the member `i` is accepted at the position `j`, of which there are `parents`. Of two
+/// assignments the less is the one that gives the first member they place differently the lesser
+/// position. Where there is none, members that are accepted at fewer positions than they are.
+///
+/// A tick is a look into the table.
+///
+/// # Errors
+///
+/// [`OutOfMemory`] where an allocation failed.
+///
+/// # Examples
+///
+/// ```
+/// let table = vec![in alloc; vec![in alloc; true, true]?, vec![in alloc; true, false]?]?;
+/// let answer = least_assignment(alloc, &table, 2, &mut Steps::new())?;
+/// // `Found` with the positions 1 and 0.
+/// ```
+pub fn least_assignment(
+    alloc: Global,
+    table: &[Vec<bool>],
+    parents: usize,
+    steps: &mut Steps,
+) -> Result<Assignment, OutOfMemory>
+    requires width { All (λ row. vec_len row ≡ parents) table.now }
+    ensures answer { IfOk result (IsAnswer (rows table.now) parents) }
+    ensures onward { steps.old ≤ steps.new }
+    ensures at_least { IfOk result (λ a. OnFound a (steps.old + length table.now ≤ steps.new)) }
+    ensures at_most { steps.new ≤ steps.old
+        + (length table.now * parents + 1) * (length table.now * length table.now * parents + 1) }
+{
+    match complete(alloc, table, parents, steps)? {
+        Assignment::Found(mut positions) => {
+            lower(alloc, table, parents, &mut positions, steps)?;
+            Ok(Assignment::Found(positions))
+        }
+        Assignment::Short(members) => Ok(Assignment::Short(members)),
+    }
+}

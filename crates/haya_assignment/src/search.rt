@@ -1,0 +1,260 @@
+//! The search for a position that a member can have, where others move to make room.
+ghost use Rattle.std.specs.Prelude.{◌≡◌, ℕ, ◌+◌, ◌*◌, ◌<◌, ◌≤◌, true, false, length};
+ghost use Rattle.std.specs.Prelude.{slice_get, slice_index, vec_len, All, IfNone, IfOk, IfSome};
+ghost use Rattle.std.specs.Prelude.{OnOk, IsSome, Some, None};
+ghost use Rattle.haya_assignment.specs.Assignment.{rows};
+ghost use Rattle.haya_assignment.specs.Placed.{accepts, Grows};
+ghost use Rattle.haya_assignment.specs.Search.{AreBelow, HasFound, IsClosed, IsEarly, IsFree};
+ghost use Rattle.haya_assignment.specs.Search.{IsSearched, IsSearchedBelow, Reaches};
+
+use haya_entry::Steps;
+use haya_text::OutOfMemory;
+use std::alloc::Global;
+
+/// Whether the member is accepted at the position: one look into the table.
+fn look(
+    table: &[Vec<bool>],
+    parents: usize,
+    member: usize,
+    position: usize,
+    steps: &mut Steps,
+) -> bool
+    requires width { All (λ row. vec_len row ≡ parents) table.now }
+    requires member_in { member < length table.now }
+    requires position_in { position < parents }
+    ensures seen { result ≡ accepts (rows table.now) member position }
+    ensures ticks { steps.new ≡ steps.old + 1 }
+{
+    steps.tick();
+    table[member][position]
+}
+
+/// The members that a search has reached, each but the first by way of one before it.
+#[derive(Drop)]
+pub struct Reached {
+    pub members: Vec<usize>,
+    // For each of them the place of the one by way of which it was reached.
+    pub from: Vec<usize>,
+    // For each member of the table whether it was reached.
+    pub seen: Vec<bool>,
+}
+
+impl Reached {
+    ghost use Rattle.std.specs.Prelude.{◌≡◌, ◌<◌, ◌∷◌, [], ◌++◌, IfOk, OnOk, length, replicate};
+    ghost use Rattle.std.specs.Prelude.{set, true, false};
+
+    /// The first member, of so many in the table.
+    pub fn new(alloc: Global, member: usize, count: usize) -> Result<Reached, OutOfMemory>
+        requires { member < count }
+        ensures members { IfOk result (λ r. r.members.items ≡ member ∷ []) }
+        ensures from { IfOk result (λ r. r.from.items ≡ 0 ∷ []) }
+        ensures seen { IfOk result (λ r. r.seen.items ≡ set (replicate count false) member true) }
+    {
+        let mut members = Vec::new(alloc);
+        members.push(member)?;
+        let mut from = Vec::new(alloc);
+        from.push(0)?;
+        let mut seen = vec![in alloc; false; count]?;
+        seen[member] = true;
+        Ok(Reached {
+            members,
+            from,
+            seen,
+        })
+    }
+
+    /// One more member, by way of the one at the place `from`.
+    fn push(&mut self, member: usize, from: usize) -> Result<(), OutOfMemory>
+        requires { member < length self.old.seen.items }
+        ensures members { OnOk result
+            (self.new.members.items ≡ self.old.members.items ++ member ∷ []) }
+        ensures from { OnOk result (self.new.from.items ≡ self.old.from.items ++ from ∷ []) }
+        ensures seen { OnOk result
+            (self.new.seen.items ≡ set self.old.seen.items member true) }
+    {
+        self.members.push(member)?;
+        self.from.push(from)?;
+        self.seen[member] = true;
+        Ok(())
+    }
+}
+
+/// Whether the position is free, and the member reached at the place `at` accepted there. Where
+/// another member has it that can move, that one is reached too.
+fn try_position(
+    table: &[Vec<bool>],
+    parents: usize,
+    first: usize,
+    holders: &[Option<usize>],
+    reached: &mut Reached,
+    at: usize,
+    position: usize,
+    steps: &mut Steps,
+) -> Result<bool, OutOfMemory>
+    requires width { All (λ row. vec_len row ≡ parents) table.now }
+    requires position_in { position < parents }
+    requires as_many { length holders.now ≡ parents }
+    requires rows { length reached.old.seen.items ≤ length table.now }
+    requires held { AreBelow (length reached.old.seen.items) holders.now }
+    requires at_in { at < length reached.old.members.items }
+    requires reaches { Reaches (accepts (rows table.now)) first holders.now reached.old }
+    ensures reaches { OnOk result
+        (Reaches (accepts (rows table.now)) first holders.now reached.new) }
+    ensures grows { OnOk result (Grows reached.old.members.items reached.new.members.items) }
+    ensures as_long { OnOk result (length reached.new.seen.items ≡ length reached.old.seen.items) }
+    ensures early { (bound : ℕ) → (at ≡ 0 → position < bound) →
+        IsEarly bound holders.now reached.old →
+        OnOk result (IsEarly bound holders.now reached.new) }
+    ensures free { IfOk result (λ found. found ≡ true → IsFree (accepts (rows table.now))
+        holders.now (slice_index reached.old.members.items at) position) }
+    ensures closed { IfOk result (λ found. found ≡ false →
+        accepts (rows table.now) (slice_index reached.old.members.items at) position ≡ true →
+        IsClosed first holders.now reached.new.members.items position) }
+    ensures at_least { IfOk result (λ found. found ≡ true → steps.old + 1 ≤ steps.new) }
+    ensures onward { steps.old ≤ steps.new }
+    ensures at_most { steps.new ≤ steps.old + 1 }
+{
+    let member = reached.members[at];
+    match holders[position] {
+        None => Ok(look(table, parents, member, position, steps)),
+        Some(other) => {
+            if other >= first
+                && !reached.seen[other]
+                && look(table, parents, member, position, steps)
+            {
+                reached.push(other, at)?;
+            }
+            Ok(false)
+        }
+    }
+}
+
+/// Goes through the positions for the member reached at the place `at`, up to one that is free
+/// and accepts it.
+fn scan(
+    table: &[Vec<bool>],
+    parents: usize,
+    first: usize,
+    holders: &[Option<usize>],
+    reached: &mut Reached,
+    at: usize,
+    steps: &mut Steps,
+) -> Result<Option<usize>, OutOfMemory>
+    requires width { All (λ row. vec_len row ≡ parents) table.now }
+    requires as_many { length holders.now ≡ parents }
+    requires rows { length reached.old.seen.items ≤ length table.now }
+    requires held { AreBelow (length reached.old.seen.items) holders.now }
+    requires at_in { at < length reached.old.members.items }
+    requires later { 0 < at }
+    requires reaches { Reaches (accepts (rows table.now)) first holders.now reached.old }
+    ensures reaches { OnOk result
+        (Reaches (accepts (rows table.now)) first holders.now reached.new) }
+    ensures grows { OnOk result (Grows reached.old.members.items reached.new.members.items) }
+    ensures as_long { OnOk result (length reached.new.seen.items ≡ length reached.old.seen.items) }
+    ensures early { (bound : ℕ) → IsEarly bound holders.now reached.old →
+        OnOk result (IsEarly bound holders.now reached.new) }
+    ensures free { IfOk result (λ o. IfSome o (λ position. IsFree (accepts (rows table.now))
+        holders.now (slice_index reached.old.members.items at) position)) }
+    ensures closed { IfOk result (λ o. IfNone o ((position : ℕ) →
+        accepts (rows table.now) (slice_index reached.old.members.items at) position ≡ true →
+        IsClosed first holders.now reached.new.members.items position)) }
+    ensures at_least { IfOk result (λ o. IsSome o → steps.old + 1 ≤ steps.new) }
+    ensures onward { steps.old ≤ steps.new }
+    ensures at_most { steps.new ≤ steps.old + parents }
+{
+    'positions: for position in 0..parents {
+        if try_position(table, parents, first, holders, reached, at, position, steps)? {
+            return Ok(Some(position));
+        }
+    }
+    Ok(None)
+}
+
+/// Goes through the members reached from the place `start` on, in the order in which they were
+/// reached, up to one that is accepted at a free position: its place, and the position.
+fn follow(
+    table: &[Vec<bool>],
+    parents: usize,
+    first: usize,
+    holders: &[Option<usize>],
+    reached: &mut Reached,
+    start: usize,
+    steps: &mut Steps,
+) -> Result<Option<(usize, usize)>, OutOfMemory>
+    requires width { All (λ row. vec_len row ≡ parents) table.now }
+    requires as_many { length holders.now ≡ parents }
+    requires rows { length reached.old.seen.items ≤ length table.now }
+    requires held { AreBelow (length reached.old.seen.items) holders.now }
+    requires later { 0 < start }
+    requires start_in { start ≤ length reached.old.members.items }
+    requires reaches { Reaches (accepts (rows table.now)) first holders.now reached.old }
+    requires searched { IsSearched (accepts (rows table.now)) first start holders.now
+        reached.old.members.items }
+    ensures reaches { OnOk result
+        (Reaches (accepts (rows table.now)) first holders.now reached.new) }
+    ensures grows { OnOk result (Grows reached.old.members.items reached.new.members.items) }
+    ensures as_long { OnOk result (length reached.new.seen.items ≡ length reached.old.seen.items) }
+    ensures early { (bound : ℕ) → IsEarly bound holders.now reached.old →
+        OnOk result (IsEarly bound holders.now reached.new) }
+    ensures free { IfOk result (λ o. IfSome o (λ end. (0 < end.0)
+        × (end.0 < length reached.new.members.items)
+        × IsFree (accepts (rows table.now)) holders.now
+        (slice_index reached.new.members.items end.0) end.1)) }
+    ensures searched { IfOk result (λ o. IfNone o (IsSearched (accepts (rows table.now)) first
+        (length reached.new.members.items) holders.now reached.new.members.items)) }
+    ensures at_least { IfOk result (λ o. IsSome o → steps.old + 1 ≤ steps.new) }
+    ensures onward { steps.old ≤ steps.new }
+    ensures none_at_most { IfOk result (λ o. IfNone o (steps.new + start * parents
+        ≤ steps.old + length reached.new.members.items * parents)) }
+    ensures at_most { steps.new + start * parents ≤ steps.old + length table.now * parents }
+{
+    let mut at = start;
+    'members: while at < reached.members.len() {
+        if let Some(position) = scan(table, parents, first, holders, reached, at, steps)? {
+            return Ok(Some((at, position)));
+        }
+        at += 1;
+    }
+    Ok(None)
+}
+
+/// Goes through the positions for the member that was reached first. Each is left only when all
+/// members that can be reached by way of it were gone through. Ends at a member that is accepted
+/// at a free position: its place, and the position.
+pub fn search(
+    table: &[Vec<bool>],
+    parents: usize,
+    first: usize,
+    holders: &[Option<usize>],
+    reached: &mut Reached,
+    steps: &mut Steps,
+) -> Result<Option<(usize, usize)>, OutOfMemory>
+    requires width { All (λ row. vec_len row ≡ parents) table.now }
+    requires as_many { length holders.now ≡ parents }
+    requires rows { length reached.old.seen.items ≤ length table.now }
+    requires held { AreBelow (length reached.old.seen.items) holders.now }
+    requires one { length reached.old.members.items ≡ 1 }
+    requires reaches { Reaches (accepts (rows table.now)) first holders.now reached.old }
+    ensures reaches { OnOk result
+        (Reaches (accepts (rows table.now)) first holders.now reached.new) }
+    ensures grows { OnOk result (Grows reached.old.members.items reached.new.members.items) }
+    ensures as_long { OnOk result (length reached.new.seen.items ≡ length reached.old.seen.items) }
+    ensures found { IfOk result (λ o. IfSome o (λ end. HasFound (accepts (rows table.now)) first
+        holders.now reached.new end.0 end.1)) }
+    ensures searched { IfOk result (λ o. IfNone o (IsSearchedBelow (accepts (rows table.now))
+        first parents holders.now reached.new.members.items)) }
+    ensures at_least { IfOk result (λ o. IsSome o → steps.old + 1 ≤ steps.new) }
+    ensures onward { steps.old ≤ steps.new }
+    ensures at_most { steps.new ≤ steps.old + length table.now * parents }
+{
+    'positions: for position in 0..parents {
+        let start = reached.members.len();
+        if try_position(table, parents, first, holders, reached, 0, position, steps)? {
+            return Ok(Some((0, position)));
+        }
+        if let Some(end) = follow(table, parents, first, holders, reached, start, steps)? {
+            return Ok(Some(end));
+        }
+    }
+    Ok(None)
+}
