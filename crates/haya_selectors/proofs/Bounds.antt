@@ -1,16 +1,14 @@
 -- No more calls than forms times entries.
-use Rattle.std.proofs.Common.{◌≡◌, ℕ, ◌+◌, ◌*◌, ◌≤◌, Bool, true, false, cond, List, [], ◌∷◌, ◌++◌, Some, None, Result, Ok, Err, refl, sym, ap, arith}
-use Rattle.std.specs.Prelude.{filter, is_some, sum_by}
+use Rattle.std.proofs.Common.{◌≡◌, ℕ, ◌+◌, ◌*◌, ◌≤◌, Bool, true, false, cond, List, [], ◌∷◌, Result, Ok, Err, refl, sym, ap, arith}
+use Rattle.std.specs.Prelude.{is_some, sum_by}
 use Rattle.std.specs.List.{position_or_len}
-use Rattle.std.specs.Option.{option_map_or}
 use Rattle.std.proofs.lemmas.List.Sums.{sum_by-cons, sum_by-take-le}
 use Rattle.haya_entry.specs.Names.{is_of_type}
 use Rattle.haya_entry.specs.Tree.{Tree, Trees, node, no_trees, one_more, trees, tree_list, parents, size, sizes}
-use Rattle.haya_selectors.specs.Calls.{calls, first_calls, calls_on, first_calls_on, free_calls, greedy_calls}
+use Rattle.haya_selectors.specs.Calls.{calls, first_calls, calls_on, first_calls_on, all_calls}
 use Rattle.haya_selectors.specs.Evaluation.{Ticks}
-use Rattle.haya_selectors.specs.Holds.{holds, candidates, least_free}
-use Rattle.haya_selectors.specs.Places.{places, free_places, at_place, items_up_to}
-use Rattle.haya_selectors.proofs.FreePlaces.{sum_by-places}
+use Rattle.haya_selectors.specs.Holds.{holds, candidates}
+use Rattle.haya_selectors.specs.Places.{items_up_to}
 use Rattle.haya_selectors.specs.Syntax.{Syntax, Wildcard, Entry, Neg, Binding, Attr, Alt, Multi, Ancestrage, Syntaxes, none, more, nodes, nodes_of_all}
 
 -- how many entries a list of trees has
@@ -28,15 +26,6 @@ either_at_most : (b : Bool) (m n : ℕ) → cond b m n ≤ m + n
 either_at_most true m n = omega arith
 either_at_most false m n = omega arith
 
-sum_by-filter-le : {X : Type 0} (f : X → ℕ) (p : X → Bool) (xs : List X) → sum_by f (filter p xs) ≤ sum_by f xs
-sum_by-filter-le f p [] = omega arith
-sum_by-filter-le f p (x ∷ xs) =
-    let rest = sum_by-filter-le f p xs in
-    elim (p x) as (λ b. sum_by f (cond b (x ∷ filter p xs) (filter p xs)) ≤ sum_by f (x ∷ xs)) [
-      | true ↦ omega (arith, rest, sum_by-cons f x xs, sum_by-cons f x (filter p xs))
-      | false ↦ omega (arith, rest, sum_by-cons f x xs)
-    ]
-
 module _ (f : Tree → ℕ) (k : ℕ) (each : (x : Tree) → f x ≤ k * size x) where
   sum_at_most : (xs : List Tree) → sum_by f xs ≤ k * total xs
   sum_at_most [] = omega arith
@@ -44,13 +33,6 @@ module _ (f : Tree → ℕ) (k : ℕ) (each : (x : Tree) → f x ≤ k * size x)
 
   first_at_most : (test : Tree → Bool) (xs : List Tree) → sum_by f (items_up_to test xs) ≤ k * total xs
   first_at_most test xs = omega (arith, sum_by-take-le f xs (position_or_len test xs + 1), sum_at_most xs)
-
-  free_at_most : (test : Tree → Bool) (xs : List Tree) (taken : List ℕ) → free_calls test f xs taken ≤ k * total xs
-  free_at_most test xs taken =
-      let g = at_place 0 f xs in
-      let cut = sum_by-take-le g (free_places xs taken) (position_or_len (at_place false test xs) (free_places xs taken) + 1) in
-      let free : sum_by g (free_places xs taken) ≤ sum_by g (places xs) = sum_by-filter-le g _ (places xs) in
-      omega (arith, cut, free, sum_by-places f xs, sum_at_most xs)
 
 mutual
   pub calls_at_most : (s : Syntax) (x : Tree) → calls s x ≤ nodes s * size x
@@ -75,7 +57,7 @@ mutual
   calls_on_at_most (Binding n s) xs = omega (arith, calls_on_at_most s xs)
   calls_on_at_most (Attr s names) xs = omega (arith, calls_on_at_most s xs)
   calls_on_at_most (Alt ss) xs = omega (arith, first_calls_on_at_most ss xs)
-  calls_on_at_most (Multi ss) xs = omega (arith, greedy_calls_at_most ss xs [])
+  calls_on_at_most (Multi ss) xs = omega (arith, all_calls_at_most ss xs)
   calls_on_at_most (Ancestrage l r) xs =
       omega (
         arith,
@@ -89,16 +71,9 @@ mutual
   first_calls_on_at_most (more s ss) xs =
       omega (arith, calls_on_at_most s xs, first_calls_on_at_most ss xs, either_at_most (is_some (candidates s xs)) 0 (first_calls_on ss xs))
 
-  greedy_calls_at_most : (ss : Syntaxes) (xs : List Tree) (taken : List ℕ) → greedy_calls ss xs taken ≤ nodes_of_all ss * total xs
-  greedy_calls_at_most none xs taken = omega arith
-  greedy_calls_at_most (more s ss) xs taken =
-      let here = free_at_most (calls s) (nodes s) (calls_at_most s) (holds s) xs taken in
-      let rest : option_map_or (λ i. greedy_calls ss xs (taken ++ i ∷ [])) (least_free (holds s) xs taken) 0 ≤ nodes_of_all ss * total xs =
-      elim (least_free (holds s) xs taken) as (λ o. option_map_or (λ i. greedy_calls ss xs (taken ++ i ∷ [])) o 0 ≤ nodes_of_all ss * total xs) [
-        | None ↦ omega arith
-        | Some i ↦ greedy_calls_at_most ss xs (taken ++ i ∷ [])
-      ] in
-      omega (arith, here, rest)
+  all_calls_at_most : (ss : Syntaxes) (xs : List Tree) → all_calls ss xs ≤ nodes_of_all ss * total xs
+  all_calls_at_most none xs = omega arith
+  all_calls_at_most (more s ss) xs = omega (arith, sum_at_most (calls s) (nodes s) (λ x. calls_at_most s x) xs, all_calls_at_most ss xs)
 
 -- one tick before
 pub ticks_more : {T E : Type 0} (r : Result T E) (old new n : ℕ) → Ticks r (old + 1) new n → Ticks r old new (1 + n)

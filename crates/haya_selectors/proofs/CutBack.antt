@@ -4,7 +4,7 @@ use Rattle.std.specs.Prelude.{All, IfOk, OnSome, Option, None, Result, Ok, Err, 
 use Rattle.std.specs.Bool.{OnTrue}
 use Rattle.std.proofs.Math.Seq.{take-length}
 use Rattle.std.proofs.lemmas.List.Elements.{All-head}
-use Rattle.std.proofs.lemmas.List.{length-map, length-take, map-append, take-map}
+use Rattle.std.proofs.lemmas.List.{length-map, length-take, map-append, take-append-le, take-map}
 use Rattle.haya_entry.specs.declared.entry.Entry.{Entry}
 use Rattle.haya_entry.specs.Tree.{Tree, view, at_list}
 use Rattle.haya_selectors.specs.Binds.{Pairs, pair_of_first}
@@ -12,7 +12,12 @@ use Rattle.haya_selectors.specs.Compiled.{name_of}
 use Rattle.haya_selectors.specs.declared.nodes.Nodes.{Nodes}
 use Rattle.haya_selectors.specs.Evaluation.{AddsAt, AddsAtIf, AddsOn, AddsOnIf, EntryPairs, KeepsFound, pair_entries, pairs_view}
 use Rattle.haya_selectors.specs.Nodes.{slot_names}
-use Rattle.haya_selectors.proofs.Greedy.{kept_next}
+
+-- what was there at first still leads what is added to
+kept_next : {A : Type 0} (olds mids news added : List A) → take (length olds) mids ≡ olds → news ≡ mids ++ added → take (length olds) news ≡ olds
+kept_next olds mids news added h k =
+    let fits : length olds ≤ length mids = omega (arith, ap length h, length-take (length olds) mids) in
+    rw (k, take-append-le (length olds) mids added fits) h
 
 module _ (nodes : Nodes) (olds : EntryPairs) where
   abbrev value : ℕ × Entry → List ℕ × Option Tree

@@ -1,22 +1,23 @@
 -- A selector holds, and binds its names, as its words say.
-use Rattle.std.proofs.Common.{◌≡◌, ℕ, zero, suc, ◌+◌, ◌<◌, Bool, true, false, cond, List, [], ◌∷◌, ◌++◌, Option, Some, None, length, refl, sym, ap, subst, ◌∙◌, arith, drop}
-use Rattle.std.specs.Prelude.{⊤, not, ◌||◌, ◌&&◌, ◌==◌, filter, find, is_some, option_and_then, option_map, position, reverse, slice_get, unwrap_or}
-use Rattle.std.specs.List.{list_any, range_with_len}
+use Rattle.std.proofs.Common.{◌≡◌, ℕ, suc, ◌+◌, Bool, true, false, cond, List, [], ◌∷◌, ◌++◌, Option, Some, None, length, refl, sym, ap, subst, ◌∙◌, arith, drop}
+use Rattle.std.specs.Prelude.{⊤, not, ◌||◌, ◌&&◌, ◌==◌, filter, find, is_some, map, option_and_then, option_map, position, reverse, slice_get, unwrap_or}
+use Rattle.std.specs.List.{AllZip, list_any, range_with_len}
 use Rattle.std.specs.Option.{option_map_or, option_or}
 use Rattle.std.specs.Str.{bytes_eq}
 use Rattle.std.proofs.Math.Bool.{and-true}
-use Rattle.std.proofs.lemmas.Bool.Decides.{nat_tests}
 use Rattle.std.proofs.lemmas.List.{map-append, reverse-append}
-use Rattle.std.proofs.lemmas.List.Folds.{list_any-append}
+use Rattle.haya_text.proofs.Tells.{and-both}
 use Rattle.haya_entry.specs.Names.{is_of_type, has_all, has_name}
 use Rattle.haya_entry.specs.Tree.{Tree, at, at_list, parents}
+use Rattle.haya_assignment.specs.Assignment.{not_taken}
 use Rattle.haya_selectors.specs.Binds.{Pairs, binds, binds_on, bound_to, each_binds, first_binds, first_binds_on, last_of, pair_of_first, pairs_at}
 use Rattle.haya_selectors.specs.Evaluation.{pair_entries}
-use Rattle.haya_selectors.specs.Holds.{holds, some_holds, candidates, first_candidates, greedy, kept_places, least_free, some_places}
-use Rattle.haya_selectors.specs.InWords.{has_names, some_entries, with_names, first_entry, without_first, or_before, picks, some_picks, stands, some_stands, each_stands, candidate_entries, first_entries, entries_in_turn, first_candidate, binds_name, some_binds_name, within, at_first, entry_called, called_by_first, parent_called, parent_called_by_first, called_in_turn, named_entry}
-use Rattle.haya_selectors.specs.Places.{places, free_places, at_place}
+use Rattle.haya_selectors.specs.Holds.{holds, some_holds, candidates, first_candidates, kept_places, some_places, table_of}
+use Rattle.haya_selectors.specs.InWords.{has_names, some_entries, with_names, first_entry, choices, first_choice, or_before, picks, some_picks, stands, some_stands, each_stands, candidate_entries, first_entries, each_entry, first_candidate, binds_name, some_binds_name, at_entry, within, at_first, entry_called, called_by_first, parent_called, parent_called_by_first, each_called, named_entry}
+use Rattle.haya_selectors.specs.Places.{places, at_place}
 use Rattle.haya_selectors.specs.Syntax.{Syntax, Wildcard, Entry, Neg, Binding, Attr, Alt, Multi, Ancestrage, Syntaxes, none, more}
-use Rattle.haya_selectors.proofs.FreePlaces.{at_drop, least_of_all, filter_of_all}
+use Rattle.haya_selectors.proofs.Choices.{Apart, Distinct, first_some, itself, least_beside, least_beside-cons, not_taken-distinct, not_taken-more, not_taken-true, other_way, without-apart}
+use Rattle.haya_selectors.proofs.Walks.{at_drop, filter_of_all, position-cons}
 use Rattle.haya_selectors.proofs.Lasts.{last_of-second}
 use Rattle.haya_selectors.proofs.Options.{is_some-map}
 use Rattle.haya_selectors.proofs.Paths.{resolved_led, resolved_on}
@@ -30,10 +31,6 @@ pub find-same : {A : Type 0} {p q : A → Bool} (same : (a : A) → p a ≡ q a)
 find-same same [] = refl
 find-same same (x ∷ xs) = rw (same x, find-same same xs) refl
 
-pub filter-same : {A : Type 0} {p q : A → Bool} (same : (a : A) → p a ≡ q a) (xs : List A) → filter p xs ≡ filter q xs
-filter-same same [] = refl
-filter-same same (x ∷ xs) = rw (same x, filter-same same xs) refl
-
 pub all-names : (names : List (List ℕ)) (x : Tree) → has_all names x ≡ has_names names x
 all-names [] x = refl
 all-names (n ∷ []) x = and-true (has_name x n)
@@ -42,6 +39,14 @@ all-names (n ∷ m ∷ names) x = ap (λ b. has_name x n && b) (all-names (m ∷
 find-some : {A : Type 0} (p : A → Bool) (xs : List A) → is_some (find p xs) ≡ list_any p xs
 find-some p [] = refl
 find-some p (x ∷ xs) = elim (p x) as (λ b. is_some (cond b (Some x) (find p xs)) ≡ (b || list_any p xs)) [ true ↦ refl | false ↦ find-some p xs ]
+
+find-passes : {A : Type 0} (p : A → Bool) (xs : List A) (a : A) → find p xs ≡ Some a → p a ≡ true
+find-passes p [] a e = absurd (cc)
+find-passes p (x ∷ xs) a e =
+    (elim (p x) as (λ b. p x ≡ b → cond b (Some x) (find p xs) ≡ Some a → p a ≡ true) [
+      | true ↦ λ h k. let same : x ≡ a = cc in rw (← same) h
+      | false ↦ λ h k. find-passes p xs a k
+    ]) refl e
 
 find-filter : (q : Tree → Bool) (xs : List Tree) → first_entry (some_entries (filter q xs)) ≡ find q xs
 find-filter q [] = refl
@@ -72,15 +77,6 @@ module _ (xs : List Tree) where
   same-some (Some is) (Some es) h = refl
   same-some (Some is) None h = absurd h
   same-some None (Some es) h = absurd h
-
-  find-stands : (test : Tree → Bool) (is : List ℕ) (es : List Tree) → Stand is es → StandsOr (find (at_place false test xs) is) (find test es)
-  find-stands test [] [] h = tt
-  find-stands test [] (e ∷ es) h = absurd h
-  find-stands test (i ∷ is) [] h = absurd h
-  find-stands test (i ∷ is) (e ∷ es) h = rw h.0 (elim (test e) as (λ b. StandsOr (cond b (Some i) (find (at_place false test xs) is)) (cond b (Some e) (find test es))) [
-    | true ↦ h.0
-    | false ↦ find-stands test is es h.1
-  ])
 
   filter-stands : (names : List (List ℕ)) (is : List ℕ) (es : List Tree) → Stand is es → Stand (filter (at_place false (has_all names) xs) is) (filter (has_names names) es)
   filter-stands names [] [] h = tt
@@ -125,116 +121,93 @@ module _ (xs : List Tree) where
   one-stands (Some i) None h = absurd h
   one-stands None (Some e) h = absurd h
 
-  cons-stands : (i : ℕ) (e : Tree) → slice_get xs i ≡ Some e → (o : Option (List ℕ)) (p : Option (List Tree)) → StandOr o p
-      → StandOr (option_map (λ is. i ∷ is) o) (option_map (λ es. e ∷ es) p)
-  cons-stands i e k None None h = tt
-  cons-stands i e k (Some is) (Some es) h = (k, h)
-  cons-stands i e k (Some is) None h = absurd h
-  cons-stands i e k None (Some es) h = absurd h
-
 -- all places, with all entries
 stand_from : (ys : List Tree) (k : ℕ) (xs : List Tree) → drop k ys ≡ xs → Stand ys (range_with_len k (length xs)) xs
 stand_from ys k [] e = tt
 stand_from ys k (x ∷ xs) e = let h = at_drop ys k x xs e in (h.0, stand_from ys (k + 1) xs h.1)
 
-all-stand : (xs : List Tree) → Stand xs (free_places xs []) xs
+all-stand : (xs : List Tree) → Stand xs (not_taken [] (places xs)) xs
 all-stand xs = rw (filter_of_all (places xs)) (stand_from xs 0 xs refl)
 
+later-stands : (x : Tree) (xs : List Tree) (o : Option ℕ) (p : Option Tree) → StandsOr xs o p → StandsOr (x ∷ xs) (option_map (λ j. 1 + j) o) p
+later-stands x xs None None h = tt
+later-stands x xs (Some i) (Some e) h = let next : 1 + i ≡ suc i = omega arith in rw next h
+later-stands x xs (Some i) None h = absurd h
+later-stands x xs None (Some e) h = absurd h
+
 first-stands : (xs : List Tree) (test : Tree → Bool) → StandsOr xs (position test xs) (find test xs)
-first-stands xs test = subst (λ o. StandsOr xs o (find test xs)) (least_of_all test xs) (find-stands xs test (free_places xs []) xs (all-stand xs))
-
--- ---- taking an entry away
-abbrev Apart : ℕ → List ℕ → Type 0
-Apart i [] = ⊤
-Apart i (j ∷ js) = ((i == j) ≡ false) × Apart i js
-
-abbrev Distinct : List ℕ → Type 0
-Distinct [] = ⊤
-Distinct (i ∷ is) = Apart i is × Distinct is
-
-above : (i k n : ℕ) → i < k → Apart i (range_with_len k n)
-above i k zero h = tt
-above i k (suc n) h = (grind (arith, nat_tests), above i (k + 1) n (omega arith))
-
-range-distinct : (k n : ℕ) → Distinct (range_with_len k n)
-range-distinct k zero = tt
-range-distinct k (suc n) = (above k (k + 1) n (omega arith), range-distinct (k + 1) n)
-
-filter-apart : (p : ℕ → Bool) (i : ℕ) (is : List ℕ) → Apart i is → Apart i (filter p is)
-filter-apart p i [] h = tt
-filter-apart p i (j ∷ js) h = elim (p j) as (λ b. Apart i (cond b (j ∷ filter p js) (filter p js))) [ true ↦ (h.0, filter-apart p i js h.1) | false ↦ filter-apart p i js h.1 ]
-
-filter-distinct : (p : ℕ → Bool) (is : List ℕ) → Distinct is → Distinct (filter p is)
-filter-distinct p [] h = tt
-filter-distinct p (i ∷ is) h =
-    elim (p i) as (λ b. Distinct (cond b (i ∷ filter p is) (filter p is))) [ true ↦ (filter-apart p i is h.0, filter-distinct p is h.1) | false ↦ filter-distinct p is h.1 ]
-
-without-apart : (i : ℕ) (is : List ℕ) → Apart i is → filter (λ j. not (i == j)) is ≡ is
-without-apart i [] h = refl
-without-apart i (j ∷ js) h = rw (h.0, without-apart i js h.1) refl
-
-other_way : (i k : ℕ) → (i == k) ≡ false → (k == i) ≡ false
-other_way i k h = grind (arith, nat_tests)
-
-itself : (i : ℕ) → (i == i) ≡ true
-itself i = grind (arith, nat_tests)
-
--- what is found among numbers that are apart from one is another one
-found-apart : (p : ℕ → Bool) (i : ℕ) (is : List ℕ) (j : ℕ) → Apart i is → find p is ≡ Some j → (j == i) ≡ false
-found-apart p i [] j h f = absurd (cc)
-found-apart p i (k ∷ ks) j h f = by (found-apart p i ks j h.1) (p k) refl f
-  where
-    by : (find p ks ≡ Some j → (j == i) ≡ false) → (b : Bool) → p k ≡ b → cond b (Some k) (find p ks) ≡ Some j → (j == i) ≡ false
-    by rest true e g = let same : k ≡ j = cc in rw (← same) (other_way i k h.0)
-    by rest false e g = rest g
-
-module _ (xs : List Tree) (test : Tree → Bool) where
-  stand-without : (is : List ℕ) (es : List Tree) → Distinct is → Stand xs is es → (i : ℕ) → find (at_place false test xs) is ≡ Some i
-      → Stand xs (filter (λ j. not (i == j)) is) (without_first test es)
-  stand-without [] [] d h i f = absurd (cc)
-  stand-without [] (e ∷ es) d h i f = absurd h
-  stand-without (k ∷ ks) [] d h i f = absurd h
-  stand-without (k ∷ ks) (e ∷ es) d h i f = by (stand-without ks es d.1 h.1 i) (test e) refl (rw h.0 at f)
-    where
-      by : (find (at_place false test xs) ks ≡ Some i → Stand xs (filter (λ j. not (i == j)) ks) (without_first test es))
-          → (b : Bool) → test e ≡ b → cond b (Some k) (find (at_place false test xs) ks) ≡ Some i
-          → Stand xs (filter (λ j. not (i == j)) (k ∷ ks)) (cond b es (e ∷ without_first test es))
-      by rest true t g =
-          let same : k ≡ i = cc in
-          let here : Stand xs (filter (λ j. not (k == j)) (k ∷ ks)) es = rw (itself k) (subst (λ l. Stand xs l es) (sym (without-apart k ks d.0)) h.1) in
-          subst (λ n. Stand xs (filter (λ j. not (n == j)) (k ∷ ks)) es) same here
-      by rest false t g = rw (found-apart (at_place false test xs) k ks i d.0 g) (h.0, rest g)
-
-free-more : (taken : List ℕ) (i : ℕ) (js : List ℕ)
-    → filter (λ j. not (list_any (λ t. t == j) (taken ++ i ∷ []))) js ≡ filter (λ j. not (i == j)) (filter (λ j. not (list_any (λ t. t == j) taken)) js)
-free-more taken i [] = refl
-free-more taken i (j ∷ js) =
-    let free = filter (λ j. not (list_any (λ t. t == j) taken)) js in
-    let left = filter (λ j. not (i == j)) free in
-    rw (list_any-append (λ t. t == j) taken (i ∷ []), free-more taken i js)
-    (elim (list_any (λ t. t == j) taken) as (λ a. cond (not (a || ((i == j) || false))) (j ∷ left) left ≡ filter (λ j. not (i == j)) (cond (not a) (j ∷ free) free)) [
+first-stands [] test = tt
+first-stands (x ∷ xs) test = rw (position-cons test x xs)
+    (elim (test x) as (λ b. StandsOr (x ∷ xs) (cond b (Some 0) (option_map (λ j. 1 + j) (position test xs))) (cond b (Some x) (find test xs))) [
       | true ↦ refl
-      | false ↦ elim (i == j) as (λ b. cond (not (b || false)) (j ∷ left) left ≡ cond (not b) (j ∷ left) left) [ true ↦ refl | false ↦ refl ]
+      | false ↦ later-stands x xs (position test xs) (find test xs) (first-stands xs test)
     ])
 
-without-same : {p q : Tree → Bool} (same : (a : Tree) → p a ≡ q a) (xs : List Tree) → without_first p xs ≡ without_first q xs
-without-same same [] = refl
-without-same same (x ∷ xs) = rw (same x, without-same same xs) refl
+-- ---- choosing an entry
+zip-weaker : {A B : Type 0} {R S : A → B → Type 0} (weaker : (a : A) (b : B) → R a b → S a b) (xs : List A) (ys : List B) → AllZip R xs ys → AllZip S xs ys
+zip-weaker weaker [] [] h = tt
+zip-weaker weaker [] (y ∷ ys) h = absurd h
+zip-weaker weaker (x ∷ xs) [] h = absurd h
+zip-weaker weaker (x ∷ xs) (y ∷ ys) h = (weaker x y h.0, zip-weaker weaker xs ys h.1)
 
--- what is left once a place is taken
-next-stand : (xs : List Tree) (p q : Tree → Bool) (same : (a : Tree) → p a ≡ q a) (taken : List ℕ) (left : List Tree) → Stand xs (free_places xs taken) left
-    → (i : ℕ) → least_free p xs taken ≡ Some i → Stand xs (free_places xs (taken ++ i ∷ [])) (without_first q left)
-next-stand xs p q same taken left h i e =
-    rw (free-more taken i (places xs), ← without-same same left)
-    (stand-without xs p (free_places xs taken) left (filter-distinct _ (places xs) (range-distinct 0 (length xs))) h i e)
+module _ (xs : List Tree) where
+  -- a place, and an entry beside the others: those at the places but this one
+  abbrev IsChoice : List ℕ → ℕ → Tree × List Tree → Type 0
+  IsChoice is k c = (slice_get xs k ≡ Some c.0) × Stand xs (filter (λ j. not (k == j)) is) c.1
 
-turn-stands : (xs : List Tree) (o : Option ℕ) (p : Option Tree) → StandsOr xs o p → (places_left : ℕ → Option (List ℕ)) (entries_left : Option (List Tree))
-    → ((i : ℕ) → o ≡ Some i → StandOr xs (places_left i) entries_left)
-    → StandOr xs (option_and_then (λ i. option_map (λ is. i ∷ is) (places_left i)) o) (option_and_then (λ x. option_map (λ ys. x ∷ ys) entries_left) p)
-turn-stands xs None None h f g k = tt
-turn-stands xs (Some i) (Some e) h f g k = cons-stands xs i e h (f i) g (k i refl)
-turn-stands xs (Some i) None h f g k = absurd h
-turn-stands xs None (Some e) h f g k = absurd h
+  more-choices : (i : ℕ) (e : Tree) (is : List ℕ) → slice_get xs i ≡ Some e → (ks : List ℕ) (cs : List (Tree × List Tree)) → Apart i ks → AllZip (IsChoice is) ks cs
+      → AllZip (IsChoice (i ∷ is)) ks (map (λ c. (c.0, e ∷ c.1)) cs)
+  more-choices i e is h [] [] a z = tt
+  more-choices i e is h [] (c ∷ cs) a z = absurd z
+  more-choices i e is h (k ∷ ks) [] a z = absurd z
+  more-choices i e is h (k ∷ ks) (c ∷ cs) a z = (rw (other_way i k a.0) (z.0.0, (h, z.0.1)), more-choices i e is h ks cs a.1 z.1)
+
+  -- each place with the choice of its entry
+  stand-choices : (is : List ℕ) (es : List Tree) → Distinct is → Stand xs is es → AllZip (IsChoice is) is (choices es)
+  stand-choices [] [] d h = tt
+  stand-choices [] (e ∷ es) d h = absurd h
+  stand-choices (i ∷ is) [] d h = absurd h
+  stand-choices (i ∷ is) (e ∷ es) d h =
+      (rw (itself i, without-apart i is d.0) (h.0, h.1), more-choices i e is h.0 is (choices es) d.0 (stand-choices is es d.1 h.1))
+
+  -- the same where places are taken
+  taken-choices : (taken : List ℕ) (left : List Tree) → Stand xs (not_taken taken (places xs)) left
+      → AllZip (λ k c. (slice_get xs k ≡ Some c.0) × Stand xs (not_taken (k ∷ taken) (places xs)) c.1) (not_taken taken (places xs)) (choices left)
+  taken-choices taken left h =
+      zip-weaker (λ k c z. (z.0, rw (not_taken-more taken k (places xs)) z.1)) (not_taken taken (places xs)) (choices left)
+      (stand-choices (not_taken taken (places xs)) left (not_taken-distinct taken xs) h)
+
+  -- the first choice of an entry that passes, with what the others then get
+  module _ (p q : Tree → Bool) (same : (x : Tree) → p x ≡ q x) (g : ℕ → Option (List ℕ)) (others : List Tree → Option (List Tree)) (passes : List Tree → Bool)
+      (some : (ys : List Tree) → is_some (others ys) ≡ passes ys) where
+    abbrev with_place : ℕ → Option (List ℕ)
+    with_place k = option_map (λ js. k ∷ js) (g k)
+
+    abbrev with_entry : Tree × List Tree → Option (List Tree)
+    with_entry c = option_map (λ ys. c.0 ∷ ys) (others c.1)
+
+    this-or-later : (k : ℕ) (c : Tree × List Tree) → slice_get xs k ≡ Some c.0 → (o : Option (List ℕ)) (e : Option (List Tree)) → others c.1 ≡ e → StandOr xs o e
+        → (later : Option (List ℕ)) (later_choice : Option (Tree × List Tree)) → StandOr xs later (option_and_then with_entry later_choice)
+        → StandOr xs (option_or (option_map (λ js. k ∷ js) o) later) (option_and_then with_entry (cond (is_some e) (Some c) later_choice))
+    this-or-later k c there None None t h later later_choice rest = rest
+    this-or-later k c there (Some js) (Some es) t h later later_choice rest = rw t (there, h)
+    this-or-later k c there (Some js) None t h later later_choice rest = absurd h
+    this-or-later k c there None (Some es) t h later later_choice rest = absurd h
+
+    first-choice-stand : (is : List ℕ) (cs : List (Tree × List Tree)) → AllZip (λ k c. (slice_get xs k ≡ Some c.0) × StandOr xs (g k) (others c.1)) is cs
+        → StandOr xs (first_some with_place (filter (at_place false p xs) is)) (option_and_then with_entry (find (λ c. q c.0 && passes c.1) cs))
+    first-choice-stand [] [] z = tt
+    first-choice-stand [] (c ∷ cs) z = absurd z
+    first-choice-stand (k ∷ is) [] z = absurd z
+    first-choice-stand (k ∷ is) (c ∷ cs) z =
+        let later = first_some with_place (filter (at_place false p xs) is) in
+        let later_choice = find (λ c. q c.0 && passes c.1) cs in
+        let rest = first-choice-stand is cs z.1 in
+        rw (z.0.0, same c.0)
+        (elim (q c.0) as (λ b. StandOr xs (first_some with_place (cond b (k ∷ filter (at_place false p xs) is) (filter (at_place false p xs) is))) (option_and_then with_entry (cond (b && passes c.1) (Some c) later_choice))) [
+          | true ↦ rw (← some c.1) (this-or-later k c z.0.0 (g k) (others c.1) refl z.0.1 later later_choice rest)
+          | false ↦ rest
+        ])
 
 -- ---- the words alone
 or-some : {A : Type 0} (o p : Option A) → is_some (option_or o p) ≡ (is_some o || is_some p)
@@ -282,20 +255,46 @@ module _ (names : List (List ℕ)) where
   first-with-one None = refl
   first-with-one (Some x) = elim (has_names names x) as (λ b. first_entry (some_entries (cond b (x ∷ []) [])) ≡ cond b (Some x) None) [ true ↦ refl | false ↦ refl ]
 
-last-turn : (o : Option Tree) → is_some (option_and_then (λ x. Some (x ∷ [])) o) ≡ is_some o
-last-turn None = refl
-last-turn (Some x) = refl
+-- what is made of the first that passes, where something is made of each that does
+made-some : {C Y : Type 0} (h : C → Option Y) (test : C → Bool) → ((c : C) → test c ≡ true → is_some (h c) ≡ true) → (cs : List C) → is_some (option_and_then h (find test cs)) ≡ list_any test cs
+made-some h test made [] = refl
+made-some h test made (c ∷ cs) =
+    (elim (test c) as (λ b. test c ≡ b → is_some (option_and_then h (cond b (Some c) (find test cs))) ≡ (b || list_any test cs)) [
+      | true ↦ λ e. made c e
+      | false ↦ λ e. made-some h test made cs
+    ]) refl
 
-one-turn : (o : Option Tree) (left : Option (List Tree)) → is_some (option_and_then (λ x. option_map (λ ys. x ∷ ys) left) o) ≡ (is_some o && is_some left)
-one-turn None left = refl
-one-turn (Some x) left = is_some-map _ left
+each_entry-some : (ss : Syntaxes) (xs : List Tree) → is_some (each_entry ss xs) ≡ each_stands ss xs
+each_entry-some none xs = refl
+each_entry-some (more s none) xs = is_some-map _ (find (picks s) xs) ∙ find-some (picks s) xs
+each_entry-some (more s (more t ss)) xs =
+    made-some (λ c. option_map (λ ys. c.0 ∷ ys) (each_entry (more t ss) c.1)) (λ c. picks s c.0 && each_stands (more t ss) c.1)
+    (λ c e. is_some-map _ (each_entry (more t ss) c.1) ∙ each_entry-some (more t ss) c.1 ∙ (and-both (picks s c.0) (each_stands (more t ss) c.1) e).1) (choices xs)
 
-turn-some : (ss : Syntaxes) (xs : List Tree) → is_some (entries_in_turn ss xs) ≡ each_stands ss xs
-turn-some none xs = refl
-turn-some (more s none) xs = last-turn (find (picks s) xs) ∙ find-some (picks s) xs
-turn-some (more s (more t ss)) xs =
-    one-turn (find (picks s) xs) (entries_in_turn (more t ss) (without_first (picks s) xs))
-    ∙ rw (find-some (picks s) xs, turn-some (more t ss) (without_first (picks s) xs)) refl
+-- a member that is the last takes the first entry where it holds
+abbrev chosen : List (Tree × List Tree) → List Tree
+chosen cs = map (λ (c : Tree × List Tree). c.0) cs
+
+map-choices : (e : Tree) (cs : List (Tree × List Tree)) → chosen (map (λ c. (c.0, e ∷ c.1)) cs) ≡ chosen cs
+map-choices e [] = refl
+map-choices e (c ∷ cs) = ap (λ xs. c.0 ∷ xs) (map-choices e cs)
+
+choices-first : (xs : List Tree) → chosen (choices xs) ≡ xs
+choices-first [] = refl
+choices-first (x ∷ xs) = ap (λ ys. x ∷ ys) (map-choices x (choices xs) ∙ choices-first xs)
+
+last-choice : (p : Tree → Bool) (cs : List (Tree × List Tree)) → option_map (λ x. x ∷ []) (find p (chosen cs)) ≡ option_and_then (λ c. Some (c.0 ∷ [])) (find (λ c. p c.0 && true) cs)
+last-choice p [] = refl
+last-choice p (c ∷ cs) =
+    elim (p c.0) as (λ b. option_map (λ x. x ∷ []) (cond b (Some c.0) (find p (chosen cs))) ≡ option_and_then (λ c. Some (c.0 ∷ [])) (cond (b && true) (Some c) (find (λ c. p c.0 && true) cs))) [
+      | true ↦ refl
+      | false ↦ last-choice p cs
+    ]
+
+each_entry-more : (s : Syntax) (ss : Syntaxes) (xs : List Tree)
+    → each_entry (more s ss) xs ≡ option_and_then (λ c. option_map (λ ys. c.0 ∷ ys) (each_entry ss c.1)) (first_choice (picks s) (each_stands ss) xs)
+each_entry-more s none xs = ap (λ ys. option_map (λ x. x ∷ []) (find (picks s) ys)) (sym (choices-first xs)) ∙ last-choice (picks s) (choices xs)
+each_entry-more s (more t ss) xs = refl
 
 mutual
   entries-some : (s : Syntax) (xs : List Tree) → is_some (candidate_entries s xs) ≡ stands s xs
@@ -310,7 +309,7 @@ mutual
   entries-some (Attr (Ancestrage l r) names) xs = with-one names (find (λ x. picks l x && stands r (parents x)) xs)
   entries-some (Attr s names) xs = refl
   entries-some (Alt ss) xs = first_entries-some ss xs
-  entries-some (Multi ss) xs = turn-some ss xs
+  entries-some (Multi ss) xs = each_entry-some ss xs
   entries-some (Ancestrage l r) xs = let test = λ (x : Tree). picks l x && stands r (parents x) in is_some-map _ (find test xs) ∙ find-some test xs
 
   first_entries-some : (ss : Syntaxes) (xs : List Tree) → is_some (first_entries ss xs) ≡ some_stands ss xs
@@ -366,7 +365,7 @@ mutual
   candidates-stand (Binding n s) xs = named-stands xs _ _ (candidates-stand s xs)
   candidates-stand (Attr s names) xs = kept-stands xs names _ _ (candidates-stand s xs)
   candidates-stand (Alt ss) xs = first_candidates-stand ss xs
-  candidates-stand (Multi ss) xs = greedy-stand ss xs [] xs (all-stand xs)
+  candidates-stand (Multi ss) xs = each-stand ss xs [] xs (all-stand xs)
   candidates-stand (Ancestrage l r) xs =
       let test = λ (x : Tree). holds l x && is_some (candidates r (parents x)) in
       one-stands xs _ _ (subst (λ o. StandsOr xs (position test xs) o) (find-same {q = λ x. picks l x && stands r (parents x)} (λ x. rw (holds-picks l x, same-some (parents x) (candidates r (parents x)) (candidate_entries r (parents x)) (candidates-stand r (parents x)) ∙ entries-some r (parents x)) refl) xs) (first-stands xs test))
@@ -375,13 +374,14 @@ mutual
   first_candidates-stand none xs = tt
   first_candidates-stand (more s ss) xs = or-stands xs _ _ _ _ (candidates-stand s xs) (first_candidates-stand ss xs)
 
-  greedy-stand : (ss : Syntaxes) (xs : List Tree) (taken : List ℕ) (left : List Tree) → Stand xs (free_places xs taken) left → StandOr xs (greedy ss xs taken) (entries_in_turn ss left)
-  greedy-stand none xs taken left h = tt
-  greedy-stand (more s ss) xs taken left h =
-      turn-stands xs (least_free (holds s) xs taken) (find (picks s) left)
-      (subst (λ o. StandsOr xs (least_free (holds s) xs taken) o) (find-same (holds-picks s) left) (find-stands xs (holds s) (free_places xs taken) left h))
-      (λ i. greedy ss xs (taken ++ i ∷ [])) (entries_in_turn ss (without_first (picks s) left))
-      (λ i e. greedy-stand ss xs (taken ++ i ∷ []) (without_first (picks s) left) (next-stand xs (holds s) (picks s) (holds-picks s) taken left h i e))
+  each-stand : (ss : Syntaxes) (xs : List Tree) (taken : List ℕ) (left : List Tree) → Stand xs (not_taken taken (places xs)) left
+      → StandOr xs (least_beside taken (table_of ss xs)) (each_entry ss left)
+  each-stand none xs taken left h = tt
+  each-stand (more s ss) xs taken left h =
+      rw (least_beside-cons taken (map (holds s) xs) (table_of ss xs), not_taken-true (holds s) xs taken, each_entry-more s ss left)
+      (first-choice-stand xs (holds s) (picks s) (λ x. holds-picks s x) (λ k. least_beside (k ∷ taken) (table_of ss xs)) (each_entry ss) (each_stands ss) (each_entry-some ss)
+      (not_taken taken (places xs)) (choices left)
+      (zip-weaker (λ k c z. (z.0, each-stand ss xs (k ∷ taken) c.1 z.1)) (not_taken taken (places xs)) (choices left) (taken-choices xs taken left h)))
 
 pub candidates-stands : (s : Syntax) (xs : List Tree) → is_some (candidates s xs) ≡ stands s xs
 candidates-stands s xs = same-some xs (candidates s xs) (candidate_entries s xs) (candidates-stand s xs) ∙ entries-some s xs
@@ -467,7 +467,7 @@ cond-false : {X : Type 0} (b : Bool) (x y : X) → b ≡ false → cond b x y �
 cond-false true x y h = absurd (cc)
 cond-false false x y h = refl
 
-map-both : (f : Tree → Option Tree) (before : Option Tree) → ((x : Tree) → f x ≡ before) → (o : Option Tree) → option_map_or f o before ≡ before
+map-both : {A : Type 0} (f : A → Option Tree) (before : Option Tree) → ((x : A) → f x ≡ before) → (o : Option A) → option_map_or f o before ≡ before
 map-both f before same None = refl
 map-both f before same (Some x) = same x
 
@@ -506,7 +506,7 @@ module _ (q : List ℕ) where
     unnamed_on (Binding n s) before xs h = let p = or-false (bytes_eq n q) (binds_name q s) h in rw p.0 (unnamed_on s before xs p.1)
     unnamed_on (Attr s names) before xs h = unnamed_on s before xs h
     unnamed_on (Alt ss) before xs h = unnamed_first_on ss before xs h
-    unnamed_on (Multi ss) before xs h = cond-both (each_stands ss xs) _ _ before (unnamed_in_turn ss before xs h) refl
+    unnamed_on (Multi ss) before xs h = unnamed_each ss before xs h
     unnamed_on (Ancestrage l r) before xs h =
         let p = or-false (binds_name q l) (binds_name q r) h in
         map-both (λ x. parent_called q r (entry_called q l before x) (parents x)) before (λ x. unnamed_on r (entry_called q l before x) (parents x) p.1 ∙ unnamed l before x p.0)
@@ -517,11 +517,10 @@ module _ (q : List ℕ) where
     unnamed_first_on (more s ss) before xs h =
         let p = or-false (binds_name q s) (some_binds_name q ss) h in cond-both (stands s xs) _ _ before (unnamed_on s before xs p.0) (unnamed_first_on ss before xs p.1)
 
-    unnamed_in_turn : (ss : Syntaxes) (before : Option Tree) (xs : List Tree) → some_binds_name q ss ≡ false → called_in_turn q ss before xs ≡ before
-    unnamed_in_turn none before xs h = refl
-    unnamed_in_turn (more s ss) before xs h =
-        let p = or-false (binds_name q s) (some_binds_name q ss) h in
-        unnamed_in_turn ss (at_first q s (entry_called q s) before xs) (without_first (picks s) xs) p.1 ∙ unnamed-at_first s (entry_called q s) before xs p.0
+    unnamed_each : (ss : Syntaxes) (before : Option Tree) (xs : List Tree) → some_binds_name q ss ≡ false → each_called q ss before xs ≡ before
+    unnamed_each none before xs h = refl
+    unnamed_each (more s none) before xs h = unnamed-at_first s (entry_called q s) before xs (or-false (binds_name q s) false h).0
+    unnamed_each (more s (more t ss)) before xs h = cond-false (some_binds_name q (more s (more t ss))) _ before h
 
   within-first : (s : Syntax) (before : Option Tree) (xs : List Tree) (x : Tree) → find (picks s) xs ≡ Some x → within q s (entry_called q s) before xs ≡ entry_called q s before x
   within-first s before xs x e = rw e (by (binds_name q s) refl)
@@ -560,35 +559,77 @@ module _ (q : List ℕ) where
       ∙ ap (last_value q (pair_entries (at x) (binds_on r (parents x)))) h
       ∙ sym (added q (at x) (binds l x) (binds_on r (parents x)) before)
 
-  together : (ss : Syntaxes) (xs : List Tree) (before value : Option Tree) (o : Option (List ℕ)) → greedy ss xs [] ≡ o
-      → ((is : List ℕ) → greedy ss xs [] ≡ Some is → value ≡ last_value q (pair_entries (at_list xs) (each_binds ss xs is)) before)
-      → cond (is_some o) value before ≡ last_value q (pair_entries (at_list xs) (option_map_or (each_binds ss xs) o [])) before
-  together ss xs before value None e h = refl
-  together ss xs before value (Some is) e h = h is e
+  -- a member that holds at no entry
+  none-at_first : (s : Syntax) (called : Option Tree → Tree → Option Tree) (before : Option Tree) (xs : List Tree) → find (picks s) xs ≡ None → at_first q s called before xs ≡ before
+  none-at_first (Binding n s) called before xs e = rw e (cond-both (bytes_eq n q) _ _ before (or_before-none before) (cond-both (binds_name q s) before before before refl refl))
+  none-at_first Wildcard called before xs e = refl
+  none-at_first (Entry t) called before xs e = refl
+  none-at_first (Neg s) called before xs e = refl
+  none-at_first (Attr s names) called before xs e = rw e (cond-both (binds_name q s) before before before refl refl)
+  none-at_first (Alt ss) called before xs e = rw e (cond-both (some_binds_name q ss) before before before refl refl)
+  none-at_first (Multi ss) called before xs e = rw e (cond-both (some_binds_name q ss) before before before refl refl)
+  none-at_first (Ancestrage l r) called before xs e = rw e (cond-both (binds_name q l || binds_name q r) before before before refl refl)
 
-  -- one member's turn, and what comes after it
-  member-turn : (s : Syntax) (ss : Syntaxes) (xs left : List Tree) (before : Option Tree) (o : Option ℕ) (p : Option Tree) → StandsOr xs o p → find (picks s) left ≡ p
-      → ((x : Tree) → entry_called q s before x ≡ last_value q (pair_entries (at x) (binds s x)) before)
-      → (g : ℕ → Option (List ℕ)) (value : Option Tree → Option Tree)
-      → ((i : ℕ) → o ≡ Some i → (js : List ℕ) → g i ≡ Some js → (b : Option Tree) → value b ≡ last_value q (pair_entries (at_list xs) (each_binds ss xs js)) b)
-      → (is : List ℕ) → option_and_then (λ i. option_map (λ js. i ∷ js) (g i)) o ≡ Some is
-      → value (at_first q s (entry_called q s) before left) ≡ last_value q (pair_entries (at_list xs) (each_binds (more s ss) xs is)) before
-  member-turn s ss xs left before None p h f here g value later is e = absurd (cc)
-  member-turn s ss xs left before (Some i) None h f here g value later is e = absurd h
-  member-turn s ss xs left before (Some i) (Some x) h f here g value later is e = by (g i) refl e
+  called-at_entry : (s : Syntax) (before : Option Tree) (x : Tree) → at_entry q s (entry_called q s) before x ≡ entry_called q s before x
+  called-at_entry s before x = by (binds_name q s) refl
     where
-      by : (o : Option (List ℕ)) → g i ≡ o → option_map (λ js. i ∷ js) o ≡ Some is
-          → value (at_first q s (entry_called q s) before left) ≡ last_value q (pair_entries (at_list xs) (each_binds (more s ss) xs is)) before
-      by None k e = absurd (cc)
-      by (Some js) k e =
-          let same : i ∷ js ≡ is = cc in
-          let first : at_first q s (entry_called q s) before left ≡ last_value q (pair_entries (at_list xs) (pairs_at (binds s) xs i)) before =
-          called-at_first s before left x f ∙ here x ∙ ap (λ ps. last_value q ps before) (sym (resolved_led (binds s) xs i x h)) in
-          let whole : value (at_first q s (entry_called q s) before left) ≡ last_value q (pair_entries (at_list xs) (each_binds (more s ss) xs (i ∷ js))) before =
-          later i refl js k (at_first q s (entry_called q s) before left)
-          ∙ ap (last_value q (pair_entries (at_list xs) (each_binds ss xs js))) first
-          ∙ sym (added q (at_list xs) (pairs_at (binds s) xs i) (each_binds ss xs js) before) in
-          subst (λ l. value (at_first q s (entry_called q s) before left) ≡ last_value q (pair_entries (at_list xs) (each_binds (more s ss) xs l)) before) same whole
+      by : (b : Bool) → binds_name q s ≡ b → cond b (entry_called q s before x) before ≡ entry_called q s before x
+      by true h = refl
+      by false h = sym (unnamed s before x h)
+
+  -- each member at its entry
+  abbrev called_by_each : Syntaxes → Option Tree → List Tree → Option Tree
+  called_by_each none before ys = before
+  called_by_each (more s ss) before [] = before
+  called_by_each (more s ss) before (y ∷ ys) = called_by_each ss (entry_called q s before y) ys
+
+  unnamed_by_each : (ss : Syntaxes) (before : Option Tree) (ys : List Tree) → some_binds_name q ss ≡ false → called_by_each ss before ys ≡ before
+  unnamed_by_each none before ys h = refl
+  unnamed_by_each (more s ss) before [] h = refl
+  unnamed_by_each (more s ss) before (y ∷ ys) h =
+      let p = or-false (binds_name q s) (some_binds_name q ss) h in unnamed_by_each ss (entry_called q s before y) ys p.1 ∙ unnamed s before y p.0
+
+  -- a member and the others, where one choice is made
+  abbrev by_choice : Syntax → Syntaxes → Option Tree → Option (Tree × List Tree) → Option Tree
+  by_choice s ss before o = option_map_or (λ c. each_called q ss (at_entry q s (entry_called q s) before c.0) c.1) o before
+
+  -- where the others bind what each at its entry does
+  module _ (s : Syntax) (ss : Syntaxes) (before : Option Tree) (others : (before : Option Tree) (xs : List Tree) → each_called q ss before xs ≡ option_map_or (called_by_each ss before) (each_entry ss xs) before) where
+    after : (x : Tree) (o : Option (List Tree)) → is_some o ≡ true
+        → option_map_or (called_by_each ss (entry_called q s before x)) o (entry_called q s before x) ≡ option_map_or (called_by_each (more s ss) before) (option_map (λ ys. x ∷ ys) o) before
+    after x None h = absurd (cc)
+    after x (Some ys) h = refl
+
+    at_choice : (xs : List Tree) (o : Option (Tree × List Tree)) → first_choice (picks s) (each_stands ss) xs ≡ o
+        → by_choice s ss before o ≡ option_map_or (called_by_each (more s ss) before) (option_and_then (λ c. option_map (λ ys. c.0 ∷ ys) (each_entry ss c.1)) o) before
+    at_choice xs None e = refl
+    at_choice xs (Some c) e =
+        let passes = and-both (picks s c.0) (each_stands ss c.1) (find-passes (λ c. picks s c.0 && each_stands ss c.1) (choices xs) c e) in
+        ap (λ b. each_called q ss b c.1) (called-at_entry s before c.0)
+        ∙ others (entry_called q s before c.0) c.1 ∙ after c.0 (each_entry ss c.1) (each_entry-some ss c.1 ∙ passes.1)
+
+  each_called-value : (ss : Syntaxes) (before : Option Tree) (xs : List Tree) → each_called q ss before xs ≡ option_map_or (called_by_each ss before) (each_entry ss xs) before
+  each_called-value none before xs = refl
+  each_called-value (more s none) before xs =
+      (elim (find (picks s) xs) as (λ o. find (picks s) xs ≡ o → at_first q s (entry_called q s) before xs ≡ option_map_or (called_by_each (more s none) before) (option_map (λ x. x ∷ []) o) before) [
+        | None ↦ λ e. none-at_first s (entry_called q s) before xs e
+        | Some x ↦ λ e. called-at_first s before xs x e
+      ]) refl
+  each_called-value (more s (more t ss)) before xs =
+      let ts = more s (more t ss) in
+      let choice = first_choice (picks s) (each_stands (more t ss)) xs in
+      (elim (some_binds_name q ts) as (λ b. some_binds_name q ts ≡ b → cond b (by_choice s (more t ss) before choice) before ≡ option_map_or (called_by_each ts before) (each_entry ts xs) before) [
+        | true ↦ λ h. at_choice s (more t ss) before (λ b ys. each_called-value (more t ss) b ys) xs choice refl
+        | false ↦ λ h. sym (map-both (called_by_each ts before) before (λ ys. unnamed_by_each ts before ys h) (each_entry ts xs))
+      ]) refl
+
+  together : (ss : Syntaxes) (xs : List Tree) (before : Option Tree) → ((is : List ℕ) (es : List Tree) → Stand xs is es → called_by_each ss before es ≡ last_value q (pair_entries (at_list xs) (each_binds ss xs is)) before)
+      → (o : Option (List ℕ)) (p : Option (List Tree)) → StandOr xs o p
+      → option_map_or (called_by_each ss before) p before ≡ last_value q (pair_entries (at_list xs) (option_map_or (each_binds ss xs) o [])) before
+  together ss xs before each None None h = refl
+  together ss xs before each (Some is) (Some es) h = each is es h
+  together ss xs before each (Some is) None h = absurd h
+  together ss xs before each None (Some es) h = absurd h
 
   mutual
     called-value : (s : Syntax) (before : Option Tree) (x : Tree) → entry_called q s before x ≡ last_value q (pair_entries (at x) (binds s x)) before
@@ -624,8 +665,8 @@ module _ (q : List ℕ) where
     called-on (Attr s names) before xs = called-on s before xs
     called-on (Alt ss) before xs = first-value-on ss before xs
     called-on (Multi ss) before xs =
-        ap (λ b. cond b (called_in_turn q ss before xs) before) (sym (candidates-stands (Multi ss) xs))
-        ∙ together ss xs before (called_in_turn q ss before xs) (greedy ss xs []) refl (λ is e. turn-value ss before xs [] xs (all-stand xs) is e)
+        each_called-value ss before xs
+        ∙ together ss xs before (λ is es h. each-value ss before xs is es h) (candidates (Multi ss) xs) (each_entry ss xs) (candidates-stand (Multi ss) xs)
     called-on (Ancestrage l r) before xs =
         led-first q xs (λ x. binds l x ++ binds_on r (parents x)) (λ b x. parent_called q r (entry_called q l b x) (parents x)) before
         (λ x. chain-value l r x before (called-value l before x) (λ b. called-on r b (parents x)))
@@ -640,16 +681,16 @@ module _ (q : List ℕ) where
           | false ↦ first-value-on ss before xs
         ])
 
-    turn-value : (ss : Syntaxes) (before : Option Tree) (xs : List Tree) (taken : List ℕ) (left : List Tree) → Stand xs (free_places xs taken) left
-        → (is : List ℕ) → greedy ss xs taken ≡ Some is → called_in_turn q ss before left ≡ last_value q (pair_entries (at_list xs) (each_binds ss xs is)) before
-    turn-value none before xs taken left h is e = refl
-    turn-value (more s ss) before xs taken left h is e =
-        member-turn s ss xs left before (least_free (holds s) xs taken) (find (picks s) left)
-        (subst (λ o. StandsOr xs (least_free (holds s) xs taken) o) (find-same (holds-picks s) left) (find-stands xs (holds s) (free_places xs taken) left h)) refl
-        (λ x. called-value s before x)
-        (λ i. greedy ss xs (taken ++ i ∷ [])) (λ b. called_in_turn q ss b (without_first (picks s) left))
-        (λ i f js g b. turn-value ss b xs (taken ++ i ∷ []) (without_first (picks s) left) (next-stand xs (holds s) (picks s) (holds-picks s) taken left h i f) js g)
-        is e
+    each-value : (ss : Syntaxes) (before : Option Tree) (xs : List Tree) (is : List ℕ) (es : List Tree) → Stand xs is es
+        → called_by_each ss before es ≡ last_value q (pair_entries (at_list xs) (each_binds ss xs is)) before
+    each-value none before xs is es h = refl
+    each-value (more s ss) before xs [] [] h = refl
+    each-value (more s ss) before xs [] (e ∷ es) h = absurd h
+    each-value (more s ss) before xs (i ∷ is) [] h = absurd h
+    each-value (more s ss) before xs (i ∷ is) (e ∷ es) h =
+        each-value ss (entry_called q s before e) xs is es h.1
+        ∙ ap (last_value q (pair_entries (at_list xs) (each_binds ss xs is))) (called-value s before e ∙ ap (λ ps. last_value q ps before) (sym (resolved_led (binds s) xs i e h.0)))
+        ∙ sym (added q (at_list xs) (pairs_at (binds s) xs i) (each_binds ss xs is) before)
 
 none-or : (f : List ℕ → Option Tree) (o : Option (List ℕ)) → unwrap_or (option_map f o) None ≡ option_and_then f o
 none-or f None = refl

@@ -1,5 +1,5 @@
 -- Candidates that are kept.
-use Rattle.std.proofs.Common.{◌≡◌, ℕ, Bool, true, false, List, [], ◌∷◌, Some, None, length, map, refl, sym, ap, ◌∙◌, arith}
+use Rattle.std.proofs.Common.{◌≡◌, ℕ, Bool, true, false, List, [], ◌∷◌, Some, None, length, map, refl, ap, ◌∙◌, arith}
 use Rattle.std.specs.Prelude.{◌==◌, ◌||◌, filter, find, position}
 use Rattle.std.specs.List.{list_any}
 use Rattle.std.proofs.lemmas.Bool.Decides.{nat_tests}
@@ -7,7 +7,7 @@ use Rattle.haya_entry.specs.Names.{has_all}
 use Rattle.haya_entry.specs.Tree.{Tree}
 use Rattle.haya_selectors.specs.Holds.{kept_places, some_places}
 use Rattle.haya_selectors.specs.Places.{places, at_place}
-use Rattle.haya_selectors.proofs.FreePlaces.{filter_of_all, least_of_all, position-cons}
+use Rattle.haya_selectors.proofs.Walks.{first_of_all, position-cons}
 
 pub some_of : (is : List ℕ) → (length is == 0) ≡ false → some_places is ≡ Some is
 some_of [] e = absurd (grind (arith, nat_tests))
@@ -46,5 +46,5 @@ none_kept names [] l e = absurd (grind (arith, nat_tests))
 none_kept names (x ∷ xs) l e =
     let test = at_place false (has_all names) (x ∷ xs) in
     let first : find test (places (x ∷ xs)) ≡ None =
-    ap (find test) (sym (filter_of_all (places (x ∷ xs)))) ∙ least_of_all (has_all names) (x ∷ xs) ∙ nothing_first (has_all names) (x ∷ xs) e in
+    first_of_all (has_all names) (x ∷ xs) ∙ nothing_first (has_all names) (x ∷ xs) e in
     ap some_places (nothing_kept test (places (x ∷ xs)) first)

@@ -1,14 +1,12 @@
--- The laws of parents and of `&` used for selectors written out.
-use Rattle.std.proofs.Common.{◌≡◌, ◌≢◌, ℕ, suc, zero, Bool, true, false, List, [], ◌∷◌, refl, arith}
-use Rattle.std.specs.Prelude.{not, ◌||◌, ◌&&◌, codes, is_some}
+-- The laws of parents used for selectors written out.
+use Rattle.std.proofs.Common.{◌≡◌, Bool, true, false, [], ◌∷◌, refl}
+use Rattle.std.specs.Prelude.{not, ◌||◌, ◌&&◌, codes}
 use Rattle.std.specs.List.{list_any}
 use Rattle.haya_entry.specs.declared.types.EntryType.TheVariants.{Article, Blog, Periodical, Web}
 use Rattle.haya_entry.specs.Names.{is_of_type, has_all}
-use Rattle.haya_entry.specs.Tree.{Tree, new_entry, parents}
-use Rattle.haya_selectors.specs.Assignment.{IsAssignment, IsExclusive, table_of}
-use Rattle.haya_selectors.specs.Holds.{holds, candidates}
+use Rattle.haya_entry.specs.Tree.{Tree, parents}
+use Rattle.haya_selectors.specs.Holds.{holds}
 use Rattle.haya_selectors.specs.Syntax.{Syntax, Wildcard, Entry, Neg, Binding, Attr, Alt, Multi, Ancestrage, Syntaxes, none, more}
-use Rattle.haya_selectors.proofs.Assignments.{greedy_assigns, greedy_finds}
 use Rattle.haya_selectors.proofs.ParentSides.{holds_at_some_parent, holds_at_no_parent, names_change_no_answer}
 
 -- `periodical | w:*[doi]`
@@ -41,24 +39,3 @@ names_erased : (x : Tree) →
     holds (Ancestrage Wildcard (Multi members)) x
     ≡ holds (Ancestrage (Binding (codes "a") Wildcard) (Multi (more (Binding (codes "p") (Entry Periodical)) (more (Binding (codes "b") (Entry Blog)) none)))) x
 names_erased x = names_change_no_answer (Ancestrage (Binding (codes "a") Wildcard) (Multi (more (Binding (codes "p") (Entry Periodical)) (more (Binding (codes "b") (Entry Blog)) none)))) x refl
-
--- `periodical & blog` over a blog and a periodical
-abbrev works : List Tree
-works = new_entry [] Blog ∷ new_entry [] Periodical ∷ []
-
-assigned : IsAssignment (table_of members works) (1 ∷ 0 ∷ [])
-assigned = greedy_assigns members works (1 ∷ 0 ∷ []) refl
-
-apart : let one : ℕ = 1 in one ≢ 0
-apart = assigned.distinct 0 1 0 (omega arith) (omega arith)
-
-exclusive : IsExclusive (table_of members works)
-exclusive zero (suc zero) d below within zero here there = absurd (cc)
-exclusive zero (suc zero) d below within (suc zero) here there = absurd (cc)
-exclusive zero (suc zero) d below within (suc (suc i)) here there = absurd (cc)
-exclusive zero zero d below within i here there = absurd (omega arith)
-exclusive zero (suc (suc j)) d below within i here there = absurd (omega arith)
-exclusive (suc k) j d below within i here there = absurd (omega arith)
-
-found : is_some (candidates (Multi members) works) ≡ true
-found = (greedy_finds members works exclusive).1 (1 ∷ 0 ∷ [], assigned)

@@ -2,19 +2,24 @@ pub mod Options
 pub mod Syntaxes
 mod NameSets
 mod NodeLists
+mod Marks
 mod SlotNames
 mod Growth
 mod CutBack
 mod Kept
+mod Simples
 pub mod Cuts
 pub mod OneCut
 pub mod Parsing
 pub mod Bounds
-mod FreePlaces
+mod Walks
+pub mod Choices
 pub mod InWords
-mod Greedy
+mod LeastTrue
+mod Nowhere
+mod Pieces
+mod Tried
 mod ParentSides
-mod Assignments
 mod LawRows
 mod Lasts
 mod Paths

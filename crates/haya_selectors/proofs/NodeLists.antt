@@ -142,7 +142,7 @@ module _ (names : List (List ℕ)) where
       let here : 0 + i ≡ i = omega arith in
       sym (ap (syntax_in (known_after [] nodes)) here) ∙ stands_from slots [] nodes i node l e (fits_at slots 0 nodes i node h l e)
 
-  push_is : (nodes : List Node) (node : Node)
+  pub push_is : (nodes : List Node) (node : Node)
       → node_syntaxes names (nodes ++ node ∷ []) ≡ node_syntaxes names nodes ++ node_syntax (name_of names) (syntax_in (node_syntaxes names nodes)) node ∷ []
   unfolding node_syntaxes
   push_is nodes node = fold-append (with_node names) [] nodes (node ∷ [])

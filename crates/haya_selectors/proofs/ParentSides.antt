@@ -1,18 +1,18 @@
 -- Selectors that ask for one parent hold on a list where they hold at some parent; names change no answer.
-use Rattle.std.proofs.Common.{◌≡◌, ℕ, ◌+◌, Bool, true, false, cond, List, [], ◌∷◌, ◌++◌, Option, Some, None, refl, sym, ap, ◌∙◌}
-use Rattle.std.specs.Prelude.{not, ◌||◌, ◌&&◌, is_some, option_and_then, option_map, position, slice_get}
-use Rattle.std.specs.Option.{option_map_or, option_or}
+use Rattle.std.proofs.Common.{◌≡◌, ℕ, ◌+◌, Bool, true, false, cond, List, [], ◌∷◌, Option, Some, None, refl, sym, ap, ◌∙◌}
+use Rattle.std.specs.Prelude.{not, ◌||◌, ◌&&◌, is_some, map, option_map, position}
+use Rattle.std.specs.Option.{option_or}
 use Rattle.std.specs.List.{list_any}
 use Rattle.haya_text.proofs.Tells.{and-both}
 use Rattle.haya_entry.specs.Names.{is_of_type}
 use Rattle.haya_entry.specs.Tree.{Tree, parents}
-use Rattle.haya_selectors.specs.Holds.{holds, some_holds, candidates, first_candidates, first_place, greedy, least_free}
+use Rattle.haya_assignment.specs.Assignment.{least}
+use Rattle.haya_selectors.specs.Holds.{holds, some_holds, candidates, first_candidates, first_place, table_of}
 use Rattle.haya_selectors.specs.ParentSide.{asks_one_parent, all_ask_one_parent, HoldsAtSomeParent, HoldsAtNoParent, without_names, all_without_names, lists_have_no_names, all_lists_have_no_names, has_no_names, all_have_no_names, NamesChangeNoAnswer}
-use Rattle.haya_selectors.specs.Places.{free_places, at_place}
 use Rattle.haya_selectors.specs.Syntax.{Syntax, Wildcard, Entry, Neg, Binding, Attr, Alt, Multi, Ancestrage, Syntaxes, none, more}
-use Rattle.haya_selectors.proofs.FreePlaces.{position-cons}
+use Rattle.haya_selectors.proofs.Walks.{position-cons}
 use Rattle.haya_selectors.proofs.Options.{is_some-map}
-use Rattle.haya_selectors.proofs.InWords.{all-names, candidates-stands, find-same, list_any-same}
+use Rattle.haya_selectors.proofs.InWords.{all-names, candidates-stands, list_any-same}
 
 list_any-never : {A : Type 0} (xs : List A) → list_any (λ x. false) xs ≡ false
 list_any-never [] = refl
@@ -98,9 +98,9 @@ mutual
       let both = and-both (has_no_names s) (all_have_no_names ss) h in
       rw (without-names s both.0, all-without-names ss both.1) refl
 
-at_place-same : {A : Type 0} {p q : A → Bool} (same : (a : A) → p a ≡ q a) (xs : List A) (i : ℕ) → at_place false p xs i ≡ at_place false q xs i
-at_place-same {A} {p} {q} same xs i =
-    elim (slice_get xs i) as (λ o. option_map_or p o false ≡ option_map_or q o false) [ None ↦ refl | Some x ↦ same x ]
+map-same : {X Y : Type 0} {f g : X → Y} (same : (x : X) → f x ≡ g x) (xs : List X) → map f xs ≡ map g xs
+map-same same [] = refl
+map-same same (x ∷ xs) = rw (same x, map-same same xs) refl
 
 mutual
   holds-same : (s : Syntax) (x : Tree) → lists_have_no_names s ≡ true → holds (without_names s) x ≡ holds s x
@@ -129,7 +129,7 @@ mutual
   candidates-same (Binding n s) xs h = candidates-same s xs h ∙ sym (is_some-map (λ _. []) (candidates s xs))
   candidates-same (Attr s names) xs h = ap (λ s. is_some (candidates (Attr s names) xs)) (without-names s h)
   candidates-same (Alt ss) xs h = first_candidates-same ss xs h
-  candidates-same (Multi ss) xs h = ap is_some (greedy-same ss xs [] h)
+  candidates-same (Multi ss) xs h = ap (λ table. is_some (least table)) (table-same ss xs h)
   candidates-same (Ancestrage l r) xs h =
       let both = and-both (lists_have_no_names l) (lists_have_no_names r) h in
       first-some _ xs
@@ -143,17 +143,11 @@ mutual
       or-some (candidates (without_names s) xs) (first_candidates (all_without_names ss) xs)
       ∙ rw (candidates-same s xs both.0, first_candidates-same ss xs both.1) (sym (or-some (candidates s xs) (first_candidates ss xs)))
 
-  greedy-same : (ss : Syntaxes) (xs : List Tree) (taken : List ℕ) → all_lists_have_no_names ss ≡ true → greedy (all_without_names ss) xs taken ≡ greedy ss xs taken
-  greedy-same none xs taken h = refl
-  greedy-same (more s ss) xs taken h =
+  table-same : (ss : Syntaxes) (xs : List Tree) → all_lists_have_no_names ss ≡ true → table_of (all_without_names ss) xs ≡ table_of ss xs
+  table-same none xs h = refl
+  table-same (more s ss) xs h =
       let both = and-both (lists_have_no_names s) (all_lists_have_no_names ss) h in
-      let least : least_free (holds (without_names s)) xs taken ≡ least_free (holds s) xs taken = find-same (at_place-same (λ x. holds-same s x both.0) xs) (free_places xs taken) in
-      rw least (elim (least_free (holds s) xs taken) as (λ o.
-      option_and_then (λ i. option_map (λ is. i ∷ is) (greedy (all_without_names ss) xs (taken ++ i ∷ []))) o
-      ≡ option_and_then (λ i. option_map (λ is. i ∷ is) (greedy ss xs (taken ++ i ∷ []))) o) [
-        | None ↦ refl
-        | Some i ↦ ap (option_map (λ is. i ∷ is)) (greedy-same ss xs (taken ++ i ∷ []) both.1)
-      ])
+      rw (map-same (λ x. holds-same s x both.0) xs, table-same ss xs both.1) refl
 
 pub names_change_no_answer : NamesChangeNoAnswer
 names_change_no_answer = holds-same

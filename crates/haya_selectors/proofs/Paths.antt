@@ -1,6 +1,6 @@
 -- Where the paths of bindings lead, and that candidates are places of the list.
 use Rattle.std.proofs.Common.{◌≡◌, ℕ, ◌<◌, Bool, true, false, cond, List, [], ◌∷◌, ◌++◌, length, map, refl, sym, ap, subst, append_assoc, arith, Option, Some, None}
-use Rattle.std.specs.Prelude.{⊤, All, IfSome, filter, find, option_and_then, option_map, is_some, position, slice_get}
+use Rattle.std.specs.Prelude.{⊤, All, IfSome, filter, option_and_then, option_map, is_some, position, slice_get}
 use Rattle.std.specs.Option.{option_map_or, option_or}
 use Rattle.std.proofs.lemmas.List.{length-map, map-append}
 use Rattle.std.proofs.lemmas.List.Elements.{All-nil, All-cons, All-head, All-tail, All-append, All-filter, All-map, All-weaker}
@@ -11,9 +11,10 @@ use Rattle.haya_entry.specs.Names.{is_of_type, has_all}
 use Rattle.haya_entry.specs.Tree.{Tree, view, parents, at, at_list}
 use Rattle.haya_selectors.specs.Binds.{Pairs, pairs_at_first, pairs_at, pair_of_first, binds, binds_on, first_binds_on, each_binds}
 use Rattle.haya_selectors.specs.Evaluation.{pair_entries}
-use Rattle.haya_selectors.specs.Holds.{holds, candidates, first_candidates, first_place, greedy, kept_places, least_free, some_places}
-use Rattle.haya_selectors.specs.Places.{places, free_places, at_place}
+use Rattle.haya_selectors.specs.Holds.{holds, candidates, first_candidates, first_place, kept_places, some_places, table_of}
+use Rattle.haya_selectors.specs.Places.{places, at_place}
 use Rattle.haya_selectors.specs.Syntax.{Syntax, Wildcard, Entry, Neg, Binding, Attr, Alt, Multi, Ancestrage, Syntaxes, none, more}
+use Rattle.haya_selectors.proofs.Choices.{first_some, least_beside, least_beside-cons, not_taken-true}
 
 -- the pairs of the entry at a place, from the list and from that entry
 pub resolved_led : (f : Tree → Pairs) (xs : List Tree) (i : ℕ) (x : Tree) → slice_get xs i ≡ Some x → pair_entries (at_list xs) (pairs_at f xs i) ≡ pair_entries (at x) (f x)
@@ -47,7 +48,7 @@ mutual
   led_binds (Binding n s) xs = All-append IsLed (binds_on s xs) (pair_of_first n (candidates s xs)) (led_binds s xs) (led_first_bound n (candidates s xs))
   led_binds (Attr s names) xs = led_binds s xs
   led_binds (Alt ss) xs = led_first_binds ss xs
-  led_binds (Multi ss) xs = led_option (each_binds ss xs) (greedy ss xs []) (led_each ss xs)
+  led_binds (Multi ss) xs = led_option (each_binds ss xs) (candidates (Multi ss) xs) (led_each ss xs)
   led_binds (Ancestrage l r) xs = led_option (pairs_at (binds (Ancestrage l r)) xs) (position (holds (Ancestrage l r)) xs) (led_led (binds (Ancestrage l r)) xs)
 
   led_first_binds : (ss : Syntaxes) (xs : List Tree) → All IsLed (first_binds_on ss xs)
@@ -97,27 +98,20 @@ kept_in names xs (Some []) h = All-nil _
 kept_in names xs (Some (i ∷ is)) h =
     some_in xs (filter (at_place false (has_all names) xs) (i ∷ is)) (All-filter (at_place false (has_all names) xs) (λ i. i < length xs) (i ∷ is) h)
 
-find_in : (test : ℕ → Bool) (xs : List Tree) (is : List ℕ) → In xs is → IfSome (find test is) (λ i. i < length xs)
-find_in test xs [] h = tt
-find_in test xs (i ∷ is) h =
-    elim (test i) as (λ b. IfSome (cond b (Some i) (find test is)) (λ j. j < length xs)) [
-      | true ↦ All-head (λ j. j < length xs) i is h
-      | false ↦ find_in test xs is (All-tail (λ j. j < length xs) i is h)
-    ]
+first_some_in : (xs : List Tree) (g : ℕ → Option (List ℕ)) → ((k : ℕ) → IfSome (g k) (In xs)) → (is : List ℕ) → In xs is → IfSome (first_some (λ k. option_map (λ js. k ∷ js) (g k)) is) (In xs)
+first_some_in xs g each [] h = tt
+first_some_in xs g each (k ∷ is) h =
+    (elim (g k) as (λ o. IfSome o (In xs) → IfSome (option_or (option_map (λ js. k ∷ js) o) (first_some (λ k. option_map (λ js. k ∷ js) (g k)) is)) (In xs)) [
+      | None ↦ λ here. first_some_in xs g each is (All-tail (λ i. i < length xs) k is h)
+      | Some js ↦ λ here. All-cons (λ i. i < length xs) k js (All-head (λ i. i < length xs) k is h) here
+    ]) (each k)
 
-free_in : (test : Tree → Bool) (xs : List Tree) (taken : List ℕ) → IfSome (least_free test xs taken) (λ i. i < length xs)
-free_in test xs taken = find_in (at_place false test xs) xs (free_places xs taken) (All-filter _ (λ i. i < length xs) (places xs) (places_in xs))
-
-greedy_in : (ss : Syntaxes) (xs : List Tree) (taken : List ℕ) → IfSome (greedy ss xs taken) (In xs)
-greedy_in none xs taken = All-nil _
-greedy_in (more s ss) xs taken =
-    (elim (least_free (holds s) xs taken) as (λ o. IfSome o (λ i. i < length xs) → IfSome (option_and_then (λ i. option_map (λ is. i ∷ is) (greedy ss xs (taken ++ i ∷ []))) o) (In xs)) [
-      | None ↦ λ h. tt
-      | Some i ↦ λ h. (elim (greedy ss xs (taken ++ i ∷ [])) as (λ o. IfSome o (In xs) → IfSome (option_map (λ is. i ∷ is) o) (In xs)) [
-        | None ↦ λ g. tt
-        | Some is ↦ λ g. All-cons (λ j. j < length xs) i is h g
-      ]) (greedy_in ss xs (taken ++ i ∷ []))
-    ]) (free_in (holds s) xs taken)
+least_in : (ss : Syntaxes) (xs : List Tree) (taken : List ℕ) → IfSome (least_beside taken (table_of ss xs)) (In xs)
+least_in none xs taken = All-nil _
+least_in (more s ss) xs taken =
+    rw (least_beside-cons taken (map (holds s) xs) (table_of ss xs), not_taken-true (holds s) xs taken)
+    (first_some_in xs (λ k. least_beside (k ∷ taken) (table_of ss xs)) (λ k. least_in ss xs (k ∷ taken)) _
+    (All-filter (at_place false (holds s) xs) (λ i. i < length xs) _ (All-filter _ (λ i. i < length xs) (places xs) (places_in xs))))
 
 mutual
   -- candidates are places of the list
@@ -128,7 +122,7 @@ mutual
   candidates_in (Binding n s) xs = elim (candidates s xs) as (λ o. IfSome (option_map {T = List ℕ} (λ _. []) o) (In xs)) [ None ↦ tt | Some is ↦ All-nil _ ]
   candidates_in (Attr s names) xs = kept_in names xs (candidates s xs) (candidates_in s xs)
   candidates_in (Alt ss) xs = first_candidates_in ss xs
-  candidates_in (Multi ss) xs = greedy_in ss xs []
+  candidates_in (Multi ss) xs = least_in ss xs []
   candidates_in (Ancestrage l r) xs = first_in (holds (Ancestrage l r)) xs
 
   first_candidates_in : (ss : Syntaxes) (xs : List Tree) → IfSome (first_candidates ss xs) (In xs)

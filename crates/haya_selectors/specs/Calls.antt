@@ -1,17 +1,11 @@
 -- How often the evaluator is entered for a selector: once a form at each entry, or list of parents,
 -- that it is asked of.
-use Rattle.std.specs.Prelude.{ℕ, ◌+◌, Bool, ◌++◌, if◌then◌else◌, List, [], ◌∷◌, is_some, false, sum_by}
-use Rattle.std.specs.Option.{option_map_or}
+use Rattle.std.specs.Prelude.{ℕ, ◌+◌, if◌then◌else◌, List, is_some, sum_by}
 use Rattle.haya_entry.specs.Names.{is_of_type}
 use Rattle.haya_entry.specs.Tree.{Tree, parents}
-use Rattle.haya_selectors.specs.Holds.{holds, candidates, least_free}
-use Rattle.haya_selectors.specs.Places.{free_places, at_place, items_up_to}
+use Rattle.haya_selectors.specs.Holds.{holds, candidates}
+use Rattle.haya_selectors.specs.Places.{items_up_to}
 use Rattle.haya_selectors.specs.Syntax.{Syntax, Wildcard, Entry, Neg, Binding, Attr, Alt, Multi, Ancestrage, Syntaxes, none, more}
-
--- the calls at the places that aren't taken, up to the first where the test holds
-abbrev pub free_calls : (Tree → Bool) → (Tree → ℕ) → List Tree → List ℕ → ℕ
-free_calls test calls_at xs taken =
-    sum_by (at_place 0 calls_at xs) (items_up_to (at_place false test xs) (free_places xs taken))
 
 abbrev mutual
   -- the calls for a selector at an entry
@@ -38,7 +32,7 @@ abbrev mutual
   calls_on (Binding n s) xs = 1 + calls_on s xs
   calls_on (Attr s names) xs = 1 + calls_on s xs
   calls_on (Alt ss) xs = 1 + first_calls_on ss xs
-  calls_on (Multi ss) xs = 1 + greedy_calls ss xs []
+  calls_on (Multi ss) xs = 1 + all_calls ss xs
   calls_on (Ancestrage l r) xs =
       1 + sum_by (λ x. 1 + calls l x + (if holds l x then calls_on r (parents x) else 0))
       (items_up_to (holds (Ancestrage l r)) xs)
@@ -48,10 +42,7 @@ abbrev mutual
   first_calls_on (more s ss) xs =
       calls_on s xs + (if is_some (candidates s xs) then 0 else first_calls_on ss xs)
 
-  -- those of each member in turn at the places that aren't taken, up to the one that it takes;
-  -- a member that finds no place is the last
-  pub greedy_calls : Syntaxes → List Tree → List ℕ → ℕ
-  greedy_calls none xs taken = 0
-  greedy_calls (more s ss) xs taken =
-      free_calls (holds s) (calls s) xs taken +
-      option_map_or (λ i. greedy_calls ss xs (taken ++ i ∷ [])) (least_free (holds s) xs taken) 0
+  -- those of each member at each entry
+  pub all_calls : Syntaxes → List Tree → ℕ
+  all_calls none xs = 0
+  all_calls (more s ss) xs = sum_by (calls s) xs + all_calls ss xs

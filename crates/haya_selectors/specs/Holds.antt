@@ -1,9 +1,10 @@
 -- Where a selector holds: at an entry, and on a list of parents, where it may have candidates.
-use Rattle.std.specs.Prelude.{ℕ, Bool, true, false, not, ◌||◌, ◌&&◌, if◌then◌else◌, List, [], ◌∷◌, ◌++◌, Option, None, Some, is_some, option_and_then, option_map, filter, find, position}
+use Rattle.std.specs.Prelude.{ℕ, Bool, true, false, not, ◌||◌, ◌&&◌, if◌then◌else◌, List, [], ◌∷◌, Option, None, Some, is_some, option_and_then, option_map, filter, map, position}
 use Rattle.std.specs.Option.{option_or}
 use Rattle.haya_entry.specs.Names.{is_of_type, has_all}
 use Rattle.haya_entry.specs.Tree.{Tree, parents}
-use Rattle.haya_selectors.specs.Places.{places, free_places, at_place}
+use Rattle.haya_assignment.specs.Assignment.{Table, least}
+use Rattle.haya_selectors.specs.Places.{places, at_place}
 use Rattle.haya_selectors.specs.Syntax.{Syntax, Wildcard, Entry, Neg, Binding, Attr, Alt, Multi, Ancestrage, Syntaxes, none, more}
 
 -- the places, if there are any
@@ -19,10 +20,6 @@ first_place test xs = option_map (λ i. i ∷ []) (position test xs)
 abbrev pub kept_places : List (List ℕ) → List Tree → List ℕ → Option (List ℕ)
 kept_places names xs [] = Some []
 kept_places names xs (i ∷ is) = some_places (filter (at_place false (has_all names) xs) (i ∷ is))
-
--- the least place where the test holds among those that aren't taken
-abbrev pub least_free : (Tree → Bool) → List Tree → List ℕ → Option ℕ
-least_free test xs taken = find (at_place false test xs) (free_places xs taken)
 
 abbrev mutual
   -- whether the selector holds at an entry
@@ -49,7 +46,7 @@ abbrev mutual
   candidates (Binding n s) xs = option_map (λ _. []) (candidates s xs)
   candidates (Attr s names) xs = option_and_then (kept_places names xs) (candidates s xs)
   candidates (Alt ss) xs = first_candidates ss xs
-  candidates (Multi ss) xs = greedy ss xs []
+  candidates (Multi ss) xs = least (table_of ss xs)
   candidates (Ancestrage l r) xs =
       first_place (λ x. holds l x && is_some (candidates r (parents x))) xs
 
@@ -58,9 +55,7 @@ abbrev mutual
   first_candidates none xs = None
   first_candidates (more s ss) xs = option_or (candidates s xs) (first_candidates ss xs)
 
-  -- the members' places in turn, each the least that isn't taken where the member holds
-  pub greedy : Syntaxes → List Tree → List ℕ → Option (List ℕ)
-  greedy none xs taken = Some []
-  greedy (more s ss) xs taken =
-      option_and_then (λ i. option_map (λ is. i ∷ is) (greedy ss xs (taken ++ i ∷ [])))
-      (least_free (holds s) xs taken)
+  -- for each member a row, which says of each entry whether the member holds there
+  pub table_of : Syntaxes → List Tree → Table
+  table_of none xs = []
+  table_of (more s ss) xs = map (holds s) xs ∷ table_of ss xs

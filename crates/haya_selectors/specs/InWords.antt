@@ -1,6 +1,6 @@
 -- Where a selector holds, and what its names are bound to, in words of entries: no places. Laws say
 -- that they are the same.
-use Rattle.std.specs.Prelude.{ℕ, Bool, true, false, not, ◌||◌, ◌&&◌, if◌then◌else◌, List, [], ◌∷◌, Option, None, Some, is_some, filter, find, option_and_then, option_map}
+use Rattle.std.specs.Prelude.{ℕ, Bool, true, false, not, ◌||◌, ◌&&◌, if◌then◌else◌, List, [], ◌∷◌, Option, None, Some, is_some, filter, find, map, option_and_then, option_map}
 use Rattle.std.specs.List.{list_any}
 use Rattle.std.specs.Option.{option_map_or, option_or}
 use Rattle.std.specs.Str.{bytes_eq}
@@ -38,10 +38,15 @@ first_entry None = None
 first_entry (Some []) = None
 first_entry (Some (x ∷ xs)) = Some x
 
--- the list without the first entry that passes
-abbrev pub without_first : (Tree → Bool) → List Tree → List Tree
-without_first test [] = []
-without_first test (x ∷ xs) = if test x then xs else x ∷ without_first test xs
+-- each item beside the others, in order
+abbrev pub choices : {X : Type 0} → List X → List (X × List X)
+choices [] = []
+choices (x ∷ xs) = (x, xs) ∷ map (λ c. (c.0, x ∷ c.1)) (choices xs)
+
+-- the first choice of an entry that passes beside others that pass
+abbrev pub first_choice : (Tree → Bool) → (List Tree → Bool) → List Tree →
+    Option (Tree × List Tree)
+first_choice test others_pass xs = find (λ c. test c.0 && others_pass c.1) (choices xs)
 
 -- an entry, or else the one before
 abbrev pub or_before : Option Tree → Option Tree → Option Tree
@@ -87,11 +92,11 @@ abbrev mutual
   some_stands (more s none) xs = stands s xs
   some_stands (more s ss) xs = stands s xs || some_stands ss xs
 
-  -- whether each member in turn holds at one of the entries, which is then no longer there
+  -- whether there is a way to give each member an entry of its own, where it holds
   pub each_stands : Syntaxes → List Tree → Bool
   each_stands none xs = true
   each_stands (more s none) xs = list_any (picks s) xs
-  each_stands (more s ss) xs = list_any (picks s) xs && each_stands ss (without_first (picks s) xs)
+  each_stands (more s ss) xs = list_any (λ c. picks s c.0 && each_stands ss c.1) (choices xs)
 
   -- the parents that the selector stands for, or none where it doesn't hold on the list
   pub candidate_entries : Syntax → List Tree → Option (List Tree)
@@ -101,7 +106,7 @@ abbrev mutual
   candidate_entries (Binding n s) xs = option_map (λ _. []) (candidate_entries s xs)
   candidate_entries (Attr s names) xs = option_and_then (with_names names) (candidate_entries s xs)
   candidate_entries (Alt ss) xs = first_entries ss xs
-  candidate_entries (Multi ss) xs = entries_in_turn ss xs
+  candidate_entries (Multi ss) xs = each_entry ss xs
   candidate_entries (Ancestrage l r) xs =
       option_map (λ x. x ∷ []) (find (λ x. picks l x && stands r (parents x)) xs)
 
@@ -110,13 +115,14 @@ abbrev mutual
   first_entries none xs = None
   first_entries (more s ss) xs = option_or (candidate_entries s xs) (first_entries ss xs)
 
-  -- for each member in turn the first entry where it holds, which is then no longer there
-  pub entries_in_turn : Syntaxes → List Tree → Option (List Tree)
-  entries_in_turn none xs = Some []
-  entries_in_turn (more s ss) xs =
-      option_and_then
-      (λ x. option_map (λ ys. x ∷ ys) (entries_in_turn ss (without_first (picks s) xs)))
-      (find (picks s) xs)
+  -- the entries of the members by the first such way: the first choice for the first member that
+  -- leaves a way for the others
+  pub each_entry : Syntaxes → List Tree → Option (List Tree)
+  each_entry none xs = Some []
+  each_entry (more s none) xs = option_map (λ x. x ∷ []) (find (picks s) xs)
+  each_entry (more s ss) xs =
+      option_and_then (λ c. option_map (λ ys. c.0 ∷ ys) (each_entry ss c.1))
+      (first_choice (picks s) (each_stands ss) xs)
 
 -- the first of the parents that the selector stands for
 abbrev pub first_candidate : Syntax → List Tree → Option Tree
@@ -143,7 +149,12 @@ abbrev mutual
   some_binds_name q none = false
   some_binds_name q (more s ss) = binds_name q s || some_binds_name q ss
 
--- what a member that has the name binds it to at the first entry where it holds
+-- what a member that has the name binds it to at an entry
+abbrev pub at_entry : List ℕ → Syntax → (Option Tree → Tree → Option Tree) → Option Tree → Tree →
+    Option Tree
+at_entry q s called before x = if binds_name q s then called before x else before
+
+-- and at the first entry where it holds
 abbrev pub within : List ℕ → Syntax → (Option Tree → Tree → Option Tree) → Option Tree → List Tree →
     Option Tree
 within q s called before xs =
@@ -185,8 +196,7 @@ abbrev mutual
       parent_called q s before xs
   parent_called q (Attr s names) before xs = parent_called q s before xs
   parent_called q (Alt ss) before xs = parent_called_by_first q ss before xs
-  parent_called q (Multi ss) before xs =
-      if each_stands ss xs then called_in_turn q ss before xs else before
+  parent_called q (Multi ss) before xs = each_called q ss before xs
   parent_called q (Ancestrage l r) before xs =
       option_map_or (λ x. parent_called q r (entry_called q l before x) (parents x))
       (find (λ x. picks l x && stands r (parents x)) xs) before
@@ -196,11 +206,14 @@ abbrev mutual
   parent_called_by_first q (more s ss) before xs =
       if stands s xs then parent_called q s before xs else parent_called_by_first q ss before xs
 
-  -- by each member in turn at the first entry where it holds, which is then no longer there
-  pub called_in_turn : List ℕ → Syntaxes → Option Tree → List Tree → Option Tree
-  called_in_turn q none before xs = before
-  called_in_turn q (more s ss) before xs =
-      called_in_turn q ss (at_first q s (entry_called q s) before xs) (without_first (picks s) xs)
+  -- by each member that has the name, at its entry by the first way to give each one
+  pub each_called : List ℕ → Syntaxes → Option Tree → List Tree → Option Tree
+  each_called q none before xs = before
+  each_called q (more s none) before xs = at_first q s (entry_called q s) before xs
+  each_called q (more s ss) before xs =
+      if some_binds_name q (more s ss) then
+      option_map_or (λ c. each_called q ss (at_entry q s (entry_called q s) before c.0) c.1)
+      (first_choice (picks s) (each_stands ss) xs) before else before
 
 -- the entry that a name is bound to, where the selector holds
 abbrev pub named_entry : Syntax → List ℕ → Tree → Option Tree

@@ -16,7 +16,7 @@ pub mod Applied
 pub mod Calls
 pub mod InWords
 pub mod ParentSide
-pub mod Assignment
+pub mod AndLaws
 pub mod NameNumbers
 pub mod Compiled
 pub mod BoundNames
@@ -24,3 +24,6 @@ pub mod Nodes
 pub mod Root
 pub mod Evaluation
 pub mod Candidates
+pub mod Simple
+pub mod Marks
+pub mod Tries

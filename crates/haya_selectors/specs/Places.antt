@@ -1,15 +1,11 @@
 -- Places of a list, counted from 0.
-use Rattle.std.specs.Prelude.{ℕ, ◌+◌, Bool, not, ◌==◌, List, filter, length, take, slice_get}
-use Rattle.std.specs.List.{list_any, position_or_len, range_with_len}
+use Rattle.std.specs.Prelude.{ℕ, ◌+◌, Bool, List, length, slice_get, take}
+use Rattle.std.specs.List.{position_or_len, range_with_len}
 use Rattle.std.specs.Option.{option_map_or}
 
 -- all places
 abbrev pub places : {X : Type 0} → List X → List ℕ
 places xs = range_with_len 0 (length xs)
-
--- the places that aren't among those that are taken
-abbrev pub free_places : {X : Type 0} → List X → List ℕ → List ℕ
-free_places xs taken = filter (λ i. not (list_any (λ t. t == i) taken)) (places xs)
 
 -- what f answers of the item at a place; other where there is none
 abbrev pub at_place : {X A : Type 0} → A → (X → A) → List X → ℕ → A

@@ -1,18 +1,22 @@
 //! The names that an evaluation has bound so far.
-ghost use Rattle.std.specs.Prelude.{◌≡◌, ◌<◌, ◌≤◌, ℕ, All, List, [], ◌∷◌, ◌++◌, Some, IfOk, OnOk};
-ghost use Rattle.std.specs.Prelude.{length, map, option_map, take};
+ghost use Rattle.std.specs.Prelude.{◌≡◌, ◌+◌, ◌<◌, ◌≤◌, ◌^◌, ℕ, All, List, [], ◌∷◌, ◌++◌, Some};
+ghost use Rattle.std.specs.Prelude.{IfOk, OnOk, length, map, option_map, sum, sum_by, take};
 ghost use Rattle.std.specs.Coded.{codes};
 ghost use Rattle.std.specs.HashMap.{get_by_text};
+ghost use Rattle.std.specs.List.{AllZip};
 ghost use Rattle.haya_entry.specs.contracts.entry.Entry as the_entry;
 ghost use Rattle.haya_entry.specs.Tree.{view};
 ghost use Rattle.haya_selectors.specs.Binds.{last_of, pair_of_first};
 ghost use Rattle.haya_selectors.specs.Candidates.{candidate_places};
 ghost use Rattle.haya_selectors.specs.Compiled.{name_of};
-ghost use Rattle.haya_selectors.specs.Evaluation.{AddsOn, EntryPairs, named_pairs};
+ghost use Rattle.haya_selectors.specs.Evaluation.{AddsOn, EntryPairs, named_pairs, pairs_view};
 ghost use Rattle.haya_selectors.specs.Nodes.{slot_names};
+ghost use Rattle.haya_selectors.specs.Tries.{Piece, all_joined, all_lengths, held_rows, joined_at};
+ghost use Rattle.haya_selectors.specs.Tries.{length_rows, number_rows};
 
 use crate::nodes::Nodes;
 use crate::places::{Candidates, first_place};
+use crate::tries::Tries;
 use haya_entry::Entry;
 use haya_text::OutOfMemory;
 use std::alloc::Global;
@@ -23,6 +27,8 @@ use std::marker::Model;
 #[derive(Drop)]
 pub(crate) struct Bindings<'e> {
     pairs: Vec<(usize, &'e Entry)>,
+    // Tries that are done with: the next `&` uses their memory again.
+    spare: Vec<Tries>,
 }
 
 impl<'e> Model for Bindings<'e> {
@@ -40,6 +46,7 @@ impl<'e> Bindings<'e> {
     {
         Bindings {
             pairs: Vec::new(alloc),
+            spare: Vec::new(alloc),
         }
     }
 
@@ -86,6 +93,51 @@ impl<'e> Bindings<'e> {
         self.pairs.truncate(len);
     }
 
+    // Of the pieces of these lengths, row by row, that stand from `before` on, leaves of each row
+    // the one at its place.
+    pub(crate) fn keep(&mut self, before: usize, lengths: &[Vec<usize>], places: &[usize])
+        requires within { before + sum_by sum (number_rows lengths.now) ≡ length self.old }
+        requires inside { AllZip (λ row i. i < length row) (number_rows lengths.now) places.now }
+        ensures { (names : List (List ℕ)) (front : Piece) (pieces : List (List Piece)) →
+            length front ≡ before → all_lengths pieces ≡ number_rows lengths.now →
+            pairs_view names self.old ≡ front ++ all_joined pieces →
+            pairs_view names self.new ≡ front ++ joined_at pieces places.now }
+    {
+        let mut to = before;
+        let mut start = before;
+        for (member, row) in lengths.iter().enumerate() {
+            let place = places[member];
+            let len = row[place];
+            let at = start + total(&row[..place]);
+            self.pairs.copy_within(at..at + len, to);
+            to += len;
+            start += total(row);
+        }
+        self.pairs.truncate(to);
+    }
+
+    // Tries with no rows, in memory that was used before if there is some.
+    pub(crate) fn take_tries(&mut self, alloc: Global) -> Tries
+        ensures kept { self.new ≡ self.old }
+        ensures held { held_rows result ≡ [] }
+        ensures lengths { length_rows result ≡ [] }
+    {
+        match self.spare.pop() {
+            Some(mut tries) => {
+                tries.clear();
+                tries
+            }
+            None => Tries::new(alloc),
+        }
+    }
+
+    // Takes back tries that are done with.
+    pub(crate) fn give_back(&mut self, tries: Tries)
+        ensures { self.new ≡ self.old }
+    {
+        let _ = self.spare.push(tries);
+    }
+
     // The entry that the name was bound to last.
     pub(crate) fn last(&self, nodes: &Nodes, name: &str) -> Option<&'e Entry>
         ensures { option_map (λ e. e.now) result ≡
@@ -111,4 +163,12 @@ impl<'e> Bindings<'e> {
         }
         Ok(map)
     }
+}
+
+// The sum of the lengths.
+fn total(lengths: &[usize]) -> usize
+    requires { sum lengths.now < 2 ^ 64 }
+    ensures { result ≡ sum lengths.now }
+{
+    lengths.iter().sum()
 }

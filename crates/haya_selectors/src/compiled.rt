@@ -38,6 +38,7 @@ impl Compiled {
     {
         let mut nodes = Nodes::new(alloc);
         let root = nodes.add(alloc, selector)?;
+        nodes.mark_simple(alloc)?;
         Ok(Compiled { nodes, root })
     }
 

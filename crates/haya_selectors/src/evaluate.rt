@@ -1,32 +1,39 @@
 //! The evaluator: one function at an entry, one on a list of parents, and what they share. Each
 //! goes by the number of a node, and from a node to its children alone, whose numbers are smaller.
-ghost use Rattle.std.specs.Prelude.{◌≡◌, ◌<◌, ◌≤◌, [], IfOk, OnSome, sum_by};
+ghost use Rattle.std.specs.Prelude.{◌≡◌, ◌<◌, ◌≤◌, [], ◌∷◌, ◌++◌, IfOk, OnSome, map, sum_by};
 ghost use Rattle.std.specs.Bool.{OnTrue};
 ghost use Rattle.haya_entry.specs.Tree.{view};
 ghost use Rattle.haya_selectors.specs.Compiled.{above};
 ghost use Rattle.haya_selectors.specs.Binds.{binds, binds_on, each_binds, first_binds, first_binds_on};
-ghost use Rattle.haya_selectors.specs.Binds.{pairs_at_first, pairs_at};
-ghost use Rattle.haya_selectors.specs.Calls.{calls, calls_on, first_calls, first_calls_on, free_calls};
-ghost use Rattle.haya_selectors.specs.Calls.{greedy_calls};
+ghost use Rattle.haya_selectors.specs.Binds.{pairs_at_first};
+ghost use Rattle.haya_selectors.specs.Calls.{all_calls, calls, calls_on, first_calls};
+ghost use Rattle.haya_selectors.specs.Calls.{first_calls_on};
 ghost use Rattle.haya_selectors.specs.Candidates.{GivesCandidates, candidate_places};
 ghost use Rattle.haya_selectors.specs.Evaluation.{AddsAt, AddsAtIf, AddsOn, AddsOnFor, AddsOnIf};
-ghost use Rattle.haya_selectors.specs.Evaluation.{KeepsFound, Ticks, views};
+ghost use Rattle.haya_selectors.specs.Evaluation.{KeepsFound, Ticks, pairs_view, views};
 ghost use Rattle.haya_selectors.specs.Holds.{holds, some_holds, candidates, first_candidates};
-ghost use Rattle.haya_selectors.specs.Holds.{first_place as alone, greedy, least_free};
+ghost use Rattle.haya_selectors.specs.Holds.{first_place as alone, table_of};
 ghost use Rattle.haya_selectors.specs.Places.{items_up_to};
 ghost use Rattle.haya_selectors.specs.Nodes.{members_at, node_count, slot_names, syntax_at};
+ghost use Rattle.haya_selectors.specs.Tries.{held_rows, joined, length_rows, lengths, tried};
+ghost use Rattle.haya_assignment.specs.Assignment.{least};
 
 use crate::bindings::Bindings;
+use crate::leaves::{first_of_type, leaf_holds_at};
 use crate::names::Asked;
 use crate::node::Node;
 use crate::nodes::Nodes;
-use crate::places::{Candidates, all_places, is_taken, kept_places};
+use crate::places::{Candidates, all_places, kept_places};
+use crate::simple::{simple_holds_at, simple_holds_on};
+use crate::tries::Tries;
 use haya_entry::{Entry, Steps};
 use haya_text::OutOfMemory;
 use std::alloc::Global;
 
 // Whether the selector holds at an entry. Where it does, its bindings are added to `found`.
+// A selector that has no other inside is asked in the caller's own code.
 #[cycle(evaluate)]
+#[inline(always)]
 pub(crate) fn holds_at<'e>(
     nodes: &Nodes,
     number: usize,
@@ -42,6 +49,32 @@ pub(crate) fn holds_at<'e>(
     ensures ticks { Ticks result steps.old steps.new
         (calls (syntax_at nodes.now number) (view asked.now)) }
 {
+    match leaf_holds_at(nodes, number, asked, steps) {
+        Some(holds) => Ok(holds),
+        None => whole_holds_at(nodes, number, alloc, asked, found, steps),
+    }
+}
+
+// The same of any selector.
+#[cycle(evaluate)]
+fn whole_holds_at<'e>(
+    nodes: &Nodes,
+    number: usize,
+    alloc: Global,
+    asked: &Asked<'e>,
+    found: &mut Bindings<'e>,
+    steps: &mut Steps,
+) -> Result<bool, OutOfMemory>
+    requires { number < node_count nodes.now }
+    ensures answer { IfOk result (λ b. b ≡ holds (syntax_at nodes.now number) (view asked.now)) }
+    ensures bound { IfOk result (AddsAtIf nodes.now (view asked.now) found.old found.new
+        (binds (syntax_at nodes.now number))) }
+    ensures ticks { Ticks result steps.old steps.new
+        (calls (syntax_at nodes.now number) (view asked.now)) }
+{
+    if nodes.is_simple(number) {
+        return Ok(simple_holds_at(nodes, number, asked, steps));
+    }
     let before = found.len();
     if form_holds_at(nodes, number, alloc, asked, found, steps)? {
         return Ok(true);
@@ -90,6 +123,9 @@ fn form_holds_at<'e>(
                 return Ok(false);
             }
             let parents = asked.entry().parents();
+            if nodes.is_simple(*parent) {
+                return Ok(simple_holds_on(nodes, *parent, parents, steps));
+            }
             Ok(candidates_on(nodes, *parent, alloc, parents, found, steps)?.is_some())
         }
     }
@@ -172,9 +208,8 @@ fn form_candidates_on<'e>(
     steps.tick();
     match nodes.at(number) {
         Node::Wildcard => Ok(all_places(parents)),
-        Node::Entry(_) | Node::Ancestrage(_, _) => {
-            first_alone(nodes, number, alloc, parents, found, steps)
-        }
+        Node::Entry(entry_type) => Ok(first_of_type(*entry_type, parents, steps)),
+        Node::Ancestrage(_, _) => first_alone(nodes, number, alloc, parents, found, steps),
         Node::Neg(inner) => match candidates_on(nodes, *inner, alloc, parents, found, steps)? {
             Some(_) => Ok(None),
             None => Ok(Some(Candidates::Nothing)),
@@ -226,8 +261,8 @@ fn first_candidates_on<'e>(
     Ok(None)
 }
 
-// The places that the members take in turn, or none where a member finds no place. Where each
-// takes one, the bindings of each at its place are added to `found`.
+// The least assignment of the members to the parents, or none where there is none. Where there is
+// one, the bindings of each member at its place are added to `found`.
 #[cycle(evaluate)]
 fn each_takes_one<'e>(
     nodes: &Nodes,
@@ -239,31 +274,60 @@ fn each_takes_one<'e>(
 ) -> Result<Option<Candidates>, OutOfMemory>
     requires { above members.now ≤ node_count nodes.now }
     ensures answer { GivesCandidates (views parents.now) result
-        (greedy (members_at nodes.now members.now) (views parents.now) []) }
+        (least (table_of (members_at nodes.now members.now) (views parents.now))) }
     ensures bound { IfOk result (AddsOnFor nodes.now (views parents.now) found.old found.new
         (λ taken. each_binds (members_at nodes.now members.now) (views parents.now)
         (candidate_places (views parents.now) taken))) }
     ensures ticks { Ticks result steps.old steps.new
-        (greedy_calls (members_at nodes.now members.now) (views parents.now) []) }
+        (all_calls (members_at nodes.now members.now) (views parents.now)) }
 {
     let before = found.len();
-    let mut taken = Vec::new(alloc);
+    let mut tries = found.take_tries(alloc);
     for member in members {
-        match first_free(nodes, *member, alloc, parents, &taken, found, steps)? {
-            Some(place) => taken.push(place)?,
-            None => {
-                found.truncate(before);
-                return Ok(None);
-            }
-        }
+        try_at_each(nodes, *member, alloc, parents, &mut tries, found, steps)?;
     }
-    Ok(Some(Candidates::Kept(taken)))
+    let candidates = tries.settle(alloc, parents.len(), before, found)?;
+    found.give_back(tries);
+    Ok(candidates)
+}
+
+// Tries the selector at each parent, as one more row. Where it holds, its bindings are added to
+// `found`.
+#[cycle(evaluate)]
+fn try_at_each<'e>(
+    nodes: &Nodes,
+    number: usize,
+    alloc: Global,
+    parents: &'e [Entry],
+    tries: &mut Tries,
+    found: &mut Bindings<'e>,
+    steps: &mut Steps,
+) -> Result<(), OutOfMemory>
+    requires { number < node_count nodes.now }
+    ensures held { IfOk result (λ _. held_rows tries.new ≡ held_rows tries.old
+        ++ map (holds (syntax_at nodes.now number)) (views parents.now) ∷ []) }
+    ensures lengths { IfOk result (λ _. length_rows tries.new ≡ length_rows tries.old
+        ++ lengths (map (tried (syntax_at nodes.now number)) (views parents.now)) ∷ []) }
+    ensures bound { IfOk result (λ _. pairs_view (slot_names nodes.now) found.new
+        ≡ pairs_view (slot_names nodes.now) found.old
+        ++ joined (map (tried (syntax_at nodes.now number)) (views parents.now))) }
+    ensures ticks { Ticks result steps.old steps.new
+        (sum_by (calls (syntax_at nodes.now number)) (views parents.now)) }
+{
+    let mut row = tries.take_row(alloc);
+    for parent in parents {
+        let before = found.len();
+        let asked = Asked::new(parent, 0);
+        row.held
+            .push(holds_at(nodes, number, alloc, &asked, found, steps)?)?;
+        row.lengths.push(found.len() - before)?;
+    }
+    tries.push(row)
 }
 
 // The first place where the selector holds, as the one candidate. The bindings at that parent are
 // added to `found`.
 #[cycle(evaluate)]
-#[tactic(auto, using(crate::proofs::FreePlaces::least_of_all, crate::proofs::FreePlaces::calls_of_all))]
 fn first_alone<'e>(
     nodes: &Nodes,
     number: usize,
@@ -282,40 +346,10 @@ fn first_alone<'e>(
         (sum_by (calls (syntax_at nodes.now number))
         (items_up_to (holds (syntax_at nodes.now number)) (views parents.now))) }
 {
-    match first_free(nodes, number, alloc, parents, &[], found, steps)? {
-        Some(place) => Ok(Some(Candidates::One(place))),
-        None => Ok(None),
-    }
-}
-
-// The first place that isn't taken where the selector holds. The bindings at that parent are added
-// to `found`.
-#[cycle(evaluate)]
-fn first_free<'e>(
-    nodes: &Nodes,
-    number: usize,
-    alloc: Global,
-    parents: &'e [Entry],
-    taken: &[usize],
-    found: &mut Bindings<'e>,
-    steps: &mut Steps,
-) -> Result<Option<usize>, OutOfMemory>
-    requires { number < node_count nodes.now }
-    ensures answer { IfOk result (λ o.
-        o ≡ least_free (holds (syntax_at nodes.now number)) (views parents.now) taken.now) }
-    ensures bound { IfOk result (AddsOnFor nodes.now (views parents.now) found.old found.new
-        (pairs_at (binds (syntax_at nodes.now number)) (views parents.now))) }
-    ensures ticks { Ticks result steps.old steps.new
-        (free_calls (holds (syntax_at nodes.now number)) (calls (syntax_at nodes.now number))
-        (views parents.now) taken.now) }
-{
     for (place, parent) in parents.iter().enumerate() {
-        if is_taken(taken, place) {
-            continue;
-        }
         let asked = Asked::new(parent, 0);
         if holds_at(nodes, number, alloc, &asked, found, steps)? {
-            return Ok(Some(place));
+            return Ok(Some(Candidates::One(place)));
         }
     }
     Ok(None)

@@ -1,9 +1,10 @@
-//! Laws of the definitions. No program calls them.
+//! Laws of the definitions. A call of one, as `one_cut();`, gives its statement to the
+//! caller's proof.
 ghost use Rattle.std.specs.Prelude.{◌≡◌, ℕ, List, true};
 ghost use Rattle.haya_text.specs.Equality.{EqualsByView};
 ghost use Rattle.haya_entry.specs.declared.entry.Entry.{Entry as EntryData};
 ghost use Rattle.haya_entry.specs.Tree.{Tree, view};
-ghost use Rattle.haya_selectors.specs.Assignment.{GreedyAssigns, GreedyFinds};
+ghost use Rattle.haya_selectors.specs.AndLaws.{AndHoldsWhereAssigned, AndIsLeast};
 ghost use Rattle.haya_selectors.specs.Binds.{bound_to};
 ghost use Rattle.haya_selectors.specs.Fault.{fault};
 ghost use Rattle.haya_selectors.specs.Holds.{holds};
@@ -16,6 +17,7 @@ ghost use Rattle.haya_selectors.specs.Spelling.{ReadAgain};
 ghost use Rattle.haya_selectors.specs.Syntax.{Syntax, syntax};
 
 use crate::{Selector, SelectorError};
+use haya_assignment::laws::{least_comes_first, no_least};
 use haya_entry::Entry;
 
 /// A text is cut into tokens in one way.
@@ -74,15 +76,20 @@ pub fn names_change_no_answer()
 {}
 
 /// The candidates of `&` are an assignment: distinct parents, one a member, each member holding at
-/// its parent.
-pub fn greedy_assigns()
-    ensures { GreedyAssigns }
-{}
+/// its parent. It comes before every other one: where they first differ, it has the earlier parent.
+pub fn and_is_least()
+    ensures { AndIsLeast }
+{
+    least_comes_first();
+}
 
-/// Where at most one member holds at each parent, `&` holds exactly if there is an assignment.
-pub fn greedy_finds()
-    ensures { GreedyFinds }
-{}
+/// `&` holds exactly where there is an assignment.
+pub fn and_holds_where_assigned()
+    ensures { AndHoldsWhereAssigned }
+{
+    least_comes_first();
+    no_least();
+}
 
 /// A name is bound, where a selector holds, to the entry that its words say.
 pub fn names_in_words()

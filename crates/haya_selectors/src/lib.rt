@@ -7,6 +7,7 @@ mod bound_select;
 mod compiled;
 mod evaluate;
 pub mod laws;
+mod leaves;
 mod names;
 mod node;
 mod nodes;
@@ -14,7 +15,9 @@ mod parse;
 mod places;
 mod prepared;
 mod selector;
+mod simple;
 mod token;
+mod tries;
 mod try_clone;
 
 pub use bound_select::BoundSelect;

@@ -1,10 +1,11 @@
 //! Names of bracket lists by number, and sets of them.
-ghost use Rattle.std.specs.Prelude.{◌≡◌, ◌<◌, ℕ, List, map, string_bytes};
+ghost use Rattle.std.specs.Prelude.{◌≡◌, ◌↔◌, ◌<◌, ℕ, IsTrue, List, map, string_bytes};
 ghost use Rattle.haya_entry.specs.contracts.entry.Entry as the_entry;
 ghost use Rattle.haya_entry.specs.Names.{has_all};
 ghost use Rattle.haya_entry.specs.declared.entry.Entry.{Entry as EntryValue};
 ghost use Rattle.haya_entry.specs.Tree.{view, view as tree};
-ghost use Rattle.haya_selectors.specs.NameNumbers.{IsHad, StandsForNames, has_number, number_of};
+ghost use Rattle.haya_selectors.specs.NameNumbers.{HasNumbers, IsHad, StandsForNames};
+ghost use Rattle.haya_selectors.specs.NameNumbers.{has_number, number_of};
 
 use haya_entry::Entry;
 use std::marker::Model;
@@ -108,6 +109,21 @@ fn had_of(entry: &Entry, asked: u32) -> u32
     had
 }
 
+// Whether the entry has the name of each number. The first one that is missing ends the search.
+fn has_each(entry: &Entry, numbers: u32) -> bool
+    ensures { IsTrue result ↔ HasNumbers (view entry.now) numbers }
+{
+    let mut left = numbers;
+    'numbers: while left != 0 {
+        let number = left.trailing_zeros();
+        if !has_number(entry, number) {
+            return false;
+        }
+        left &= !(1 << number);
+    }
+    true
+}
+
 // The names of a bracket list: the numbers of those that an entry can have, and whether there are
 // others.
 #[derive(Drop)]
@@ -156,8 +172,7 @@ impl NameSet {
     pub(crate) fn is_had(&self, entry: &Entry) -> bool
         ensures { result ≡ has_all self.now (view entry.now) }
     {
-        let had = had_of(entry, self.numbers);
-        !self.unknown && self.numbers & !had == 0
+        !self.unknown && has_each(entry, self.numbers)
     }
 }
 

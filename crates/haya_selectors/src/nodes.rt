@@ -1,7 +1,11 @@
 //! The nodes of a compiled selector, and how a selector is compiled.
-ghost use Rattle.std.specs.Prelude.{◌≡◌, ◌<◌, ◌≤◌, [], IfOk, IsTrue, length, map};
+ghost use Rattle.std.specs.Prelude.{◌≡◌, ◌<◌, ◌≤◌, [], IfOk, IsTrue, false, get_or, length, map};
+ghost use Rattle.std.specs.Prelude.{string_bytes};
+ghost use Rattle.std.specs.List.{list_all};
 ghost use Rattle.haya_selectors.specs.BoundNames.{all_bound_names, bound_names};
 ghost use Rattle.haya_selectors.specs.Compiled.{above, all_fit, fits, name_of, node_syntax};
+ghost use Rattle.haya_selectors.specs.Marks.{AreMarked};
+ghost use Rattle.haya_selectors.specs.Simple.{has_plain_candidates, is_simple};
 ghost use Rattle.haya_selectors.specs.Syntax.{members_of, syntax, syntaxes};
 
 use crate::Selector;
@@ -18,7 +22,10 @@ pub(crate) struct Nodes {
     names: Vec<String>,
     asked: u32,
     asked_again: u32,
+    // Of the first nodes, whether each stands for a simple selector.
+    simple: Vec<bool>,
     ghost fit: { IsTrue (all_fit (length names.items) 0 nodes.items) },
+    ghost marked: { AreMarked (map string_bytes names.items) nodes.items simple.items },
 }
 
 impl Nodes {
@@ -35,6 +42,7 @@ impl Nodes {
             names: Vec::new(alloc),
             asked: 0,
             asked_again: 0,
+            simple: Vec::new(alloc),
         }
     }
 
@@ -55,6 +63,58 @@ impl Nodes {
         match self.names.get(slot) {
             Some(name) => name.as_str(),
             None => "",
+        }
+    }
+
+    // Whether the node of the number is known to stand for a simple selector.
+    pub(crate) fn is_simple(&self, number: usize) -> bool
+        requires { number < node_count self.now }
+        ensures { IsTrue result → IsTrue (is_simple (syntax_at self.now number)) }
+    {
+        is_marked(&self.simple, number)
+    }
+
+    // Marks the nodes that stand for simple selectors.
+    pub(crate) fn mark_simple(&mut self, alloc: Global) -> Result<(), OutOfMemory>
+        ensures nodes { self.new.nodes.items ≡ self.old.nodes.items }
+        ensures names { self.new.names.items ≡ self.old.names.items }
+    {
+        let mut simple = Vec::with_capacity(alloc, self.nodes.len())?;
+        'nodes: for number in 0..self.nodes.len() {
+            let is_simple = self.stands_for_simple(&simple, number);
+            simple.push(is_simple)?;
+        }
+        self.simple = simple;
+        Ok(())
+    }
+
+    // Whether the node of the number stands for a simple selector, where the same is known of the
+    // nodes before it.
+    fn stands_for_simple(&self, known: &[bool], number: usize) -> bool
+        requires inside { number < node_count self.now }
+        requires count { length known.now ≡ number }
+        requires known { AreMarked (slot_names self.now) self.now.nodes.items known.now }
+        ensures { result ≡ is_simple (syntax_at self.now number) }
+    {
+        match self.at(number) {
+            Node::Wildcard | Node::Entry(_) => true,
+            Node::Neg(inner) => is_marked(known, *inner),
+            Node::Attr(inner, _) => self.has_plain_candidates(*inner) && is_marked(known, *inner),
+            Node::Alt(members) => all_marked(known, members),
+            Node::Ancestrage(child, parent) => is_marked(known, *child)
+                && is_marked(known, *parent),
+            Node::Binding(_, _) | Node::Multi(_) => false,
+        }
+    }
+
+    // Whether the candidates of the node's selector are all parents, one of them or none.
+    fn has_plain_candidates(&self, number: usize) -> bool
+        requires { number < node_count self.now }
+        ensures { result ≡ has_plain_candidates (syntax_at self.now number) }
+    {
+        match self.at(number) {
+            Node::Wildcard | Node::Entry(_) | Node::Neg(_) | Node::Ancestrage(_, _) => true,
+            _ => false,
         }
     }
 
@@ -146,4 +206,21 @@ impl Nodes {
         }
         Ok(numbers)
     }
+}
+
+// Whether the number is marked.
+fn is_marked(marks: &[bool], number: usize) -> bool
+    ensures { result ≡ get_or marks.now number false }
+{
+    match marks.get(number) {
+        Some(mark) => *mark,
+        None => false,
+    }
+}
+
+// Whether each of the numbers is marked.
+fn all_marked(marks: &[bool], numbers: &[usize]) -> bool
+    ensures { result ≡ list_all (λ n. get_or marks.now n false) numbers.now }
+{
+    numbers.iter().all(|number| is_marked(marks, *number))
 }

@@ -1,5 +1,5 @@
-//! Places of parents: the candidates of a selector, those that have names, those that are taken.
-ghost use Rattle.std.specs.Prelude.{◌≡◌, ◌==◌, ℕ, IfOk, false, map, option_map, slice_get};
+//! Places of parents: the candidates of a selector, and those that have names.
+ghost use Rattle.std.specs.Prelude.{◌≡◌, IfOk, false, map, option_map, slice_get};
 ghost use Rattle.std.specs.List.{list_any};
 ghost use Rattle.haya_entry.specs.Names.{has_all};
 ghost use Rattle.haya_entry.specs.Tree.{view};
@@ -101,7 +101,7 @@ fn kept_of(names: &NameSet, parents: &[Entry], candidates: Vec<usize>) -> Option
 }
 
 // Whether any parent has every name.
-fn any_has(names: &NameSet, parents: &[Entry]) -> bool
+pub(crate) fn any_has(names: &NameSet, parents: &[Entry]) -> bool
     ensures { result ≡ list_any (has_all names.now) (views parents.now) }
 {
     parents.iter().any(|parent| names.is_had(parent))
@@ -115,18 +115,11 @@ fn listed(alloc: Global, parents: &[Entry]) -> Result<Vec<usize>, OutOfMemory>
 }
 
 // Whether there is a parent at the place, with every name.
-fn has_all_at(names: &NameSet, parents: &[Entry], place: usize) -> bool
+pub(crate) fn has_all_at(names: &NameSet, parents: &[Entry], place: usize) -> bool
     ensures { result ≡ at_place false (has_all names.now) (views parents.now) place }
 {
     match parents.get(place) {
         Some(parent) => names.is_had(parent),
         None => false,
     }
-}
-
-// Whether the place is among those that are taken.
-pub(crate) fn is_taken(taken: &[usize], place: usize) -> bool
-    ensures { result ≡ list_any (λ t. t == place) taken.now }
-{
-    taken.iter().any(|other| *other == place)
 }

@@ -1,15 +1,15 @@
-use Rattle.std.proofs.Common.{◌≡◌, ◌+◌, ◌*◌, ◌++◌, [], drop, false, map}
-use Rattle.std.specs.Prelude.{find, sum_by}
-use Rattle.haya_entry.specs.Tree.{view, at_list}
+use Rattle.std.proofs.Common.{◌≡◌, ◌+◌, ◌*◌, ◌++◌, drop, map}
+use Rattle.std.specs.Prelude.{position, sum_by}
+use Rattle.haya_entry.specs.Tree.{view}
 use Rattle.haya_selectors.specs.Binds.{first_binds, first_binds_on}
-use Rattle.haya_selectors.specs.Evaluation.{KeepsFound, pair_entries, pairs_view}
-use Rattle.haya_selectors.specs.Calls.{calls, first_calls, first_calls_on, free_calls, greedy_calls}
-use Rattle.haya_selectors.specs.Holds.{holds, some_holds, first_candidates, greedy, least_free}
-use Rattle.haya_selectors.specs.Places.{at_place, items_up_to}
+use Rattle.haya_selectors.specs.Evaluation.{pairs_view}
+use Rattle.haya_selectors.specs.Calls.{all_calls, calls, first_calls, first_calls_on}
+use Rattle.haya_selectors.specs.Holds.{holds, some_holds, first_candidates, table_of}
+use Rattle.haya_selectors.specs.Places.{items_up_to}
 use Rattle.haya_selectors.specs.Compiled.{above}
 use Rattle.haya_selectors.specs.Nodes.{members_at, slot_names, syntax_at}
-use Rattle.haya_selectors.proofs.FreePlaces.{left}
-use Rattle.haya_selectors.proofs.Greedy.{all_taken, greedy_binds}
+use Rattle.haya_selectors.specs.Tries.{all_joined, all_lengths, all_tried, held_rows, joined, length_rows, lengths, tried}
+use Rattle.haya_selectors.proofs.Walks.{to_find, to_sum}
 use Rattle.haya_selectors.proofs.evaluate.+evaluate.Given as goal
 
 -- a call goes to a node of a smaller number, or on the same node to its form, or from a list to its
@@ -17,20 +17,23 @@ use Rattle.haya_selectors.proofs.evaluate.+evaluate.Given as goal
 abbrev pub decreases-form_holds_at : goal.decreases-form_holds_at
 decreases-form_holds_at l = 8 * l.number + 1
 
-abbrev pub decreases-holds_at : goal.decreases-holds_at
-decreases-holds_at l = 8 * l.number + 2
+abbrev pub decreases-whole_holds_at : goal.decreases-whole_holds_at
+decreases-whole_holds_at l = 8 * l.number + 2
 
-abbrev pub decreases-first_free : goal.decreases-first_free
-decreases-first_free l = 8 * l.number + 3
+abbrev pub decreases-holds_at : goal.decreases-holds_at
+decreases-holds_at l = 8 * l.number + 3
+
+abbrev pub decreases-try_at_each : goal.decreases-try_at_each
+decreases-try_at_each l = 8 * l.number + 4
 
 abbrev pub decreases-first_alone : goal.decreases-first_alone
 decreases-first_alone l = 8 * l.number + 4
 
 abbrev pub decreases-form_candidates_on : goal.decreases-form_candidates_on
-decreases-form_candidates_on l = 8 * l.number + 5
+decreases-form_candidates_on l = 8 * l.number + 6
 
 abbrev pub decreases-candidates_on : goal.decreases-candidates_on
-decreases-candidates_on l = 8 * l.number + 6
+decreases-candidates_on l = 8 * l.number + 7
 
 abbrev pub decreases-any_holds : goal.decreases-any_holds
 decreases-any_holds l = 8 * above l.members.now
@@ -62,23 +65,34 @@ invariant-first_candidates_on-loop-member l =
     × (first_binds_on rest xs ≡ first_binds_on all xs)
     × (pairs_view (slot_names l.nodes) l.found ≡ pairs_view (slot_names l.nodes) l.fn.found)
 
--- what is taken, with what the members that are left take, is what all take
+-- what the tries of the members so far have found, with what those of the others find, is what all
+-- find
 abbrev pub invariant-each_takes_one-loop-member : goal.invariant-each_takes_one-loop-member
 invariant-each_takes_one-loop-member l =
     let all = members_at l.nodes l.members in
     let rest = members_at l.nodes (drop l.member-index l.members) in
     let xs = map view l.parents in
-    (all_taken rest xs l.taken.items ≡ greedy all xs [])
-    × (l.steps + greedy_calls rest xs l.taken.items ≡ l.fn.steps + greedy_calls all xs [])
-    × (pairs_view (slot_names l.nodes) l.found ++ pair_entries (at_list xs) (greedy_binds rest xs l.taken.items) ≡ pairs_view (slot_names l.nodes) l.fn.found ++ pair_entries (at_list xs) (greedy_binds all xs []))
-    × KeepsFound l.nodes l.fn.found l.found
+    (held_rows l.tries ++ table_of rest xs ≡ table_of all xs)
+    × (length_rows l.tries ++ all_lengths (all_tried rest xs) ≡ all_lengths (all_tried all xs))
+    × (pairs_view (slot_names l.nodes) l.found ++ all_joined (all_tried rest xs) ≡ pairs_view (slot_names l.nodes) l.fn.found ++ all_joined (all_tried all xs))
+    × (l.steps + all_calls rest xs ≡ l.fn.steps + all_calls all xs)
+
+-- the same of the parents of one row
+abbrev pub invariant-try_at_each-loop-parent : goal.invariant-try_at_each-loop-parent
+invariant-try_at_each-loop-parent l =
+    let s = syntax_at l.nodes l.number in
+    let all = map view l.parents in
+    let rest = drop l.parent-index all in
+    (l.row.held.items ++ map (holds s) rest ≡ map (holds s) all)
+    × (l.row.lengths.items ++ lengths (map (tried s) rest) ≡ lengths (map (tried s) all))
+    × (pairs_view (slot_names l.nodes) l.found ++ joined (map (tried s) rest) ≡ pairs_view (slot_names l.nodes) l.fn.found ++ joined (map (tried s) all))
+    × (l.steps + sum_by (calls s) rest ≡ l.fn.steps + sum_by (calls s) all)
 
 -- the places that are left
-abbrev pub invariant-first_free-loop-place : goal.invariant-first_free-loop-place
-invariant-first_free-loop-place l =
-    let test = holds (syntax_at l.nodes l.number) in
+abbrev pub invariant-first_alone-loop-place : goal.invariant-first_alone-loop-place
+invariant-first_alone-loop-place l =
+    let s = syntax_at l.nodes l.number in
     let xs = map view l.parents in
-    let rest = left xs l.taken l.place in
-    (find (at_place false test xs) rest ≡ least_free test xs l.taken)
-    × (l.steps + sum_by (at_place 0 (calls (syntax_at l.nodes l.number)) xs) (items_up_to (at_place false test xs) rest) ≡ l.fn.steps + free_calls test (calls (syntax_at l.nodes l.number)) xs l.taken)
+    (to_find (holds s) (calls s) l.parents l.place ≡ position (holds s) xs)
+    × (l.steps + to_sum (holds s) (calls s) l.parents l.place ≡ l.fn.steps + sum_by (calls s) (items_up_to (holds s) xs))
     × (pairs_view (slot_names l.nodes) l.found ≡ pairs_view (slot_names l.nodes) l.fn.found)

@@ -1,5 +1,6 @@
 use Rattle.std.proofs.Common.{rules, ◌≡◌, ◌<◌, ℕ, ◌++◌, ◌∷◌, [], ◌∙◌, ap, arith, length, map, refl, sym, string_bytes}
 use Rattle.std.specs.List.{position_from}
+use Rattle.std.specs.Prelude.{is_ok}
 use Rattle.std.proofs.Math.Seq.{get_or-append_seam}
 use Rattle.std.proofs.lemmas.Iterator.{YieldsList-from_slice}
 use Rattle.std.proofs.lemmas.Iterator.Adapters.{position_from-zero}
@@ -9,6 +10,7 @@ use borrow.Author.Tests.{tests}
 use Rattle.haya_selectors.specs.Compiled.{name_of, syntax_in}
 use Rattle.haya_selectors.specs.Nodes.{slot_names}
 use Rattle.haya_selectors.proofs.Growth.{keeps_same}
+use Rattle.haya_selectors.proofs.Marks.{marked_names_if}
 use Rattle.haya_selectors.proofs.NodeLists.{all_more_slots, names_keep}
 use Rattle.haya_selectors.proofs.SlotNames.{is_name, place_found, place_missing}
 use Rattle.haya_selectors.proofs.nodes.Nodes.slot_of.Goals as goal
@@ -34,6 +36,7 @@ invariant_of-self-2 c =
     let s = c.args.self.now in
     record {
       fit = all_more_slots (length s.names.items) (length c.push.new.self.items) 0 s.nodes.items (omega (arith, c.push.ensures.lower_bound, s.names.ok.0, c.push.new.self.ok.0)) s.fit;
+      marked = rw c.push.ensures.items (marked_names_if string_bytes s.names.items c.in_ok-from_str.field-0 (is_ok c.push.result) s.nodes.items s.simple.items s.fit s.marked);
     }
 
 pub returns : goal.returns

@@ -1,0 +1,15 @@
+use Rattle.std.proofs.Common.{◌≡◌, ◌+◌, ◌≤◌, ◌++◌, drop, take, sum, sum_by, length}
+use Rattle.haya_selectors.specs.Tries.{number_rows}
+use Rattle.haya_selectors.proofs.Pieces.{chosen}
+use Rattle.haya_selectors.proofs.bindings.Bindings.keep.Given as goal
+
+-- what is kept so far, with what is kept of the rows that are left, is what is kept of all
+abbrev pub invariant-loop-member : goal.invariant-loop-member
+invariant-loop-member l =
+    let rows = number_rows l.lengths in
+    let items = l.self-inside.pairs.items in
+    let olds = l.initial.self-inside.pairs.items in
+    (l.to ≤ l.start)
+    × (length items ≡ length olds)
+    × (l.start + sum_by sum (drop l.member rows) ≡ length olds)
+    × (take l.to items ++ chosen (drop l.member rows) (drop l.member l.places) (drop l.start items) ≡ take l.before olds ++ chosen rows l.places (drop l.before olds))

@@ -1,0 +1,122 @@
+//! Selectors that have no other inside, asked outside the evaluator's cycle of calls: what every
+//! walk comes down to.
+ghost use Rattle.std.specs.Prelude.{◌≡◌, ◌+◌, ◌<◌, [], IfSome, MatchOption};
+ghost use Rattle.std.specs.Prelude.{if◌then◌else◌, position, sum_by};
+ghost use Rattle.haya_entry.specs.Names.{is_of_type};
+ghost use Rattle.haya_entry.specs.Tree.{view};
+ghost use Rattle.haya_selectors.specs.Binds.{binds};
+ghost use Rattle.haya_selectors.specs.Calls.{calls};
+ghost use Rattle.haya_selectors.specs.Candidates.{AreCandidates};
+ghost use Rattle.haya_selectors.specs.Evaluation.{views};
+ghost use Rattle.haya_selectors.specs.Holds.{first_place, holds};
+ghost use Rattle.haya_selectors.specs.Nodes.{node_count, syntax_at};
+ghost use Rattle.haya_selectors.specs.Places.{items_up_to};
+
+use crate::names::Asked;
+use crate::node::Node;
+use crate::nodes::Nodes;
+use crate::places::Candidates;
+use haya_entry::{Entry, EntryType, Steps};
+
+// Whether a wildcard or a type holds at an entry. `None` of any other selector.
+#[inline(always)]
+fn plain_holds_at(nodes: &Nodes, number: usize, asked: &Asked) -> Option<bool>
+    requires { number < node_count nodes.now }
+    ensures answer { IfSome result
+        (λ b. b ≡ holds (syntax_at nodes.now number) (view asked.now)) }
+    ensures bound { IfSome result (λ _. binds (syntax_at nodes.now number) (view asked.now) ≡ []) }
+    ensures ticks { IfSome result (λ _. calls (syntax_at nodes.now number) (view asked.now) ≡ 1) }
+{
+    match nodes.at(number) {
+        Node::Wildcard => Some(true),
+        Node::Entry(entry_type) => Some(asked.entry().entry_type() == *entry_type),
+        _ => None,
+    }
+}
+
+// Whether a selector holds at an entry, where a wildcard or a type alone decides it: by itself, in
+// a bracket list, in a negation, or as a child that doesn't hold. `None` elsewhere, and then there
+// is no tick.
+#[inline(always)]
+pub(crate) fn leaf_holds_at(
+    nodes: &Nodes,
+    number: usize,
+    asked: &Asked,
+    steps: &mut Steps,
+) -> Option<bool>
+    requires { number < node_count nodes.now }
+    ensures answer { IfSome result
+        (λ b. b ≡ holds (syntax_at nodes.now number) (view asked.now)) }
+    ensures bound { IfSome result
+        (λ b. (if b then binds (syntax_at nodes.now number) (view asked.now) else []) ≡ []) }
+    ensures ticks { MatchOption result (steps.new ≡ steps.old) (λ _.
+        steps.new ≡ steps.old + calls (syntax_at nodes.now number) (view asked.now)) }
+{
+    match nodes.at(number) {
+        Node::Wildcard => {
+            steps.tick();
+            Some(true)
+        }
+        Node::Entry(entry_type) => {
+            steps.tick();
+            Some(asked.entry().entry_type() == *entry_type)
+        }
+        Node::Attr(inner, names) => {
+            let holds = plain_holds_at(nodes, *inner, asked)?;
+            steps.tick();
+            steps.tick();
+            Some(holds && asked.has(names))
+        }
+        Node::Neg(inner) => {
+            let holds = plain_holds_at(nodes, *inner, asked)?;
+            steps.tick();
+            steps.tick();
+            Some(!holds)
+        }
+        Node::Ancestrage(child, _) => {
+            if plain_holds_at(nodes, *child, asked)? {
+                return None;
+            }
+            steps.tick();
+            steps.tick();
+            Some(false)
+        }
+        _ => None,
+    }
+}
+
+// The first place of an entry of this type, with a tick for each entry up to it.
+pub(crate) fn place_of_type(
+    entry_type: EntryType,
+    parents: &[Entry],
+    steps: &mut Steps,
+) -> Option<usize>
+    ensures answer { result ≡ position (is_of_type entry_type) (views parents.now) }
+    ensures ticks { steps.new ≡ steps.old
+        + sum_by (λ _. 1) (items_up_to (is_of_type entry_type) (views parents.now)) }
+{
+    for (place, parent) in parents.iter().enumerate() {
+        steps.tick();
+        if parent.entry_type() == entry_type {
+            return Some(place);
+        }
+    }
+    None
+}
+
+// The same as the one candidate.
+pub(crate) fn first_of_type(
+    entry_type: EntryType,
+    parents: &[Entry],
+    steps: &mut Steps,
+) -> Option<Candidates>
+    ensures answer { AreCandidates (views parents.now) result
+        (first_place (is_of_type entry_type) (views parents.now)) }
+    ensures ticks { steps.new ≡ steps.old
+        + sum_by (λ _. 1) (items_up_to (is_of_type entry_type) (views parents.now)) }
+{
+    match place_of_type(entry_type, parents, steps) {
+        Some(place) => Some(Candidates::One(place)),
+        None => None,
+    }
+}
