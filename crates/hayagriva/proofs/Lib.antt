@@ -1,5 +1,6 @@
 mod Maps
 mod Pushes
+pub mod Parts
 mod Equal
 pub mod Literals
 pub mod Queries

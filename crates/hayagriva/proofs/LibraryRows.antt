@@ -1,9 +1,12 @@
 -- The words of a library, at worked rows.
 use Rattle.std.proofs.Common.{◌≡◌, [], ◌∷◌, Some, None, refl}
+use Rattle.std.specs.List.{IsDistinct}
 use Rattle.std.specs.Prelude.{codes}
 use Rattle.haya_entry.specs.Tree.{Tree, new_entry}
 use Rattle.haya_entry.specs.declared.types.EntryType.TheVariants.{Blog, Book, Web}
 use Rattle.hayagriva.specs.Library.{get, from_entries, push, remove}
+use Rattle.hayagriva.specs.Parts.{AreApart}
+use Rattle.hayagriva.proofs.Parts.{apart-distinct_keys}
 
 abbrev blog_a : Tree
 blog_a = new_entry (codes "a") Blog
@@ -29,3 +32,10 @@ look_up = refl
 
 no_key : get (codes "c") (book_a ∷ web_b ∷ []) ≡ None
 no_key = refl
+
+apart : AreApart (blog_a ∷ []) (web_b ∷ [])
+unfolding IsDistinct
+apart = apart-distinct_keys (blog_a ∷ []) (web_b ∷ []) ((refl, tt), (tt, tt))
+
+not_apart : AreApart (blog_a ∷ web_b ∷ []) (book_a ∷ []) → ⊥
+not_apart h = let both = h (codes "a") in cc

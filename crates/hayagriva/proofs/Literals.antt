@@ -12,7 +12,8 @@ use Rattle.haya_selectors.specs.InWords.{picks, named_entry}
 use Rattle.hayagriva.specs.Query.{hit_entry, hit_bound, IsHit, AreHits}
 use Rattle.haya_selectors.specs.Reading.{IfReads}
 use Rattle.haya_selectors.specs.Syntax.{Syntax}
-use Rattle.haya_selectors.proofs.InWords.{bound_to-named_entry, holds-picks, filter-same}
+use Rattle.haya_selectors.proofs.Choices.{filter-same}
+use Rattle.haya_selectors.proofs.InWords.{bound_to-named_entry, holds-picks}
 
 module _ (s : Syntax) where
   entries-hits : (ys : List Tree) (hits : List Hit) → AllZip (IsHit s) ys hits → map hit_entry hits ≡ ys

@@ -12,7 +12,8 @@ use Rattle.haya_selectors.specs.Holds.{holds}
 use Rattle.hayagriva.specs.QueryIter.{Given, Asks, GivesHit, GivesNone, Stops, NextGives, GaveHits, GaveError, GaveAll, BeginsAnswer, EndsAnswer, StaysEnded, HitsInWords, EndInWords}
 use Rattle.hayagriva.specs.QueryState.{QueryState, query_state}
 use Rattle.haya_selectors.specs.InWords.{picks, named_entry}
-use Rattle.haya_selectors.proofs.InWords.{bound_to-named_entry, holds-picks, filter-same}
+use Rattle.haya_selectors.proofs.Choices.{filter-same}
+use Rattle.haya_selectors.proofs.InWords.{bound_to-named_entry, holds-picks}
 use Rattle.hayagriva.proofs.Queries.{asks-none, asks-more, hits-append, hit-hits, all_hits}
 
 not_empty : (xs ys : List Tree) (x : Tree) → (xs ++ x ∷ []) ++ ys ≢ []

@@ -1,5 +1,7 @@
+pub mod HashKeys
 pub mod TreeCode
 pub mod Library
+pub mod Parts
 pub mod Stored
 pub mod Equality
 pub mod EqualityLaws
@@ -22,7 +24,9 @@ pub use Rattle.haya_selectors.specs.Applied
 pub use Rattle.haya_selectors.specs.Calls
 pub use Rattle.haya_selectors.specs.InWords
 pub use Rattle.haya_selectors.specs.ParentSide
-pub use Rattle.haya_selectors.specs.Assignment
+pub use Rattle.haya_selectors.specs.AndLaws
+pub use Rattle.haya_assignment.specs.Assignment
+pub use Rattle.haya_assignment.specs.Answer as AssignmentAnswer
 pub use Rattle.haya_entry.specs.EntryType
 pub use Rattle.haya_entry.specs.SerialNumber
 pub use Rattle.haya_entry.specs.Tree

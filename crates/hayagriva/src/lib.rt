@@ -1,10 +1,13 @@
 //! A literature library, and queries that pick its entries by selectors.
 #![tactic(auto)]
 
+mod hash_keys;
 pub mod laws;
 mod library;
 mod query;
 
+pub use hash_keys::HashKeys;
+pub use haya_assignment::{Assignment, least_assignment};
 pub use haya_entry::{Entry, Steps};
 pub use haya_selectors::{BoundSelect, PreparedSelector, Selector, SelectorError};
 pub use haya_text::{OutOfMemory, ReadFault, ReadText};

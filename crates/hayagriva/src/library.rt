@@ -9,6 +9,7 @@ ghost use Rattle.hayagriva.specs.Library.{key_of, get, push, from_entries, remov
 
 mod iter;
 
+use crate::HashKeys;
 use haya_entry::Entry;
 use haya_text::OutOfMemory;
 use indexmap::IndexMap;
@@ -19,7 +20,7 @@ use std::marker::Model;
 /// Entries in order, no two of which have the same key.
 #[derive(Debug, Drop)]
 pub struct Library {
-    stored: IndexMap<String, Entry>,
+    stored: IndexMap<String, Entry, HashKeys>,
 }
 
 impl Model for Library {
@@ -39,12 +40,19 @@ impl Model for Library {
 }
 
 impl Library {
-    /// A library with no entries.
+    /// A library with no entries, whose map hashes with keys that are always the same.
     pub fn new(alloc: Global) -> Library
         ensures { result ≡ [] }
     {
+        Library::with_hash_keys(alloc, HashKeys::new(0, 0))
+    }
+
+    /// A library with no entries, whose map hashes with these keys.
+    pub fn with_hash_keys(alloc: Global, keys: HashKeys) -> Library
+        ensures { result ≡ [] }
+    {
         Library {
-            stored: IndexMap::new(alloc),
+            stored: IndexMap::with_hasher(alloc, keys),
         }
     }
 
@@ -149,7 +157,7 @@ impl Library {
     pub fn try_clone(&self, alloc: Global) -> Result<Library, OutOfMemory>
         ensures { IfOk result (λ copy. copy ≡ self.now) }
     {
-        let mut copy = Library::new(alloc);
+        let mut copy = Library::with_hash_keys(alloc, *self.stored.hasher());
         for entry in self.iter() {
             copy.push(entry)?;
         }

@@ -95,7 +95,44 @@ const ON_PARENTS: &[(&str, &[Work], &str)] = &[
     ("* > !blog", &[Work::WebWithUrl, Work::Blog], "no"),
     ("a:* > a:*", &[Work::WebWithUrl], "a=web"),
     ("a:* > a:*", &[], "no"),
-    ("* > (* & article)", &[Work::Article, Work::Book], "no"),
+    ("* > (* & article)", &[Work::Article, Work::Book], "yes"),
+    (
+        "* > (a:* & article)",
+        &[Work::Article, Work::Book],
+        "a=book",
+    ),
+    ("* > (a:* & article)", &[Work::Article], "no"),
+    ("* > !(* & article)", &[Work::Article, Work::Book], "no"),
+    (
+        "* > !(article & article)",
+        &[Work::Article, Work::Book],
+        "yes",
+    ),
+    (
+        "* > (a:* & article)[url]",
+        &[Work::ArticleWithUrl, Work::Book],
+        "a=book",
+    ),
+    (
+        "* > i:(* & article)",
+        &[Work::ArticleWithUrl, Work::Book],
+        "i=book",
+    ),
+    (
+        "* > i:(* & article)[url]",
+        &[Work::ArticleWithUrl, Work::Book],
+        "i=article",
+    ),
+    (
+        "* > ((a:* & i:blog) | (i:* & article))",
+        &[Work::Article, Work::Book],
+        "i=book",
+    ),
+    (
+        "* > ((a:article & i:article) | *)",
+        &[Work::Article, Work::Book],
+        "yes",
+    ),
     (
         "* > (article & a:*)",
         &[Work::Article, Work::Book],
@@ -251,7 +288,7 @@ fn many_parents_and_members(rt: HostRuntime) {
 const CALLS: &[(&str, &[Work], u64)] = &[
     ("* > i:*[url]", &[Work::Blog, Work::WebWithUrl], 5),
     ("* > book[date]", &[Work::Book, Work::BookWithDate], 5),
-    ("* > (* & article)", &[Work::Article, Work::Book], 5),
+    ("* > (* & article)", &[Work::Article, Work::Book], 7),
 ];
 
 fn calls_at(rt: &(impl Abort + AllocGlobal), text: &str, entry: &Entry) -> u64 {

@@ -1,4 +1,4 @@
-//! The calls of `hayagriva` at worked rows, as a caller sees them. They stand in a crate of their
+//! The calls of `hayagriva` at worked rows, as a caller sees them. They have a crate of their
 //! own, so that the gate doesn't prove another crate once more with them.
 #![tactic(auto)]
 
@@ -7,7 +7,11 @@ mod apply;
 #[cfg(test)]
 mod copies;
 #[cfg(test)]
+mod deep;
+#[cfg(test)]
 mod library;
+#[cfg(test)]
+mod members;
 #[cfg(test)]
 mod parse;
 #[cfg(test)]

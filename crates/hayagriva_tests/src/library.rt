@@ -2,8 +2,10 @@
 use crate::works;
 use hayagriva::types::EntryType;
 use hayagriva::types::EntryType::{Blog, Book, Web};
-use hayagriva::{Entry, Library};
+use hayagriva::{Entry, HashKeys, Library};
+use std::io;
 use std::process::Abort;
+use std::random::RandomSource;
 
 type Row<'a> = (&'a str, EntryType);
 
@@ -152,4 +154,37 @@ fn an_empty_library_has_no_entries(rt: HostRuntime) {
     let library = Library::new(rt.alloc());
     assert!(rt; library.is_empty() && library.iter().next().is_none());
     drop(library);
+}
+
+// A source that has nothing to give.
+struct DrySource;
+
+impl RandomSource for DrySource {
+    fn fill_bytes(&self, _buf: &mut [u8]) -> io::Result<()> {
+        Err(io::Error::from(io::ErrorKind::Other))
+    }
+}
+
+// Whether a library with these keys answers as any other does.
+fn answers_alike(rt: &(impl Abort + AllocGlobal), keys: HashKeys) -> bool {
+    let mut library = Library::with_hash_keys(rt.alloc(), keys);
+    push_rows(rt, &mut library, &[("a", Book), ("b", Web), ("a", Blog)]);
+    let other = library_of(rt, &[("a", Blog), ("b", Web)]);
+    let alike = has_entries(&library, &[Some(("a", Blog)), Some(("b", Web)), None])
+        && row(library.get("b")) == Some(("b", Web))
+        && library.get("c").is_none()
+        && library == other
+        && equals_its_copy(rt, &library);
+    drop(other);
+    drop(library);
+    alike
+}
+
+#[test]
+fn hash_keys_change_no_answer(rt: HostRuntime) {
+    assert!(rt; answers_alike(&rt, HashKeys::new(1, 2)));
+    assert!(rt; answers_alike(&rt, HashKeys::new(u64::MAX, 0)));
+    let random = HashKeys::random(&rt).expect(&rt, "random bytes");
+    assert!(rt; answers_alike(&rt, random));
+    assert!(rt; HashKeys::random(&DrySource).is_err());
 }

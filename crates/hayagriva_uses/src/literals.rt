@@ -1,13 +1,14 @@
 //! A proved call for each form of selector. What each ensures speaks of entries alone: their types,
 //! names and parents.
-ghost use Rattle.std.specs.Prelude.{◌≡◌, ◌&&◌, ◌||◌, All, IfOk, IsOkUnless, Some, codes, filter};
-ghost use Rattle.std.specs.Prelude.{find, map, not, true};
+ghost use Rattle.std.specs.Prelude.{◌≡◌, ◌&&◌, ◌||◌, All, IfOk, IsOkUnless, None, Some, codes};
+ghost use Rattle.std.specs.Prelude.{filter, find, map, not, true};
 ghost use Rattle.std.specs.List.{list_any};
+ghost use Rattle.std.specs.Option.{option_map_or};
 ghost use Rattle.haya_entry.specs.declared.types.EntryType.TheVariants.{Article, Book, Periodical};
 ghost use Rattle.haya_entry.specs.Names.{is_of_type, has_name};
 ghost use Rattle.haya_entry.specs.Tree.{parents};
 ghost use Rattle.hayagriva.specs.declared.SelectorError.TheVariants.{OutOfMemory};
-ghost use Rattle.hayagriva.specs.InWords.{without_first};
+ghost use Rattle.hayagriva.specs.InWords.{choices};
 ghost use Rattle.hayagriva.specs.Query.{hit_bound, hit_entry};
 
 use hayagriva::{Hit, Library, SelectorError, Steps};
@@ -86,12 +87,32 @@ pub fn articles_and_books<'s>(
 /// `&`: the entries with a periodical among their parents, and a book among the others.
 pub fn in_both<'s>(alloc: Global, library: &'s Library) -> Result<Vec<Hit<'s>>, SelectorError>
     ensures hits { IfOk result (λ hits. map hit_entry hits.items ≡
-        filter (λ x. list_any (is_of_type Periodical) (parents x)
-        && list_any (is_of_type Book) (without_first (is_of_type Periodical) (parents x)))
-        library.now) }
+        filter (λ x. list_any (λ c. is_of_type Periodical c.0 && list_any (is_of_type Book) c.1)
+        (choices (parents x))) library.now) }
     ensures error { IsOkUnless result OutOfMemory }
 {
     library.query(alloc, "* > (periodical & book)", &mut Steps::new())
+}
+
+/// `&` with names: the entries with an article among their parents and one more parent. The first
+/// that leaves an article is `p`, and the first article that it leaves is `q`.
+pub fn beside_articles<'s>(
+    alloc: Global,
+    library: &'s Library,
+) -> Result<Vec<Hit<'s>>, SelectorError>
+    ensures hits { IfOk result (λ hits. map hit_entry hits.items ≡
+        filter (λ x. list_any (λ c. list_any (is_of_type Article) c.1) (choices (parents x)))
+        library.now) }
+    ensures first { IfOk result (λ hits. All (λ hit. hit_bound hit (codes "p")
+        ≡ option_map_or (λ c. Some c.0) (find (λ c. list_any (is_of_type Article) c.1)
+        (choices (parents (hit_entry hit)))) None) hits.items) }
+    ensures second { IfOk result (λ hits. All (λ hit. hit_bound hit (codes "q")
+        ≡ option_map_or (λ c. find (is_of_type Article) c.1)
+        (find (λ c. list_any (is_of_type Article) c.1)
+        (choices (parents (hit_entry hit)))) None) hits.items) }
+    ensures error { IsOkUnless result OutOfMemory }
+{
+    library.query(alloc, "* > (p:* & q:article)", &mut Steps::new())
 }
 
 /// A longer chain: the entries with a periodical among their parents that has a parent with a

@@ -1,0 +1,82 @@
+//! Selectors and entries as deep as the program's input goes, and texts past ASCII.
+use crate::works::{below, entry, selector, string};
+use hayagriva::types::EntryType;
+use hayagriva::{Entry, Selector, Steps};
+use std::process::Abort;
+
+const DEPTH: usize = 500;
+
+// A text of so many equal beginnings, a middle, and as many equal ends.
+fn nested(
+    rt: &(impl Abort + AllocGlobal),
+    begin: &str,
+    middle: &str,
+    end: &str,
+    times: usize,
+) -> String {
+    let mut text = string(rt, "");
+    for _ in 0..times {
+        text.push_str(begin).expect(rt, "memory");
+    }
+    text.push_str(middle).expect(rt, "memory");
+    for _ in 0..times {
+        text.push_str(end).expect(rt, "memory");
+    }
+    text
+}
+
+// An entry with so many ancestors, each the one parent of the one before.
+fn chain(rt: &(impl Abort + AllocGlobal), ancestors: usize) -> Entry {
+    let mut chain = entry(rt, "end", EntryType::Book);
+    for _ in 0..ancestors {
+        chain = below(rt, entry(rt, "link", EntryType::Book), chain);
+    }
+    chain
+}
+
+// Whether a selector holds at the entry with so many ancestors, and the evaluator's calls.
+fn asked(rt: &(impl Abort + AllocGlobal), text: String, ancestors: usize) -> (bool, u64) {
+    let read = selector(rt, text.as_str());
+    drop(text);
+    let entry = chain(rt, ancestors);
+    let mut steps = Steps::new();
+    let found = read
+        .apply_counted(rt.alloc(), &entry, &mut steps)
+        .expect(rt, "memory");
+    let holds = found.is_some();
+    drop(found);
+    drop(entry);
+    drop(read);
+    (holds, steps.seen())
+}
+
+#[test]
+fn deep_selectors_at_deep_entries(rt: HostRuntime) {
+    let negated = nested(&rt, "!", "book", "", DEPTH);
+    assert_eq!(rt; asked(&rt, negated, 0), (true, 501));
+    let joined = nested(&rt, "* > ", "*", "", DEPTH);
+    assert_eq!(rt; asked(&rt, joined, 1), (true, 1001));
+    let above = nested(&rt, "* > (", "*", ")", DEPTH);
+    assert_eq!(rt; asked(&rt, above, 500), (true, 1500));
+    let above = nested(&rt, "* > (", "*", ")", DEPTH);
+    assert!(rt; !asked(&rt, above, 499).0);
+}
+
+// Whether the text reads as `wanted`.
+fn reads_as(rt: &(impl Abort + AllocGlobal), text: String, wanted: &str) -> bool {
+    let read = Selector::parse(rt.alloc(), text.as_str());
+    let shown = format!(in rt.alloc(); "{read:?}").expect(rt, "memory");
+    drop(read);
+    drop(text);
+    shown.as_str() == wanted
+}
+
+#[test]
+fn deep_texts_and_texts_past_ascii(rt: HostRuntime) {
+    let nested = nested(&rt, "(", "*", ")", DEPTH);
+    assert!(rt; reads_as(&rt, nested, "Ok(Wildcard)"));
+    let spaced = string(&rt, "book\u{a0}>\u{a0}*");
+    assert!(rt; reads_as(&rt, spaced, "Ok(Ancestrage(Entry(Book), Wildcard))"));
+    let accented = string(&rt, "b\u{fa}k");
+    assert!(rt; reads_as(&rt, accented, "Err(UnknownEntryType(\"b\"))"));
+}
