@@ -1,15 +1,18 @@
 -- Entries as rows: what stays when an entry is put behind the parents of another, or in the
 -- library.
-use Rattle.std.proofs.Common.{◌≡◌, ℕ, suc, ◌+◌, List, [], ◌∷◌, ◌++◌, length, map, get_or, set, zero, refl, sym, ap, ◌∙◌, append_assoc, append-nil, arith}
-use Rattle.std.proofs.lemmas.List.{map-append, length-map}
+use Rattle.std.proofs.Common.{◌≡◌, ℕ, suc, ◌+◌, List, [], ◌∷◌, ◌++◌, Result, Ok, Err, length, map, get_or, set, zero, refl, sym, ap, ◌∙◌, append_assoc, append-nil, length-append, subst, arith}
+use Rattle.std.specs.Prelude.{IsOkAnd}
+use Rattle.std.proofs.lemmas.List.{map-append}
 use Rattle.std.proofs.lemmas.List.Sums.{fold-append}
 use Rattle.hayagriva.specs.Library.{push}
-use Rattle.hayagriva.specs.Tree.{Tree, Trees, Fields, node, trees, tree_list, no_trees, one_more}
-use Rattle.haya_lines.specs.Line.{Row, leaf}
+use Rattle.hayagriva.specs.Tree.{Tree, Trees, Fields, node, trees, tree_list, no_trees, one_more, fields, view, with_fields}
+use Rattle.hayagriva.specs.declared.Entry.{Entry}
+use Rattle.haya_lines.specs.Line.{Row, leaf, row_at}
+use Rattle.haya_lines.specs.declared.fault.LineFault.{LineFault}
 use Rattle.hayagriva_query.specs.Input.{rows_of, rows_of_all}
-use Rattle.hayagriva_query.specs.Chain.{HoldsRows, chain_rows, with_parent}
+use Rattle.hayagriva_query.specs.Chain.{HoldsRows, OpensEntry, Stands, chain_rows, with_parent}
 
-rows_of_all-append : (d : ℕ) (ts us : List Tree) → rows_of_all d (trees (ts ++ us)) ≡ rows_of_all d (trees ts) ++ rows_of_all d (trees us)
+pub rows_of_all-append : (d : ℕ) (ts us : List Tree) → rows_of_all d (trees (ts ++ us)) ≡ rows_of_all d (trees ts) ++ rows_of_all d (trees us)
 rows_of_all-append d [] us = refl
 rows_of_all-append d (t ∷ ts) us = ap (λ l. rows_of d t ++ l) (rows_of_all-append d ts us) ∙ sym (append_assoc (rows_of d t) (rows_of_all d (trees ts)) (rows_of_all d (trees us)))
 
@@ -68,17 +71,63 @@ put-push v [] t none rows library h = push-entry rows library t h
 put-push v (x ∷ xs) t none rows library h = absurd (omega arith)
 
 -- and an entry without parents follows, deeper than the others
-pub push-leaf : {X : Type 0} (v : X → Tree) (items : List X) (next : X) (row : Row) → length items ≡ row.depth → v next ≡ leaf row.fields
-    → (rows : List Row) (library : List Tree) → HoldsRows rows library (map v items) → HoldsRows (rows ++ row ∷ []) library (map v (items ++ next ∷ []))
-push-leaf v items next row deep is rows library h =
-    let depth : 0 + length (map v items) ≡ row.depth = omega (arith, length-map items v) in
+push-leaf : (chain : List Tree) (row : Row) → length chain ≡ row.depth → (rows : List Row) (library : List Tree)
+    → HoldsRows rows library chain → HoldsRows (rows ++ row ∷ []) library (chain ++ leaf row.fields ∷ [])
+push-leaf chain row deep rows library h =
+    let depth : 0 + length chain ≡ row.depth = omega arith in
     record {
       entries = h.entries;
       of_entries = h.of_entries;
       same =
-          ap (λ l. l ++ row ∷ []) h.same ∙ append_assoc (rows_of_all 0 (trees h.entries)) (chain_rows 0 (map v items)) (row ∷ [])
-          ∙ ap (λ n. rows_of_all 0 (trees h.entries) ++ (chain_rows 0 (map v items) ++ record { depth = n; fields = row.fields } ∷ [])) (sym depth)
-          ∙ ap (λ l. rows_of_all 0 (trees h.entries) ++ l) (sym (chain_rows-leaf 0 (map v items) row.fields))
-          ∙ ap (λ t. rows_of_all 0 (trees h.entries) ++ chain_rows 0 (map v items ++ t ∷ [])) (sym is)
-          ∙ ap (λ l. rows_of_all 0 (trees h.entries) ++ chain_rows 0 l) (sym (map-append v items (next ∷ [])));
+          ap (λ l. l ++ row ∷ []) h.same ∙ append_assoc (rows_of_all 0 (trees h.entries)) (chain_rows 0 chain) (row ∷ [])
+          ∙ ap (λ n. rows_of_all 0 (trees h.entries) ++ (chain_rows 0 chain ++ record { depth = n; fields = row.fields } ∷ [])) (sym depth)
+          ∙ ap (λ l. rows_of_all 0 (trees h.entries) ++ l) (sym (chain_rows-leaf 0 chain row.fields));
     }
+
+-- what holds of the row that was read, whose entry was opened behind the others of a chain
+module _ (read : Result Row LineFault) (d : ℕ) (of_fields : Result Fields LineFault) (closed next : List Tree)
+    (head : read ≡ row_at d of_fields) (deep : length closed ≡ d) (opens : OpensEntry of_fields closed next) where
+  pub taken-depth : (n : ℕ) → n ≡ length next → IsOkAnd read (λ row. n ≡ row.depth + 1)
+  taken-depth n same = rw head (by of_fields opens)
+    where
+      by : (r : Result Fields LineFault) → OpensEntry r closed next → IsOkAnd (row_at d r) (λ row. n ≡ row.depth + 1)
+      by (Ok f) h = omega (arith, same, ap length h, length-append closed (leaf f ∷ []))
+      by (Err e) h = absurd h
+
+  pub taken-rows : (library chain next_library : List Tree) → ((rows : List Row) → HoldsRows rows library chain → HoldsRows rows next_library closed)
+      → IsOkAnd read (λ row. (rows : List Row) → HoldsRows rows library chain → HoldsRows (rows ++ row ∷ []) next_library next)
+  taken-rows library chain next_library kept = rw head (by of_fields opens)
+    where
+      by : (r : Result Fields LineFault) → OpensEntry r closed next
+          → IsOkAnd (row_at d r) (λ row. (rows : List Row) → HoldsRows rows library chain → HoldsRows (rows ++ row ∷ []) next_library next)
+      by (Ok f) h = λ rows held. rw h (push-leaf closed (record { depth = d; fields = f }) deep rows next_library (kept rows held))
+      by (Err e) h = absurd h
+
+-- ---- an entry behind others
+set_behind : {X : Type 0} (olds : List X) (e next : X) → set (olds ++ e ∷ []) (length olds) next ≡ olds ++ next ∷ []
+set_behind [] e next = refl
+set_behind (o ∷ olds) e next = ap (λ l. o ∷ l) (set_behind olds e next)
+
+get_behind : {X : Type 0} (olds : List X) (e x : X) → get_or (olds ++ e ∷ []) (length olds) x ≡ e
+get_behind [] e x = refl
+get_behind (o ∷ olds) e x = get_behind olds e x
+
+module _ (olds items : List Entry) (n : ℕ) (x : Entry) (t : Tree) (stands : Stands t olds items) (last : n + 1 ≡ length items) (at : x ≡ get_or items n x) where
+  here : n ≡ length olds
+  here = omega (arith, ap length stands.items, length-append olds (stands.entry ∷ []))
+
+  pub opened-view : view x ≡ t
+  opened-view =
+      ap view (at ∙ ap (λ l. get_or l n x) stands.items ∙ ap (λ k. get_or (olds ++ stands.entry ∷ []) k x) here ∙ get_behind olds stands.entry x) ∙ stands.value
+
+  -- its fields are read in its place
+  pub opened : (next : Entry) (read : Fields → Result Fields LineFault) → ((f : Fields) → with_fields (λ _. f) t ≡ leaf f)
+      → IsOkAnd (read (fields (view x))) (λ f. view next ≡ with_fields (λ _. f) (view x)) → OpensEntry (read (fields t)) (map view olds) (map view (set items n next))
+  opened next read bare set_fields = by (read (fields t)) (subst (λ u. IsOkAnd (read (fields u)) (λ f. view next ≡ with_fields (λ _. f) u)) opened-view set_fields)
+    where
+      put : set items n next ≡ olds ++ next ∷ []
+      put = ap (λ l. set l n next) stands.items ∙ ap (λ k. set (olds ++ stands.entry ∷ []) k next) here ∙ set_behind olds stands.entry next
+
+      by : (r : Result Fields LineFault) → IsOkAnd r (λ f. view next ≡ with_fields (λ _. f) t) → OpensEntry r (map view olds) (map view (set items n next))
+      by (Ok f) h = ap (map view) put ∙ map-append view olds (next ∷ []) ∙ ap (λ u. map view olds ++ u ∷ []) (h ∙ bare f)
+      by (Err e) h = absurd h

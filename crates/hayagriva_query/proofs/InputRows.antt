@@ -7,6 +7,7 @@ use Rattle.hayagriva.specs.Tree.{Tree, new_entry, with_fields, with_parents, wit
 use Rattle.haya_lines.specs.declared.fault.LineFault.TheVariants.{Shape, Depth, UnknownType, UnknownField}
 use Rattle.haya_lines.specs.Line.{depth_read, name_and_value}
 use Rattle.hayagriva_query.specs.Input.{Describes, rows_read}
+use Rattle.hayagriva_query.specs.Parts.{AreWholeLines}
 
 abbrev in_english : Tree → Tree
 in_english = with_fields (λ f. record f { language = Some (codes "en") })
@@ -35,6 +36,12 @@ again = record { entries = new_entry (codes "a") Book ∷ new_entry (codes "b") 
 
 no_lines : Describes [] []
 no_lines = record { entries = []; rows = refl; of_entries = refl }
+
+whole_lines : AreWholeLines [] × AreWholeLines (codes "0\ta\tbook\n\n")
+whole_lines = (refl, refl)
+
+cut_line : AreWholeLines (codes "0\ta\tbook") → ⊥
+cut_line h = cc
 
 -- the first line with a fault decides, and empty lines are counted
 faults :

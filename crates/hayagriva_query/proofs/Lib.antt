@@ -5,3 +5,5 @@ mod InputRows
 mod Lines
 mod Names
 mod OutputRows
+mod Parts
+mod OneOutput

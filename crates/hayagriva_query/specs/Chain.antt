@@ -1,10 +1,11 @@
 -- Where the reader of a library's text stands between two lines.
-use Rattle.std.specs.Prelude.{◌≡◌, ℕ, ◌+◌, List, [], ◌∷◌, ◌++◌, Vec, map}
+use Rattle.std.specs.Prelude.{◌≡◌, ℕ, ◌+◌, List, [], ◌∷◌, ◌++◌, IsOkAnd, Result, Vec, map}
 use Rattle.std.specs.declared.alloc.Global.{Global}
 use Rattle.hayagriva.specs.Library.{from_entries}
-use Rattle.hayagriva.specs.Tree.{Tree, node, trees, tree_list, view}
+use Rattle.hayagriva.specs.Tree.{Fields, Tree, node, trees, tree_list, view}
 use Rattle.hayagriva.specs.declared.Entry.{Entry}
-use Rattle.haya_lines.specs.Line.{Row}
+use Rattle.haya_lines.specs.Line.{Row, leaf}
+use Rattle.haya_lines.specs.declared.fault.LineFault.{LineFault}
 use Rattle.hayagriva_query.specs.Input.{rows_of, rows_of_all}
 
 -- entries at a depth and below, each the next parent of the one before it, as rows
@@ -35,3 +36,13 @@ AddsRow row library chain next_library next_chain = (rows : List Row)
 -- the entries of a chain by value
 abbrev pub chain_view : Vec Entry Global → List Tree
 chain_view chain = map view chain.items
+
+-- an entry of the fields that are read, with no parents yet, stands behind those of a chain
+abbrev pub OpensEntry : Result Fields LineFault → List Tree → List Tree → Type 0
+OpensEntry read chain next_chain = IsOkAnd read (λ f. next_chain ≡ chain ++ leaf f ∷ [])
+
+-- an entry of this value stands behind the others
+pub record Stands (t : Tree) (old new : List Entry) : Type 0 where
+  pub entry : Entry
+  pub value : view entry ≡ t
+  pub items : new ≡ old ++ entry ∷ []

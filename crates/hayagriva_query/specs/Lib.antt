@@ -2,4 +2,5 @@ pub mod Chain
 pub mod Input
 pub mod TextReading
 pub mod Output
+pub mod Parts
 pub mod Words

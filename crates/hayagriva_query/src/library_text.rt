@@ -1,26 +1,30 @@
 //! A library from its text: a line an entry, and behind it its parents, one level deeper.
-ghost use Rattle.std.specs.Prelude.{◌≡◌, ◌+◌, ◌++◌, ◌∷◌, [], length, min, option_map, IfOk, IfErr};
-ghost use Rattle.std.specs.Prelude.{IsOkAnd, IsOkUnless, OnOk};
+ghost use Rattle.std.specs.Prelude.{◌≡◌, ◌+◌, ◌<◌, ◌++◌, ◌∷◌, [], length, min, option_map};
+ghost use Rattle.std.specs.Prelude.{IfOk, IfErr};
+ghost use Rattle.std.specs.Prelude.{IsOkAnd, IsOkUnless, OnOk, map};
 ghost use Rattle.std.specs.Str.Lines.{lines};
-ghost use Rattle.hayagriva.specs.Tree.{view};
+ghost use Rattle.hayagriva.specs.Tree.{fields, new_entry, view};
 ghost use Rattle.hayagriva_query.specs.declared.fault.Fault.TheVariants.{OutOfMemory};
-ghost use Rattle.hayagriva_query.specs.Chain.{AddsRow, KeepsRows, chain_view, with_parent};
-ghost use Rattle.haya_lines.specs.Line.{items, row_read};
+ghost use Rattle.hayagriva_query.specs.Chain.{AddsRow, KeepsRows, OpensEntry, chain_view};
+ghost use Rattle.hayagriva_query.specs.Chain.{Stands, with_parent};
+ghost use Rattle.haya_lines.specs.Line.{fields_read, items, row_read};
+ghost use Rattle.haya_lines.specs.LineReading.{IsFaultOf};
 ghost use Rattle.hayagriva_query.specs.Input.{rows_read, Describes};
 ghost use Rattle.hayagriva_query.specs.TextReading.{FaultInLine, FaultInText};
 
 use crate::fault::Fault;
-use haya_lines::read_line;
-use hayagriva::{Entry, Library};
+use haya_lines::{Head, LineFault, cut_line, read_fields, read_head};
+use hayagriva::types::EntryType;
+use hayagriva::{Entry, HashKeys, Library};
 use std::alloc::Global;
 
-/// The library that the text describes. A fault is that of the first line that has one, or out of
-/// memory.
-pub fn read_library(alloc: Global, text: &str) -> Result<Library, Fault>
+/// The library that the text describes. Its map hashes with the keys. A fault is that of the first
+/// line that has one, or out of memory.
+pub fn read_library(alloc: Global, keys: HashKeys, text: &str) -> Result<Library, Fault>
     ensures ok { IfOk result (λ library. Describes text.now library) }
     ensures fault { IfErr result (FaultInText (rows_read 1 0 (lines text.now))) }
 {
-    let mut reader = Reader::new(alloc);
+    let mut reader = Reader::new(alloc, keys);
     let mut number = 0;
     'rows: for line in text.lines() {
         number += 1;
@@ -41,12 +45,12 @@ struct Reader {
 
 impl Reader {
     // A library with no entries, and none to come.
-    fn new(alloc: Global) -> Reader
+    fn new(alloc: Global, keys: HashKeys) -> Reader
         ensures library { result.library ≡ [] }
         ensures chain { result.chain.items ≡ [] }
     {
         Reader {
-            library: Library::new(alloc),
+            library: Library::with_hash_keys(alloc, keys),
             chain: Vec::new(alloc),
         }
     }
@@ -63,15 +67,14 @@ impl Reader {
         ensures fault { IfErr result
             (FaultInLine number (row_read (length self.old.chain.items) (items line.now))) }
     {
-        match read_line(alloc, line, self.chain.len()) {
-            Ok((depth, entry)) => match self.close_to(depth) {
-                Ok(()) => Ok(self.chain.push(entry)?),
-                Err(fault) => {
-                    // By a call: at an exit, the drop of an entry is proved field by field.
-                    drop(entry);
-                    Err(fault)
-                }
-            },
+        let items = cut_line(alloc, line)?;
+        let head = match read_head(items.as_slice(), self.chain.len()) {
+            Ok(head) => head,
+            Err(fault) => return Err(Fault::of_line(number, fault)),
+        };
+        self.close_to(head.depth)?;
+        match open(alloc, &mut self.chain, head) {
+            Ok(()) => Ok(()),
             Err(fault) => Err(Fault::of_line(number, fault)),
         }
     }
@@ -84,25 +87,24 @@ impl Reader {
         ensures rows { OnOk result (KeepsRows self.old.library (chain_view self.old.chain)
             self.new.library (chain_view self.new.chain)) }
     {
-        'closing: while self.chain.len() > depth
-            && let Some(entry) = self.chain.pop()
-        {
-            let mut entry = entry;
-            trim(&mut entry);
-            self.put(entry)?;
+        'closing: while self.chain.len() > depth {
+            self.put_last()?;
         }
         Ok(())
     }
 
-    // Puts the entry that was the last open one where it belongs: behind the parents of the one
-    // before it, or in the library.
-    fn put(&mut self, entry: Entry) -> Result<(), Fault>
+    // Puts the last open entry where it belongs: behind the parents of the one before it, or in the
+    // library.
+    fn put_last(&mut self) -> Result<(), Fault>
+        requires { 0 < length self.old.chain.items }
         ensures error { IsOkUnless result OutOfMemory }
-        ensures length { OnOk result (length self.new.chain.items ≡ length self.old.chain.items) }
-        ensures rows { OnOk result
-            (KeepsRows self.old.library (chain_view self.old.chain ++ view entry ∷ [])
+        ensures length { OnOk result
+            (length self.new.chain.items + 1 ≡ length self.old.chain.items) }
+        ensures rows { OnOk result (KeepsRows self.old.library (chain_view self.old.chain)
             self.new.library (chain_view self.new.chain)) }
     {
+        trim_last(&mut self.chain);
+        let entry = self.chain.take_last();
         match self.chain.last_mut() {
             Some(child) => add_parent(child, entry),
             None => Ok(self.library.insert(entry)?),
@@ -117,6 +119,47 @@ impl Reader {
     {
         self.close_to(0)?;
         Ok(self.library)
+    }
+}
+
+// Puts the entry of a line behind those that are open, and reads its fields in its place there.
+fn open(alloc: Global, chain: &mut Vec<Entry>, head: Head) -> Result<(), LineFault>
+    ensures opened { OnOk result (OpensEntry
+        (fields_read (fields (new_entry head.entry.key.now head.entry.kind))
+        (map (λ t. t.now) head.entry.fields.now))
+        (chain_view chain.old) (chain_view chain.new)) }
+    ensures fault { IfErr result (IsFaultOf
+        (fields_read (fields (new_entry head.entry.key.now head.entry.kind))
+        (map (λ t. t.now) head.entry.fields.now))) }
+{
+    push_new(alloc, chain, head.key, head.kind)?;
+    match chain.last_mut() {
+        Some(entry) => read_fields(alloc, entry, head.fields),
+        None => Ok(()),
+    }
+}
+
+// Puts an entry without fields behind those that are open.
+fn push_new(
+    alloc: Global,
+    chain: &mut Vec<Entry>,
+    key: &str,
+    kind: EntryType,
+) -> Result<(), LineFault>
+    ensures ok { OnOk result (Stands (new_entry key.now kind) chain.old.items chain.new.items) }
+    ensures fault { IfErr result (λ e. e ≡ LineFault.OutOfMemory) }
+{
+    chain.reserve(1)?;
+    chain.push_reserved(Entry::new(alloc, key, kind)?);
+    Ok(())
+}
+
+// Gives back the room that the last entry's parents and people don't need.
+fn trim_last(chain: &mut Vec<Entry>)
+    ensures { chain_view chain.new ≡ chain_view chain.old }
+{
+    if let Some(entry) = chain.last_mut() {
+        trim(entry);
     }
 }
 
@@ -144,6 +187,20 @@ fn add_parent(entry: &mut Entry, parent: Entry) -> Result<(), Fault>
     ensures error { IsOkUnless result OutOfMemory }
     ensures ok { OnOk result (view entry.new ≡ with_parent (view parent) (view entry.old)) }
 {
-    entry.parents.push(parent)?;
+    put_behind(&mut entry.parents, parent)?;
+    Ok(())
+}
+
+// Puts an entry behind those of a list.
+fn put_behind(list: &mut Vec<Entry>, entry: Entry) -> Result<(), Fault>
+    ensures error { IsOkUnless result OutOfMemory }
+    ensures ok { OnOk result (list.new.items ≡ list.old.items ++ entry ∷ []) }
+{
+    if list.reserve(1).is_err() {
+        // By a call: at an exit, the drop of an entry is proved field by field.
+        drop(entry);
+        return Err(Fault::OutOfMemory);
+    }
+    list.push_reserved(entry);
     Ok(())
 }

@@ -12,15 +12,19 @@ use crate::fault::Fault;
 use crate::library_text::read_library;
 use crate::printing::print_hits;
 use crate::reading::read_all;
+use hayagriva::HashKeys;
 use std::alloc::Global;
 use std::io::{Read, Write};
+use std::mem;
 use std::process::ExitCode;
 
 /// Runs the program over the words that were given, and answers how the process is to end: as `run`
-/// says, or with the fault that there are no words.
+/// says, or with the fault that there are no words. The library's map hashes with the keys; where
+/// there are none, the input can't be read.
 pub fn run_given<R: Read, W: Write, E: Write>(
     alloc: Global,
     given: Result<Vec<String>, Fault>,
+    keys: Option<HashKeys>,
     input: &mut R,
     out: &mut W,
     err: &mut E,
@@ -40,13 +44,17 @@ pub fn run_given<R: Read, W: Write, E: Write>(
         (R.remaining input.old) (W.contents out.old) (W.contents out.new)) }
 {
     match given {
-        Ok(words) => ExitCode::from(run(alloc, words.as_slice(), input, out, err)),
+        Ok(words) => {
+            let ended = answer(alloc, words.as_slice(), keys, input, out);
+            ExitCode::from(conclude(&ended, err))
+        }
         Err(fault) => ExitCode::from(complain(&fault, err)),
     }
 }
 
 /// Runs the program and answers the status that the process is to end with. `words` are the
-/// arguments without the program's own name. A fault is one line on `err`.
+/// arguments without the program's own name. A fault is one line on `err`. The library's map hashes
+/// with keys that are always the same.
 pub fn run<R: Read, W: Write, E: Write>(
     alloc: Global,
     words: &[String],
@@ -68,9 +76,19 @@ pub fn run<R: Read, W: Write, E: Write>(
     ensures kept { IfSome (slice_get words.now 0) (λ word. KeepsAtFault (string_bytes word)
         (R.remaining input.old) (W.contents out.old) (W.contents out.new)) }
 {
-    match answer(alloc, words, input, out) {
+    let ended = answer(alloc, words, Some(HashKeys::new(0, 0)), input, out);
+    conclude(&ended, err)
+}
+
+// Tells the fault, if there is one, and answers the status that it ends with, or 0.
+fn conclude<E: Write>(ended: &Result<(), Fault>, err: &mut E) -> u8
+    ensures ok { OnOk ended.now ((result ≡ 0) × (err.new ≡ err.old)) }
+    ensures usage { IsErrOf ended.now Usage → result ≡ 2 }
+    ensures other { IfErr ended.now (λ e. e ≢ Usage → result ≡ 1) }
+{
+    match ended {
         Ok(()) => 0,
-        Err(fault) => complain(&fault, err),
+        Err(fault) => complain(fault, err),
     }
 }
 
@@ -89,6 +107,7 @@ fn complain<E: Write>(fault: &Fault, err: &mut E) -> u8
 fn answer<R: Read, W: Write>(
     alloc: Global,
     words: &[String],
+    keys: Option<HashKeys>,
     input: &mut R,
     out: &mut W,
 ) -> Result<(), Fault>
@@ -108,13 +127,21 @@ fn answer<R: Read, W: Write>(
     let [selector] = words else {
         return Err(Fault::Usage);
     };
+    let Some(keys) = keys else {
+        return Err(Fault::CannotRead);
+    };
     let bytes = read_all(alloc, input)?;
     let Ok(text) = str::from_utf8(bytes.as_slice()) else {
         return Err(Fault::NotText);
     };
-    let library = read_library(alloc, text)?;
+    let library = read_library(alloc, keys, text)?;
     let mut hits = library.query_iter(alloc, selector.as_str())?;
-    print_hits(alloc, &mut hits, out)
+    let printed = print_hits(alloc, &mut hits, out);
+    drop(hits);
+    // The process ends with this answer, and gives all memory back at once: entry by entry that
+    // takes longer than any selector.
+    mem::forget(library);
+    printed
 }
 
 #[cfg(test)]

@@ -5,6 +5,7 @@ mod failing;
 use super::{run, run_given};
 use crate::fault::Fault;
 use failing::{FailingReader, FailingWriter};
+use hayagriva::HashKeys;
 use std::io::Read;
 use std::process::{Abort, ExitCode};
 
@@ -28,6 +29,15 @@ const PUSHES: &[u8] = b"0\ta\tbook\n0\tb\tweb\n0\ta\tblog\n";
 
 // A book with three parents, of which the second has one.
 const PARENTS: &[u8] = b"0\ta\tbook\n1\tb\tweb\n1\tc\tblog\n2\td\tcase\n1\te\tnewspaper\n";
+
+// An entry with an article and a book as its parents.
+const TWO: &[u8] = b"0\tx\tarticle\n1\ta\tarticle\n1\tb\tbook\n";
+
+// Five works, of which three have parents of several types.
+const SHELF: &[u8] = b"0\ta\tarticle\tdoi=1\n1\tj\tperiodical\n1\tk\tperiodical\tissn=1\n\
+    1\tw\tweb\turl=x\n0\tb\tarticle\tlanguage=en\n1\tl\tperiodical\tissn=2\n0\tt\tthesis\n\
+    0\tc\tchapter\n1\tm\tbook\tdate=2001\n2\tn\tanthology\n\
+    0\td\tchapter\n1\to\tbook\n1\tp\tanthology\n";
 
 // A selector, an input, and what is printed, or the complaint.
 type Row = (&'static str, &'static [u8], &'static str);
@@ -76,14 +86,16 @@ fn ends<R: Read>(
     same
 }
 
-// Whether a run over the small library ends so, with these words or the fault that there are none.
+// Whether a run over the small library ends so, with these words or the fault that there are none,
+// and these keys or none.
 fn ends_given(
     rt: &(impl Abort + AllocGlobal),
     given: Result<Vec<String>, Fault>,
+    keys: Option<HashKeys>,
     (status, printed, complaint): (u8, &str, &str),
 ) -> bool {
     let (mut out, mut err) = (Vec::new(rt.alloc()), Vec::new(rt.alloc()));
-    let end = run_given(rt.alloc(), given, &mut SMALL, &mut out, &mut err);
+    let end = run_given(rt.alloc(), given, keys, &mut SMALL, &mut out, &mut err);
     let same = end == ExitCode::from(status)
         && out.as_slice() == printed.as_bytes()
         && err.as_slice() == complaint.as_bytes();
@@ -95,11 +107,35 @@ fn ends_given(
 #[test]
 fn ends_with_its_status(rt: HostRuntime) {
     let usage = "usage: hayagriva_query SELECTOR\n";
-    assert!(rt; ends_given(&rt, Ok(texts(&rt, &["book"])), (0, "note\n", "")));
-    assert!(rt; ends_given(&rt, Ok(texts(&rt, &["["])), (1, "", "missing value\n")));
-    assert!(rt; ends_given(&rt, Ok(texts(&rt, &[])), (2, "", usage)));
-    assert!(rt; ends_given(&rt, Err(Fault::Usage), (2, "", usage)));
-    assert!(rt; ends_given(&rt, Err(Fault::OutOfMemory), (1, "", "out of memory\n")));
+    let keys = Some(HashKeys::new(1, 2));
+    assert!(rt; ends_given(&rt, Ok(texts(&rt, &["book"])), keys, (0, "note\n", "")));
+    assert!(rt;
+        ends_given(
+            &rt,
+            Ok(texts(&rt, &["["])),
+            keys,
+            (1, "", "missing value\n")
+        )
+    );
+    assert!(rt; ends_given(&rt, Ok(texts(&rt, &[])), keys, (2, "", usage)));
+    assert!(rt; ends_given(&rt, Err(Fault::Usage), keys, (2, "", usage)));
+    assert!(rt;
+        ends_given(
+            &rt,
+            Err(Fault::OutOfMemory),
+            keys,
+            (1, "", "out of memory\n")
+        )
+    );
+    assert!(rt;
+        ends_given(
+            &rt,
+            Ok(texts(&rt, &["book"])),
+            None,
+            (1, "", "cannot read\n")
+        )
+    );
+    assert!(rt; ends_given(&rt, Ok(texts(&rt, &[])), None, (2, "", usage)));
 }
 
 const HITS: &[Row] = &[
@@ -153,6 +189,21 @@ const HITS: &[Row] = &[
     ("book", PUSHES, ""),
     ("* > (x:* & y:* & z:*)", PARENTS, "a\tx=b\ty=c\tz=e\n"),
     ("* > (p:* > q:*)", PARENTS, "a\tp=c\tq=d\n"),
+    ("* > (p:* & q:article)", TWO, "x\tp=b\tq=a\n"),
+    // what may surprise where parents are asked
+    ("article > periodical[issn]", SHELF, "b\n"),
+    ("* > !book[date]", SHELF, "a\nb\nt\n"),
+    ("* > (periodical & web)[url]", SHELF, "a\n"),
+    ("* > (periodical & web)[issn]", SHELF, ""),
+    ("* > (* & article)", TWO, "x\n"),
+    ("thesis > !periodical", SHELF, "t\n"),
+    ("* > p:!web", SHELF, "b\nt\nc\nd\n"),
+    ("* > book > anthology", SHELF, "d\n"),
+    ("* > (book > anthology)", SHELF, "c\n"),
+    ("!*[doi]", SHELF, ""),
+    ("!(*[doi])", SHELF, "b\nt\nc\nd\n"),
+    ("*[doi][language]", SHELF, "a\n"),
+    ("periodical", SHELF, ""),
     ("*", b"", ""),
     // what a line may be, and what stays as it is
     ("book", b"\n\r\n0\ta\tbook\r\n\n0\tb\tBook\n\n", "a\nb\n"),
@@ -188,6 +239,123 @@ fn prints_a_line_for_each_hit(rt: HostRuntime) {
         let (selector, mut input, printed) = *row;
         let wanted = (0, printed, "");
         assert!(rt; ends(&rt, &[selector], &mut input, wanted), "{selector:?}");
+    }
+}
+
+// What a run over an input prints that ends well.
+fn printed(rt: &(impl Abort + AllocGlobal), selector: &str, mut input: &[u8]) -> Vec<u8> {
+    let end = run_on(rt, &[selector], &mut input);
+    assert_eq!(rt; end.status, 0, "{selector:?}");
+    end.printed
+}
+
+// Whether two runs, over the lines before a place and those from it on, print together what one
+// run over all prints.
+fn prints_in_parts(
+    rt: &(impl Abort + AllocGlobal),
+    selector: &str,
+    input: &[u8],
+    place: usize,
+) -> bool {
+    let (first, second) = input.split_at(place);
+    let mut parts = printed(rt, selector, first);
+    let rest = printed(rt, selector, second);
+    parts.extend_from_slice(&rest).expect(rt, "memory");
+    let whole = printed(rt, selector, input);
+    let same = parts == whole;
+    drop(parts);
+    drop(rest);
+    drop(whole);
+    same
+}
+
+// A selector, an input, whether its parts print what it prints, and how often it can be cut.
+const PARTS: &[(&str, &[u8], bool, usize)] = &[
+    ("*", SAMPLE, true, 1),
+    ("article > b:periodical", SAMPLE, true, 1),
+    ("* > (periodical | blog)", SAMPLE, true, 1),
+    (
+        "*[language]",
+        b"0\ta\tbook\tlanguage=en\n1\tx\tweb\n\n0\tb\tweb\n0\tc\tblog\tlanguage=en",
+        true,
+        2,
+    ),
+    // an entry is replaced by one of its key in its own part alone
+    ("*", b"0\ta\tbook\n0\ta\tweb\n", false, 1),
+];
+
+#[test]
+fn prints_in_parts_what_the_whole_prints(rt: HostRuntime) {
+    for (selector, input, same, cuts) in PARTS {
+        let mut places = 0;
+        for place in 1..input.len() {
+            if input[place - 1] == b'\n' && input[place] == b'0' {
+                places += 1;
+                assert!(rt;
+                    prints_in_parts(&rt, selector, input, place) == *same,
+                    "{selector:?}"
+                );
+            }
+        }
+        assert_eq!(rt; places, *cuts, "{selector:?}");
+    }
+}
+
+// Where a run over the first bytes of an input ends with a fault, nothing is printed; where it ends
+// well, what is printed is a beginning of what a run over all prints, if the input ends with a line.
+fn is_good_cut(
+    rt: &(impl Abort + AllocGlobal),
+    selector: &str,
+    input: &[u8],
+    place: usize,
+    whole: &[u8],
+) -> bool {
+    let mut first = &input[..place];
+    let ends_a_line = first.last() == Some(&b'\n');
+    let end = run_on(rt, &[selector], &mut first);
+    let good = if end.status == 0 {
+        end.complaint.is_empty() && (!ends_a_line || whole.starts_with(&end.printed))
+    } else {
+        end.status == 1 && end.printed.is_empty() && end.complaint.starts_with(b"line ")
+    };
+    drop(end);
+    good
+}
+
+// Selectors of every form.
+const EVERY_FORM: &str =
+    "(a:*[url] | !(p:article > (b:periodical[volume, issue] & *))) > (c:* | (!web & d:blog))";
+
+#[test]
+fn stops_at_a_line_that_is_cut_off(rt: HostRuntime) {
+    for selector in ["*", EVERY_FORM] {
+        let whole = printed(&rt, selector, SAMPLE);
+        for place in 0..SAMPLE.len() {
+            assert!(rt;
+                is_good_cut(&rt, selector, SAMPLE, place, &whole),
+                "{place}"
+            );
+        }
+        drop(whole);
+    }
+}
+
+const CUT_OFF: &[(&str, &str)] = &[
+    ("0\tdep", "line 1: shape\n"),
+    ("0\tdependence\tart", "line 1: type\n"),
+    ("date=1987-0", "line 1: value\n"),
+];
+
+#[test]
+fn says_what_a_line_that_is_cut_off_lacks(rt: HostRuntime) {
+    let text = core::str::from_utf8(SAMPLE).expect(&rt, "text");
+    for (last, complaint) in CUT_OFF {
+        let place = text.find(*last).expect(&rt, "there");
+        let mut input = &SAMPLE[..place + last.len()];
+        assert!(rt;
+            ends(&rt, &["*"], &mut input, (1, "", *complaint)),
+            "{last:?}"
+        );
     }
 }
 
@@ -249,6 +417,7 @@ const FAULTS: &[Row] = &[
         "line 1: value\n",
     ),
     ("*", b"1\tx\tbook\n\xFF", "not text\n"),
+    ("*", b"0\ta\tbook\ttitle=\xC3", "not text\n"),
 ];
 
 #[test]

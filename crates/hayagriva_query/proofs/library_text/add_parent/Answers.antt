@@ -5,4 +5,4 @@ use Rattle.hayagriva.proofs.Trees.{tree_list-trees, view_is, view_rolled}
 use Rattle.hayagriva_query.proofs.library_text.add_parent.Goals as goal
 
 pub returns-clause-ok : goal.returns-clause-ok
-returns-clause-ok c = rw (view_rolled, c.in_ok-push.ensures.items, view_is c.args.entry.now, tree_list-trees, map-append view) refl
+returns-clause-ok c = rw (view_rolled, c.in_ok-put_behind.ensures.ok, view_is c.args.entry.now, tree_list-trees, map-append view) refl

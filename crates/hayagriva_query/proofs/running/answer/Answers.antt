@@ -10,7 +10,7 @@ returns-clause-answer g c =
     let one = slice_get_read c.args.words.now (length c.args.words.now) 0 c.selector-item.result refl (search rules) (search rules) in
     let text : c.in-Ok.text.now ≡ c.in_ok-bytes.bytes.items = search rules in
     let starts = c.in_ok-hits.ensures.starts in
-    on_ok_weaker c.print_hits.result (λ p.
+    on_ok_weaker c.print_hits-printed.result (λ p.
     rw one (record {
       text = c.in_ok-bytes.bytes.items;
       library = c.in_ok-library.library;
@@ -23,14 +23,14 @@ returns-clause-answer g c =
       reads = rw c.as_str.ensures.value at starts.0;
       shows = subst (λ library. AreLinesAt c.in_ok-hits.hits.selector library p.0) (ap (λ q. q.left) starts.1) p.1;
       prints = p.2;
-    })) c.print_hits.ensures.printed
+    })) c.print_hits-printed.ensures.printed
 
 pub returns-clause-stands : goal.returns-clause-stands
 returns-clause-stands g c =
     let one = slice_get_read c.args.words.now (length c.args.words.now) 0 c.selector-item.result refl (search rules) (search rules) in
     let text : c.in-Ok.text.now ≡ c.in_ok-bytes.bytes.items = search rules in
     let starts = c.in_ok-hits.ensures.starts in
-    IfErr-weaker c.print_hits.result _ _ (λ fault part.
+    IfErr-weaker c.print_hits-printed.result _ _ (λ fault part.
     rw one (inr (record {
       text = c.in_ok-bytes.bytes.items;
       library = c.in_ok-library.library;
@@ -40,8 +40,8 @@ returns-clause-stands g c =
       utf8 = rw c.as_slice.ensures.value at c.in-Ok.ensures.cases.1;
       describes = rw text at c.in_ok-library.ensures.ok;
       reads = rw c.as_str.ensures.value at starts.0;
-      prints = subst (λ library. PrintsPart c.in_ok-hits.hits.selector library (g.W.Write.contents c.args.out.now) (g.W.Write.contents c.print_hits.new.out) fault) (ap (λ q. q.left) starts.1) part;
-    }))) c.print_hits.ensures.part
+      prints = subst (λ library. PrintsPart c.in_ok-hits.hits.selector library (g.W.Write.contents c.args.out.now) (g.W.Write.contents c.print_hits-printed.new.out) fault) (ap (λ q. q.left) starts.1) part;
+    }))) c.print_hits-printed.ensures.part
 
 pub returns-clause-kept : goal.returns-clause-kept
 returns-clause-kept g c =

@@ -1,19 +1,25 @@
-use Rattle.std.proofs.Common.{rules, ◌≡◌, ◌+◌, ◌++◌, ◌∷◌, [], List, length, map}
+use Rattle.std.proofs.Common.{◌≡◌, arith, length, map, rules, sym}
+use Rattle.std.proofs.lemmas.List.{length-map}
 use Rattle.hayagriva.specs.Tree.{view}
-use Rattle.hayagriva_query.specs.Chain.{HoldsRows}
-use Rattle.haya_lines.specs.Line.{Row, items}
-use Rattle.hayagriva_query.proofs.Chains.{push-leaf}
-use Rattle.haya_lines.proofs.Rows.{row_taken}
+use Rattle.hayagriva_query.proofs.Chains.{taken-depth, taken-rows}
 use Rattle.hayagriva_query.proofs.library_text.Reader.take_line.Goals as goal
 
-pub returns-in_ok-push-in-Ok-close_to-clause-depth : goal.returns-in_ok-push-in-Ok-close_to-clause-depth
-returns-in_ok-push-in-Ok-close_to-clause-depth c =
-    row_taken c.len.result (length c.args.self.now.chain.items) (items c.args.line.now) c.in-Ok.depth (view c.in-Ok.entry) (λ row. length c.push.new.self.items ≡ row.depth + 1) (search rules) c.in-Ok.ensures.row
-    (λ row depth within is. search rules)
+pub returns-in-Ok-open-clause-depth : goal.returns-in-Ok-open-clause-depth
+returns-in-Ok-open-clause-depth c =
+    let old = c.args.self.now.chain.items in
+    let closed = c.close_to.new.self.chain.items in
+    let next = c.open.new.chain.items in
+    let m : c.len.result ≡ length old = search rules in
+    let head = rw (c.as_slice.ensures.value, c.in_ok-items.ensures, m) at c.in-Ok.ensures.head.0 in
+    let deep : length (map view closed) ≡ c.in-Ok.head.depth = omega (arith, length-map closed view, c.in_ok-close_to.ensures.length, c.in-Ok.ensures.head.1) in
+    taken-depth _ _ _ (map view closed) (map view next) head deep c.in-Ok-open.ensures.opened (length next) (sym (length-map next view))
 
-pub returns-in_ok-push-in-Ok-close_to-clause-rows : goal.returns-in_ok-push-in-Ok-close_to-clause-rows
-returns-in_ok-push-in-Ok-close_to-clause-rows c =
-    row_taken c.len.result (length c.args.self.now.chain.items) (items c.args.line.now) c.in-Ok.depth (view c.in-Ok.entry)
-    (λ row. (rows : List Row) → HoldsRows rows c.args.self.now.library (map view c.args.self.now.chain.items) → HoldsRows (rows ++ row ∷ []) c.close_to.new.self.library (map view c.push.new.self.items))
-    (search rules) c.in-Ok.ensures.row (λ row depth within is rows h.
-    rw c.in_ok-push-in-Ok-close_to.ensures.items (push-leaf view c.close_to.new.self.chain.items c.in-Ok.entry row (search rules) is rows c.close_to.new.self.library (c.in-Ok-close_to.ensures.rows rows h)))
+pub returns-in-Ok-open-clause-rows : goal.returns-in-Ok-open-clause-rows
+returns-in-Ok-open-clause-rows c =
+    let old = c.args.self.now.chain.items in
+    let closed = c.close_to.new.self.chain.items in
+    let next = c.open.new.chain.items in
+    let m : c.len.result ≡ length old = search rules in
+    let head = rw (c.as_slice.ensures.value, c.in_ok-items.ensures, m) at c.in-Ok.ensures.head.0 in
+    let deep : length (map view closed) ≡ c.in-Ok.head.depth = omega (arith, length-map closed view, c.in_ok-close_to.ensures.length, c.in-Ok.ensures.head.1) in
+    taken-rows _ _ _ (map view closed) (map view next) head deep c.in-Ok-open.ensures.opened c.args.self.now.library (map view old) c.close_to.new.self.library c.in_ok-close_to.ensures.rows
