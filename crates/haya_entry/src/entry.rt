@@ -83,6 +83,7 @@ pub struct Entry {
 
 impl Entry {
     /// An entry with a key and a type, no fields and no parents.
+    #[inline(never)]
     pub fn new(alloc: Global, key: &str, entry_type: EntryType) -> Result<Entry, OutOfMemory>
         ensures { IfOk result (λ entry. view entry ≡ new_entry key.now entry_type) }
     {

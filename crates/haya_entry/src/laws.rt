@@ -1,4 +1,5 @@
-//! Laws of the definitions. No program calls them.
+//! Laws of the definitions. A call of one, as `ancestors_once();`, gives its statement to the
+//! caller's proof.
 ghost use Rattle.std.specs.Prelude.{◌≡◌, ℕ, List, true, Some, if◌then◌else◌};
 ghost use Rattle.std.specs.Str.{bytes_eq};
 ghost use Rattle.haya_entry.specs.declared.entry.Entry.{Entry as EntryData};

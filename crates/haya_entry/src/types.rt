@@ -189,6 +189,10 @@ impl EntryType {
         ensures { result ≡ is_named text.now self }
     {
         let (written, lower) = self.names();
+        // Both names are as long, and most types' names aren't as long as the text.
+        if text.len() != written.len() {
+            return false;
+        }
         text == written || text == lower
     }
 }

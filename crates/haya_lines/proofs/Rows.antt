@@ -1,5 +1,5 @@
 -- The row that a line's items make.
-use Rattle.std.proofs.Common.{◌⊎◌, inl, inr, ⊎_elim, ◌≡◌, ℕ, ◌≤◌, List, ◌∷◌, Option, None, Some, Result, Ok, Err, length, map, take, drop, get_or, ◌-◌, refl, sym, ap, subst, arith, rules, tests}
+use Rattle.std.proofs.Common.{◌⊎◌, inl, inr, ⊎_elim, ◌≡◌, ℕ, ◌≤◌, List, ◌∷◌, Option, None, Some, Result, Ok, Err, length, map, take, drop, get_or, ◌-◌, refl, sym, ap, ◌∙◌, subst, arith, rules, tests}
 use Rattle.std.specs.Prelude.{IsOkAnd, IfOk, ok_or}
 use Rattle.std.proofs.lemmas.List.{take_all}
 use Rattle.haya_entry.specs.declared.types.EntryType.{EntryType}
@@ -8,16 +8,7 @@ use Rattle.haya_entry.specs.Tree.{Tree, Fields, fields, with_fields, new_entry}
 use Rattle.haya_lines.specs.declared.fault.LineFault.{LineFault}
 use Rattle.haya_lines.specs.declared.fault.LineFault.TheVariants.{Depth, OutOfMemory, UnknownType}
 use Rattle.haya_lines.specs.FieldTable.{and_then}
-use Rattle.haya_lines.specs.Line.{Row, leaf, depth_read, fields_read, row_read}
-
-joined : {K : Type 0} (depth : Option ℕ) (kind : Option K) (read : K → Result Fields LineFault) (n : ℕ) (k : K) (P : Fields → Type 0)
-    → depth ≡ Some n → kind ≡ Some k → IsOkAnd (read k) P
-    → IsOkAnd {T = Row} (and_then (ok_or depth Depth) (λ d. and_then (ok_or kind UnknownType) (λ t. and_then (read t) (λ f. Ok (record { depth = d; fields = f }))))) (λ row. (n ≡ row.depth) × P row.fields)
-joined depth kind read n k P d t h = rw (d, t) (by (read k) h)
-  where
-    by : (r : Result Fields LineFault) → IsOkAnd r P → IsOkAnd {T = Row} (and_then r (λ f. Ok (record { depth = n; fields = f }))) (λ row. (n ≡ row.depth) × P row.fields)
-    by (Ok f) h = (refl, h)
-    by (Err e) h = absurd h
+use Rattle.haya_lines.specs.Line.{Row, leaf, depth_read, fields_read, row_at, row_read}
 
 -- an entry that is made bare, and whose fields are then set
 set_leaf : (key : List ℕ) (k : EntryType) (first last : Tree) (read : Fields → Result Fields LineFault) → first ≡ new_entry key k
@@ -28,19 +19,34 @@ set_leaf key k first last read made set = by (read (fields (new_entry key k))) (
     by (Ok f) h = h
     by (Err e) h = absurd h
 
-pub row_read-ok : {X : Type 0} (text : X → List ℕ) (items : List X) (x : X) (deepest n : ℕ) (k : EntryType) (first last : Tree) → 3 ≤ length items
-    → depth_read deepest (text (get_or items 0 x)) ≡ Some n → type_read (text (get_or items 2 x)) ≡ Some k → first ≡ new_entry (text (get_or items 1 x)) k
-    → IsOkAnd (fields_read (fields first) (map text (take (length items - 3) (drop 3 items)))) (λ f. last ≡ with_fields (λ _. f) first)
-    → IsOkAnd (row_read deepest (map text items)) (λ row. (n ≡ row.depth) × (last ≡ leaf row.fields))
-row_read-ok text (a ∷ b ∷ c ∷ more) x deepest n k first last three d t made set =
-    let rest : take (length (a ∷ b ∷ c ∷ more) - 3) more ≡ more = take_all _ more (omega arith) in
-    joined (depth_read deepest (text a)) (type_read (text c)) (λ k. fields_read (fields (new_entry (text b) k)) (map text more)) n k (λ f. last ≡ leaf f) d t
-    (set_leaf (text b) k first last (λ f. fields_read f (map text more)) made
-    (subst (λ l. IsOkAnd (fields_read (fields first) (map text l)) (λ f. last ≡ with_fields (λ _. f) first)) rest set))
-row_read-ok text _ x deepest n k first last three d t made set = absurd (omega arith)
+-- the row of an entry whose fields are set
+pub row_at-ok : (n : ℕ) (key : List ℕ) (k : EntryType) (first last : Tree) (read : Fields → Result Fields LineFault) → first ≡ new_entry key k
+    → IsOkAnd (read (fields first)) (λ f. last ≡ with_fields (λ _. f) first)
+    → IsOkAnd (row_at n (read (fields (new_entry key k)))) (λ row. (n ≡ row.depth) × (last ≡ leaf row.fields))
+row_at-ok n key k first last read made set = by (read (fields (new_entry key k))) (set_leaf key k first last read made set)
+  where
+    by : (r : Result Fields LineFault) → IsOkAnd r (λ f. last ≡ leaf f) → IsOkAnd (row_at n r) (λ row. (n ≡ row.depth) × (last ≡ leaf row.fields))
+    by (Ok f) h = (refl, h)
+    by (Err e) h = absurd h
+
+-- a fault of its fields is the row's
+pub row_at-err : (n : ℕ) (key : List ℕ) (k : EntryType) (first : Tree) (read : Fields → Result Fields LineFault) (e : LineFault) → first ≡ new_entry key k
+    → (e ≡ OutOfMemory) ⊎ (read (fields first) ≡ Err e) → (e ≡ OutOfMemory) ⊎ (row_at n (read (fields (new_entry key k))) ≡ Err e)
+row_at-err n key k first read e made fault =
+    ⊎_elim (λ h. inl h) (λ h. inr (ap (row_at n) (ap (λ t. read (fields t)) (sym made) ∙ h))) fault
 
 depth_within : (deepest : ℕ) (item : List ℕ) (d : ℕ) → depth_read deepest item ≡ Some d → d ≤ deepest
 depth_within deepest item d is = search (rules, tests)
+
+-- the head of a row
+pub head_read : {X : Type 0} (text : X → List ℕ) (items : List X) (x : X) (deepest n : ℕ) (k : EntryType) → 3 ≤ length items
+    → depth_read deepest (text (get_or items 0 x)) ≡ Some n → type_read (text (get_or items 2 x)) ≡ Some k
+    → (row_read deepest (map text items) ≡ row_at n (fields_read (fields (new_entry (text (get_or items 1 x)) k)) (map text (take (length items - 3) (drop 3 items)))))
+    × (n ≤ deepest)
+head_read text (a ∷ b ∷ c ∷ more) x deepest n k three d t =
+    let rest : take (length (a ∷ b ∷ c ∷ more) - 3) more ≡ more = take_all _ more (omega arith) in
+    (rw (d, t, rest) refl, depth_within deepest (text a) n d)
+head_read text _ x deepest n k three d t = absurd (omega arith)
 
 -- no row is deeper than it may be
 pub row_within : (deepest : ℕ) (items : List (List ℕ)) → IfOk (row_read deepest items) (λ row. row.depth ≤ deepest)
@@ -75,15 +81,3 @@ row_taken m deepest items n entry Q same = subst (λ d. Read d → All → Taken
     by : (r : Result Row LineFault) → IfOk r (λ row. row.depth ≤ deepest) → IsOkAnd r (λ row. (n ≡ row.depth) × (entry ≡ leaf row.fields)) → All → IsOkAnd r Q
     by (Ok row) within h all = all row h.0 (omega arith) h.1
     by (Err e) within h all = h
-
--- a fault of the fields is the row's
-pub row_read-err : {X : Type 0} (text : X → List ℕ) (items : List X) (x : X) (deepest n : ℕ) (k : EntryType) (first : Tree) (e : LineFault) → 3 ≤ length items
-    → depth_read deepest (text (get_or items 0 x)) ≡ Some n → type_read (text (get_or items 2 x)) ≡ Some k → first ≡ new_entry (text (get_or items 1 x)) k
-    → (e ≡ OutOfMemory) ⊎ (fields_read (fields first) (map text (take (length items - 3) (drop 3 items))) ≡ Err e)
-    → (e ≡ OutOfMemory) ⊎ (row_read deepest (map text items) ≡ Err e)
-row_read-err text (a ∷ b ∷ c ∷ more) x deepest n k first e three d t made fault =
-    let rest : take (length (a ∷ b ∷ c ∷ more) - 3) more ≡ more = take_all _ more (omega arith) in
-    ⊎_elim (λ h. inl h)
-    (λ h. let same : fields_read (fields (new_entry (text b) k)) (map text more) ≡ Err e = rw (made, rest) at h in
-    inr (rw (d, t) (ap (λ r. and_then r (λ f. Ok (record { depth = n; fields = f }))) same))) fault
-row_read-err text _ x deepest n k first e three d t made fault = absurd (omega arith)

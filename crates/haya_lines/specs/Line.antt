@@ -42,13 +42,16 @@ pub record Row : Type 0 where
   pub depth : ℕ
   pub fields : Fields
 
+-- the row of a depth and of the fields that are read
+abbrev pub row_at : ℕ → Result Fields LineFault → Result Row LineFault
+row_at d read = and_then read (λ f. Ok (record { depth = d; fields = f }))
+
 -- the row that items make, or their first fault
 abbrev pub row_read : ℕ → List (List ℕ) → Result Row LineFault
 row_read deepest (depth ∷ key ∷ kind ∷ more) =
     and_then (ok_or (depth_read deepest depth) Depth) (λ d.
     and_then (ok_or (type_read kind) UnknownType) (λ k.
-    and_then (fields_read (fields (new_entry key k)) more) (λ f.
-    Ok (record { depth = d; fields = f }))))
+    row_at d (fields_read (fields (new_entry key k)) more)))
 row_read deepest _ = Err Shape
 
 -- an entry with no parents

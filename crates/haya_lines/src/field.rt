@@ -16,8 +16,9 @@ use haya_text::{ReadFault, ReadText};
 use haya_time::Date;
 use std::alloc::{AllocError, Global};
 
-// Sets the field of each item in turn.
-pub(crate) fn read_fields(alloc: Global, entry: &mut Entry, items: &[&str]) -> Result<(), LineFault>
+/// Sets the field of each item in turn, in the place of what was there. Where an item has a fault,
+/// those before it are set.
+pub fn read_fields(alloc: Global, entry: &mut Entry, items: &[&str]) -> Result<(), LineFault>
     ensures ok { OnOk result (SetsFields
         (fields_read (fields (view entry.old)) (map (λ t. t.now) items.now)) entry.old entry.new) }
     ensures fault { IfErr result (IsFaultOf

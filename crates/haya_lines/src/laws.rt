@@ -1,4 +1,4 @@
-//! A law of the definitions. No program calls it.
+//! A law of the definitions. A call of it gives its statement to the caller's proof.
 ghost use Rattle.haya_text.specs.Equality.{EqualsByValue};
 
 use crate::fault::LineFault;

@@ -8,4 +8,5 @@ pub mod laws;
 mod line;
 
 pub use fault::LineFault;
-pub use line::read_line;
+pub use field::read_fields;
+pub use line::{Head, cut_line, read_head, read_line};

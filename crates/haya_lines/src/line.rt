@@ -1,9 +1,9 @@
 //! One line: a depth, a key, a type, and fields `name=value`, with a tab between two.
-ghost use Rattle.std.specs.Prelude.{◌≡◌, map, IfOk, IfErr};
+ghost use Rattle.std.specs.Prelude.{◌≡◌, map, Err, IfOk, IfErr};
 ghost use Rattle.std.specs.Char.{is_ascii_digit};
 ghost use Rattle.std.specs.List.{list_all};
 ghost use Rattle.haya_lines.specs.Line.{items, depth_read, row_read};
-ghost use Rattle.haya_lines.specs.LineReading.{IsFaultOf, IsRow};
+ghost use Rattle.haya_lines.specs.LineReading.{IsFaultOf, IsHead, IsRow};
 
 use crate::fault::LineFault;
 use crate::field::read_fields;
@@ -12,6 +12,19 @@ use std::alloc::{AllocError, Global};
 
 // How deep an entry may stand.
 const MAX_DEPTH: usize = 500;
+
+/// What a line says before its fields, and the fields, which aren't read yet.
+#[derive(Clone, Copy)]
+pub struct Head<'a> {
+    /// How deep the entry stands.
+    pub depth: usize,
+    /// Its key.
+    pub key: &'a str,
+    /// Its type.
+    pub kind: EntryType,
+    /// Its fields, as they are written.
+    pub fields: &'a [&'a str],
+}
 
 /// The entry of a line, without its parents, and its depth, where that is at most `deepest`: up to
 /// three digits, a key, the name of a type, and any number of fields `name=value`, with a tab
@@ -24,12 +37,12 @@ pub fn read_line(alloc: Global, line: &str, deepest: usize) -> Result<(usize, En
     ensures row { IfOk result (IsRow (row_read deepest (items line.now))) }
     ensures fault { IfErr result (IsFaultOf (row_read deepest (items line.now))) }
 {
-    let items = items_of(alloc, line)?;
+    let items = cut_line(alloc, line)?;
     read_items(alloc, items.as_slice(), deepest)
 }
 
-// What stands between the tabs.
-fn items_of<'a>(alloc: Global, line: &'a str) -> Result<Vec<&'a str>, AllocError>
+/// What stands between a line's tabs.
+pub fn cut_line<'a>(alloc: Global, line: &'a str) -> Result<Vec<&'a str>, AllocError>
     ensures { IfOk result (λ parts. map (λ t. t.now) parts.items ≡ items line.now) }
 {
     line.split('\t').collect(alloc)
@@ -40,6 +53,25 @@ fn read_items(alloc: Global, items: &[&str], deepest: usize) -> Result<(usize, E
     ensures row { IfOk result (IsRow (row_read deepest (map (λ t. t.now) items.now))) }
     ensures fault { IfErr result (IsFaultOf (row_read deepest (map (λ t. t.now) items.now))) }
 {
+    let head = read_head(items, deepest)?;
+    let mut entry = Entry::new(alloc, head.key, head.kind)?;
+    match read_fields(alloc, &mut entry, head.fields) {
+        Ok(()) => Ok((head.depth, entry)),
+        Err(fault) => {
+            // By a call: at an exit, the drop of an entry is proved field by field.
+            drop(entry);
+            Err(fault)
+        }
+    }
+}
+
+/// The head of a line of these items, as `read_line` reads it. Fails with the first fault that
+/// stands in it.
+pub fn read_head<'a>(items: &'a [&'a str], deepest: usize) -> Result<Head<'a>, LineFault>
+    ensures head { IfOk result (IsHead deepest (map (λ t. t.now) items.now)) }
+    ensures fault { IfErr result
+        (λ e. row_read deepest (map (λ t. t.now) items.now) ≡ Err e) }
+{
     let [depth, key, kind, more @ ..] = items else {
         return Err(LineFault::Shape);
     };
@@ -49,15 +81,12 @@ fn read_items(alloc: Global, items: &[&str], deepest: usize) -> Result<(usize, E
     let Ok(kind) = kind.parse::<EntryType>() else {
         return Err(LineFault::UnknownType);
     };
-    let mut entry = Entry::new(alloc, key, kind)?;
-    match read_fields(alloc, &mut entry, more) {
-        Ok(()) => Ok((depth, entry)),
-        Err(fault) => {
-            // By a call: at an exit, the drop of an entry is proved field by field.
-            drop(entry);
-            Err(fault)
-        }
-    }
+    Ok(Head {
+        depth,
+        key,
+        kind,
+        fields: more,
+    })
 }
 
 // One to three digits, for a depth of at most 500 that is no deeper than this.

@@ -1,4 +1,5 @@
-//! Laws of the definitions. No program calls them.
+//! Laws of the definitions. A call of one, as `equal_by_value();`, gives its statement to the
+//! caller's proof.
 ghost use Rattle.std.specs.Prelude.{◌≡◌, ◌↔◌, ℕ, List, true, Ok, Err};
 ghost use Rattle.std.specs.Str.{chars};
 ghost use Rattle.std.specs.Cmp.{IsTotalOrder};

@@ -10,7 +10,7 @@ mod reading;
 use crate::{Numeric, NumericError};
 use haya_text::ReadFault;
 pub use pieces::{PagePieces, split_pages};
-use std::alloc::AllocFailed;
+use std::alloc::{AllocError, AllocFailed};
 use thiserror::Error;
 
 /// Pages and ranges of pages, with what separates them.
@@ -162,6 +162,17 @@ impl From<NumericError> for PageRangesPartErr {
             NumericError::OutOfMemory => PageRangesPartErr::OutOfMemory,
             error => PageRangesPartErr::NumericErr(error),
         }
+    }
+}
+
+impl From<AllocError> for PageRangesPartErr {
+    ghost use Rattle.std.specs.Prelude.{◌≡◌};
+    ghost use Rattle.haya_numbers.specs.declared.page.PageRangesPartErr.TheVariants as fault;
+
+    ghost from_gives = { λ _ e. e ≡ fault.OutOfMemory };
+
+    fn from(_error: AllocError) -> PageRangesPartErr {
+        PageRangesPartErr::OutOfMemory
     }
 }
 

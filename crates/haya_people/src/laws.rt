@@ -1,4 +1,5 @@
-//! Laws of the definitions. No program calls them.
+//! Laws of the definitions. A call of one, as `equal_by_value();`, gives its statement to the
+//! caller's proof.
 ghost use Rattle.std.specs.Prelude.{◌≡◌, ◌↔◌, ℕ, Bool, List};
 ghost use Rattle.haya_text.specs.Equality.{EqualsByValue, EqualsByView, HashesAlike};
 ghost use Rattle.haya_people.specs.Initials.{Grapheme};

@@ -14,7 +14,6 @@ ghost use Rattle.haya_people.specs.Reading.{words_behind_lower, words_of, IsEnd,
 use crate::{Person, PersonError};
 use haya_text::{OutOfMemory, ReadText};
 use std::alloc::Global;
-use unicode::properties::is_lowercase;
 
 impl Person {
     /// A person of one to three parts, each without the white space around it: the family part is
@@ -196,4 +195,11 @@ fn is_lower(word: &str) -> bool
     ensures { result ≡ first_passes is_lowercase (chars word.now) }
 {
     word.chars().next().is_some_and(|c| is_lowercase(c))
+}
+
+// Whether a character has the property Lowercase of Unicode.
+fn is_lowercase(c: char) -> bool
+    ensures { result ≡ is_lowercase c }
+{
+    c.is_lowercase()
 }

@@ -211,7 +211,12 @@ fn publishers(rt: HostRuntime) {
         let place = Publisher::new(None, Some(name));
         assert!(rt; place.name().is_none() && place.location() == publisher.name());
         assert!(rt; place != publisher);
-        drop((place, publisher));
+        let name = Some(read::<FormatString>(&rt, "Springer"));
+        let both = Publisher::new(name, Some(read::<FormatString>(&rt, text)));
+        assert!(rt; both.location() == publisher.name() && both != place && both != publisher);
+        let copy = copied(&rt, &both);
+        assert!(rt; copy == both && copy.name().is_some());
+        drop((place, publisher, both, copy));
     }
     let Err(ChunkedReadError::Parse(brace)) = Publisher::from_str(rt.alloc(), "a}b") else {
         panic!(rt; "a closing brace is read")

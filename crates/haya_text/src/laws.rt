@@ -1,4 +1,5 @@
-//! Laws of the definitions. No program calls them.
+//! Laws of the definitions. A call of one, as `equal_by_value();`, gives its statement to the
+//! caller's proof.
 ghost use Rattle.std.specs.Prelude.{◌≡◌, ◌↔◌, ℕ, List, true, Some, None};
 ghost use Rattle.std.specs.Str.{IsUtf8};
 ghost use Rattle.haya_text.specs.Chunks.{Chunk, chunk_view, chunks, characters};

@@ -1,3 +1,3 @@
-//! Laws of the definitions. No program calls them.
+//! Laws of the definitions. A call of one gives its statement to the caller's proof.
 pub mod dates;
 pub mod durations;

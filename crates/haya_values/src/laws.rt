@@ -1,4 +1,5 @@
-//! Laws of the definitions. No program calls them.
+//! Laws of the definitions. A call of one, as `equal_by_value();`, gives its statement to the
+//! caller's proof.
 ghost use Rattle.std.specs.Cmp.{IsTotalOrder};
 ghost use Rattle.haya_numbers.specs.Numeric.{csl_order, numeric_view};
 ghost use Rattle.haya_numbers.specs.Pages.{parts};

@@ -1,4 +1,4 @@
-//! Laws of the definitions of pages. No program calls them.
+//! Laws of the definitions of pages.
 ghost use Rattle.std.specs.Prelude.{◌≡◌, ◌↔◌, ℕ, List, true, map, Ok, Err};
 ghost use Rattle.std.specs.Cmp.{IsTotalOrder};
 ghost use Rattle.std.specs.Str.{chars};

@@ -82,8 +82,12 @@ impl ReadText for PageRanges {
 fn read_pieces(alloc: Global, text: &str) -> Result<PageRanges, PageRangesPartErr>
     ensures { Reads parts (pages_read (chars text.now)) result }
 {
-    let mut ranges = Vec::new(alloc);
+    // Most texts have one part, and most others three: two and what separates them.
+    let mut ranges = Vec::with_capacity(alloc, 1)?;
     'pieces: for piece in split_pages(text) {
+        if ranges.len() == 1 {
+            ranges.reserve_exact(2)?;
+        }
         ranges.push(read_part(alloc, piece)?)?;
     }
     Ok(PageRanges { ranges })

@@ -154,6 +154,9 @@ fn makes_ranges_and_sets(rt: HostRuntime) {
     let range = Numeric::from_range(rt.alloc(), 1..4).expect(&rt, "memory");
     assert!(rt; is_shown(&rt, &range, "1–4") && range.is_plural(false) && range.will_transform());
     drop(range);
+    let one = Numeric::from_range(rt.alloc(), 4..4).expect(&rt, "memory");
+    assert!(rt; is_shown(&rt, &one, "4–4") && one.value.len() == 2);
+    drop(one);
     let empty = NumericValue::Set(Vec::new(rt.alloc()));
     assert!(rt; empty.is_empty() && empty.len() == 0);
     let empty = Numeric {
@@ -161,7 +164,7 @@ fn makes_ranges_and_sets(rt: HostRuntime) {
         prefix: None,
         suffix: None,
     };
-    assert!(rt; empty.is_plural(true));
+    assert!(rt; empty.is_plural(true) && is_written(&rt, &empty, true, ""));
     drop(empty);
     assert!(rt; !Numeric::new(1).is_plural(true) && Numeric::new(2).is_plural(true));
     assert!(rt; !Numeric::new(2).is_plural(false));
@@ -262,6 +265,7 @@ const FORMS: &[(&str, NumberForm, &str)] = &[
     ("0", NumberForm::Roman, "0"),
     ("-1 & 4", NumberForm::Roman, "-1 & iv"),
     ("x9y", NumberForm::Roman, "ix"),
+    ("1, 2-9", NumberForm::Roman, "i, ii–ix"),
 ];
 
 #[test]

@@ -150,6 +150,7 @@ fn numbers_are_made_pages(rt: HostRuntime) {
     assert!(rt; is_page(&rt, PageRanges::from_i32(rt.alloc(), 100), "100"));
     assert!(rt; is_page(&rt, PageRanges::try_from_u32(rt.alloc(), 7), "7"));
     assert!(rt; is_page(&rt, PageRanges::try_from_i64(rt.alloc(), -1), "-1"));
+    assert!(rt; is_page(&rt, PageRanges::try_from_u64(rt.alloc(), 0), "0"));
     assert!(rt;
         is_page(
             &rt,

@@ -76,6 +76,22 @@ const ROWS: &[Row] = &[
         particles: None,
     },
     Row {
+        name: "von Leyen",
+        prefix: Some(""),
+        table: &["von"],
+        particle: Some("von"),
+        rest: "Leyen",
+        particles: Some(" von"),
+    },
+    Row {
+        name: "Leyen",
+        prefix: Some(""),
+        table: &["von"],
+        particle: None,
+        rest: "Leyen",
+        particles: Some(""),
+    },
+    Row {
         name: "Stra\u{df}e Weg",
         prefix: None,
         table: &["strasse"],

@@ -84,7 +84,8 @@ fn persons_with_roles_are_by_value(rt: HostRuntime) {
         "gaffer",
     );
     let other = persons(&rt, &["Doe"], "best boy");
-    for all in [&few, &many, &other] {
+    let nameless = persons(&rt, &[], "");
+    for all in [&few, &many, &other, &nameless] {
         let copy = all.try_clone(rt.alloc()).expect(&rt, "memory");
         let same = copy == *all;
         assert!(rt; same);
@@ -94,4 +95,5 @@ fn persons_with_roles_are_by_value(rt: HostRuntime) {
     drop(few);
     drop(many);
     drop(other);
+    drop(nameless);
 }

@@ -93,6 +93,12 @@ impl ChunkedString {
         ensures ok { OnOk result (chunks self.new ≡ chunks self.old ++ chunk_view chunk ∷ []) }
         ensures err { OnErr result (chunks self.new ≡ chunks self.old) }
     {
+        // Most texts have one chunk, and most others three: plain text, a group and plain text.
+        match self.0.len() {
+            0 => self.0.reserve_exact(1)?,
+            1 => self.0.reserve_exact(2)?,
+            _ => {}
+        }
         self.0.push(chunk)?;
         Ok(())
     }

@@ -2,12 +2,14 @@
 ghost use Rattle.std.specs.Prelude.{◌≡◌, ◌↔◌, ℕ, List, None, Some, Err, Ok};
 ghost use Rattle.std.specs.Cmp.{IsTotalOrder};
 ghost use Rattle.std.specs.declared.cmp.Ordering.TheVariants.{Equal};
+ghost use Rattle.std.specs.Ordering.{nat_cmp};
 ghost use Rattle.std.specs.Str.{chars};
 ghost use Rattle.haya_text.specs.Equality.{EqualsByValue, HashesAlike};
 ghost use Rattle.haya_time.specs.declared.date.Date as date;
 ghost use Rattle.haya_time.specs.declared.date.DateError as error;
+ghost use Rattle.haya_time.specs.declared.date.Season as season;
 ghost use Rattle.haya_time.specs.DateForms.{IsRefusedAs, ReadsAs};
-ghost use Rattle.haya_time.specs.DateOrder.{HasNoOrder, date_csl_cmp};
+ghost use Rattle.haya_time.specs.DateOrder.{HasNoOrder, date_csl_cmp, season_place};
 ghost use Rattle.haya_time.specs.DatePrinted.{date_text};
 ghost use Rattle.haya_time.specs.DateReadBack.{ReadsBack};
 ghost use Rattle.haya_time.specs.DateReading.{date_read};
@@ -27,6 +29,12 @@ pub fn order_of_dates()
 /// The order of citation styles is a total preorder.
 pub fn csl_order_of_dates()
     ensures { IsTotalOrder date_csl_cmp }
+{}
+
+/// Seasons are in the order of the year, from spring to winter.
+pub fn order_of_seasons()
+    ensures { (a b : season.Season) →
+        ⟦<Season as Ord>⟧.cmp a b ≡ nat_cmp (season_place a) (season_place b) }
 {}
 
 /// `==` holds exactly where all fields are equal.

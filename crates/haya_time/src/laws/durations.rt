@@ -9,6 +9,7 @@ ghost use Rattle.haya_time.specs.DurationGrammar.{ReadsTooLarge};
 ghost use Rattle.haya_time.specs.DurationOrder.{duration_cmp};
 ghost use Rattle.haya_time.specs.DurationPrint.{duration_text, range_text};
 ghost use Rattle.haya_time.specs.DurationReading.{duration_read, range_read};
+ghost use Rattle.haya_time.specs.DurationValues.{clock};
 ghost use Rattle.haya_time.specs.declared.duration.Duration as duration;
 ghost use Rattle.haya_time.specs.declared.duration.range.DurationRange as range;
 ghost use Rattle.haya_time.specs.declared.duration.reading.DurationError.TheVariants as error;
@@ -16,6 +17,11 @@ ghost use Rattle.haya_time.specs.declared.duration.reading.DurationError.TheVari
 use crate::{Duration, DurationError, DurationRange};
 use std::cmp::Ordering;
 use std::hash::Hash;
+
+/// The default duration is no time at all.
+pub fn default_duration_is_zero()
+    ensures { (d : duration.Duration) → ⟦<Duration as Default>⟧.is_default d → d ≡ clock 0 0 0 0 }
+{}
 
 /// A text reads as a duration exactly where its parts are that duration's and it isn't too large.
 /// It is too large exactly where its parts are those of a duration that is, and malformed exactly

@@ -1,15 +1,17 @@
-use Rattle.std.proofs.Common.{sym, ap, ◌∙◌}
-use Rattle.std.specs.Result.{result_ok}
+use Rattle.std.proofs.Common.{map}
 use Rattle.haya_entry.specs.Tree.{view}
-use Rattle.haya_lines.proofs.Rows.{row_read-ok, row_read-err}
+use Rattle.haya_lines.specs.Line.{fields_read}
+use Rattle.haya_lines.proofs.Rows.{row_at-ok, row_at-err}
 use Rattle.haya_lines.proofs.line.read_items.Goals as goal
 
-pub returns-in-Ok-read_fields-clause-row : goal.returns-in-Ok-read_fields-clause-row
-returns-in-Ok-read_fields-clause-row c =
-    row_read-ok (λ t. t.now) c.args.items.now _ c.args.deepest _ c.in-Ok.kind (view c.in_ok-entry.entry) _ c.in-len3-up.len_at_least (sym c.depth_of.ensures ∙ c.in-Some.is)
-    (sym c.parse.ensures.value ∙ ap result_ok c.in-Ok.is) c.in_ok-entry.ensures c.in-Ok-read_fields.ensures.ok
+pub returns-in-Ok-clause-row : goal.returns-in-Ok-clause-row
+returns-in-Ok-clause-row c =
+    let h = c.in_ok-head.head in
+    rw c.in_ok-head.ensures.head.0
+    (row_at-ok h.depth h.key.now h.kind (view c.in_ok-entry.entry) (view c.read_fields.new.entry) (λ f. fields_read f (map (λ t. t.now) h.fields.now)) c.in_ok-entry.ensures c.in-Ok.ensures.ok)
 
 pub returns-in-Err-clause-fault : goal.returns-in-Err-clause-fault
 returns-in-Err-clause-fault c =
-    row_read-err (λ t. t.now) c.args.items.now _ c.args.deepest _ c.in-Ok.kind (view c.in_ok-entry.entry) _ c.in-len3-up.len_at_least (sym c.depth_of.ensures ∙ c.in-Some.is)
-    (sym c.parse.ensures.value ∙ ap result_ok c.in-Ok.is) c.in_ok-entry.ensures c.in-Err.ensures.fault
+    let h = c.in_ok-head.head in
+    rw c.in_ok-head.ensures.head.0
+    (row_at-err h.depth h.key.now h.kind (view c.in_ok-entry.entry) (λ f. fields_read f (map (λ t. t.now) h.fields.now)) c.in-Err.fault c.in_ok-entry.ensures c.in-Err.ensures.fault)
