@@ -348,7 +348,7 @@ const CUT_OFF: &[(&str, &str)] = &[
 
 #[test]
 fn says_what_a_line_that_is_cut_off_lacks(rt: HostRuntime) {
-    let text = core::str::from_utf8(SAMPLE).expect(&rt, "text");
+    let text = str::from_utf8(SAMPLE).expect(&rt, "text");
     for (last, complaint) in CUT_OFF {
         let place = text.find(*last).expect(&rt, "there");
         let mut input = &SAMPLE[..place + last.len()];
