@@ -257,7 +257,9 @@ fn prints_in_parts(
     input: &[u8],
     place: usize,
 ) -> bool {
-    let (first, second) = input.split_at(place);
+    let (Some(first), Some(second)) = (input.get(..place), input.get(place..)) else {
+        return false;
+    };
     let mut parts = printed(rt, selector, first);
     let rest = printed(rt, selector, second);
     parts.extend_from_slice(&rest).expect(rt, "memory");
@@ -287,10 +289,10 @@ const PARTS: &[(&str, &[u8], bool, usize)] = &[
 #[test]
 fn prints_in_parts_what_the_whole_prints(rt: HostRuntime) {
     for (selector, input, same, cuts) in PARTS {
-        let mut places = 0;
+        let mut places: usize = 0;
         for place in 1..input.len() {
             if input[place - 1] == b'\n' && input[place] == b'0' {
-                places += 1;
+                places = places.saturating_add(1);
                 assert!(rt;
                     prints_in_parts(&rt, selector, input, place) == *same,
                     "{selector:?}"
@@ -310,7 +312,9 @@ fn is_good_cut(
     place: usize,
     whole: &[u8],
 ) -> bool {
-    let mut first = &input[..place];
+    let Some(mut first) = input.get(..place) else {
+        return false;
+    };
     let ends_a_line = first.last() == Some(&b'\n');
     let end = run_on(rt, &[selector], &mut first);
     let good = if end.status == 0 {
