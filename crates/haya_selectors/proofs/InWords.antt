@@ -13,7 +13,7 @@ use Rattle.haya_assignment.specs.Assignment.{not_taken}
 use Rattle.haya_selectors.specs.Binds.{Pairs, binds, binds_on, bound_to, each_binds, first_binds, first_binds_on, last_of, pair_of_first, pairs_at}
 use Rattle.haya_selectors.specs.Evaluation.{pair_entries}
 use Rattle.haya_selectors.specs.Holds.{holds, some_holds, candidates, first_candidates, kept_places, some_places, table_of}
-use Rattle.haya_selectors.specs.InWords.{has_names, some_entries, with_names, first_entry, choices, first_choice, or_before, picks, some_picks, stands, some_stands, each_stands, candidate_entries, first_entries, each_entry, first_candidate, binds_name, some_binds_name, at_entry, within, at_first, entry_called, called_by_first, parent_called, parent_called_by_first, each_called, named_entry}
+use Rattle.haya_selectors.specs.InWords.{has_names, some_entries, with_names, first_entry, choices, first_choice, or_before, picks, some_picks, stands, some_stands, each_stands, candidate_entries, first_entries, each_entry, first_candidate, candidate_of_first, binds_name, some_binds_name, at_entry, within, at_first, entry_called, called_by_first, parent_called, parent_called_by_first, each_called, named_entry}
 use Rattle.haya_selectors.specs.Places.{places, at_place}
 use Rattle.haya_selectors.specs.Syntax.{Syntax, Wildcard, Entry, Neg, Binding, Attr, Alt, Multi, Ancestrage, Syntaxes, none, more}
 use Rattle.haya_selectors.proofs.Choices.{Apart, Distinct, first_some, itself, least_beside, least_beside-cons, not_taken-distinct, not_taken-more, not_taken-true, other_way, without-apart}
@@ -326,13 +326,30 @@ first-any : (xs : List Tree) → first_entry (some_entries xs) ≡ find (λ x. t
 first-any [] = refl
 first-any (x ∷ xs) = refl
 
-entries-first : (s : Syntax) (xs : List Tree) → first_entry (candidate_entries s xs) ≡ first_candidate s xs
-entries-first Wildcard xs = first-any xs
-entries-first (Entry t) xs = first-one (find (is_of_type t) xs)
-entries-first (Attr Wildcard names) xs = first-with-any names xs
-entries-first (Attr (Entry t) names) xs = first-with-one names (find (is_of_type t) xs)
-entries-first (Ancestrage l r) xs = first-one (find (λ x. picks l x && stands r (parents x)) xs)
-entries-first _ xs = refl
+or-first : (o p : Option (List Tree)) → first_entry (option_or o p) ≡ cond (is_some o) (first_entry o) (first_entry p)
+or-first None p = refl
+or-first (Some xs) p = refl
+
+or-no_more : (o : Option (List Tree)) → option_or o None ≡ o
+or-no_more None = refl
+or-no_more (Some xs) = refl
+
+mutual
+  entries-first : (s : Syntax) (xs : List Tree) → first_entry (candidate_entries s xs) ≡ first_candidate s xs
+  entries-first Wildcard xs = first-any xs
+  entries-first (Entry t) xs = first-one (find (is_of_type t) xs)
+  entries-first (Attr Wildcard names) xs = first-with-any names xs
+  entries-first (Attr (Entry t) names) xs = first-with-one names (find (is_of_type t) xs)
+  entries-first (Alt ss) xs = first_entries-first ss xs
+  entries-first (Ancestrage l r) xs = first-one (find (λ x. picks l x && stands r (parents x)) xs)
+  entries-first _ xs = refl
+
+  first_entries-first : (ss : Syntaxes) (xs : List Tree) → first_entry (first_entries ss xs) ≡ candidate_of_first ss xs
+  first_entries-first none xs = refl
+  first_entries-first (more s none) xs = ap first_entry (or-no_more (candidate_entries s xs)) ∙ entries-first s xs
+  first_entries-first (more s (more t ss)) xs =
+      or-first (candidate_entries s xs) (first_entries (more t ss) xs)
+      ∙ rw (entries-some s xs, entries-first s xs, first_entries-first (more t ss) xs) refl
 
 -- ---- the law
 neg-stands : (xs : List Tree) (a b : Bool) → a ≡ b → StandOr xs (cond a None (Some [])) (cond b None (Some []))
@@ -467,6 +484,11 @@ cond-false : {X : Type 0} (b : Bool) (x y : X) → b ≡ false → cond b x y �
 cond-false true x y h = absurd (cc)
 cond-false false x y h = refl
 
+-- what is asked only where a name appears, if it is the same without the name
+where-named : {X : Type 0} (b : Bool) (x y : X) → (b ≡ false → x ≡ y) → cond b x y ≡ x
+where-named true x y h = refl
+where-named false x y h = sym (h refl)
+
 map-both : {A : Type 0} (f : A → Option Tree) (before : Option Tree) → ((x : A) → f x ≡ before) → (o : Option A) → option_map_or f o before ≡ before
 map-both f before same None = refl
 map-both f before same (Some x) = same x
@@ -489,7 +511,7 @@ module _ (q : List ℕ) where
     unnamed (Neg s) before x h = refl
     unnamed (Binding n s) before x h = let p = or-false (bytes_eq n q) (binds_name q s) h in rw p.0 (unnamed s before x p.1)
     unnamed (Attr s names) before x h = unnamed s before x h
-    unnamed (Alt ss) before x h = unnamed_first ss before x h
+    unnamed (Alt ss) before x h = cond-false (some_binds_name q ss) _ before h
     unnamed (Multi ss) before x h = refl
     unnamed (Ancestrage l r) before x h =
         let p = or-false (binds_name q l) (binds_name q r) h in unnamed_on r (entry_called q l before x) (parents x) p.1 ∙ unnamed l before x p.0
@@ -505,7 +527,7 @@ module _ (q : List ℕ) where
     unnamed_on (Neg s) before xs h = refl
     unnamed_on (Binding n s) before xs h = let p = or-false (bytes_eq n q) (binds_name q s) h in rw p.0 (unnamed_on s before xs p.1)
     unnamed_on (Attr s names) before xs h = unnamed_on s before xs h
-    unnamed_on (Alt ss) before xs h = unnamed_first_on ss before xs h
+    unnamed_on (Alt ss) before xs h = cond-false (some_binds_name q ss) _ before h
     unnamed_on (Multi ss) before xs h = unnamed_each ss before xs h
     unnamed_on (Ancestrage l r) before xs h =
         let p = or-false (binds_name q l) (binds_name q r) h in
@@ -523,11 +545,7 @@ module _ (q : List ℕ) where
     unnamed_each (more s (more t ss)) before xs h = cond-false (some_binds_name q (more s (more t ss))) _ before h
 
   within-first : (s : Syntax) (before : Option Tree) (xs : List Tree) (x : Tree) → find (picks s) xs ≡ Some x → within q s (entry_called q s) before xs ≡ entry_called q s before x
-  within-first s before xs x e = rw e (by (binds_name q s) refl)
-    where
-      by : (b : Bool) → binds_name q s ≡ b → cond b (entry_called q s before x) before ≡ entry_called q s before x
-      by true h = refl
-      by false h = sym (unnamed s before x h)
+  within-first s before xs x e = rw e (where-named (binds_name q s) _ before (unnamed s before x))
 
   -- a member at the first entry where it holds
   called-at_first : (s : Syntax) (before : Option Tree) (xs : List Tree) (x : Tree) → find (picks s) xs ≡ Some x → at_first q s (entry_called q s) before xs ≡ entry_called q s before x
@@ -571,11 +589,7 @@ module _ (q : List ℕ) where
   none-at_first (Ancestrage l r) called before xs e = rw e (cond-both (binds_name q l || binds_name q r) before before before refl refl)
 
   called-at_entry : (s : Syntax) (before : Option Tree) (x : Tree) → at_entry q s (entry_called q s) before x ≡ entry_called q s before x
-  called-at_entry s before x = by (binds_name q s) refl
-    where
-      by : (b : Bool) → binds_name q s ≡ b → cond b (entry_called q s before x) before ≡ entry_called q s before x
-      by true h = refl
-      by false h = sym (unnamed s before x h)
+  called-at_entry s before x = where-named (binds_name q s) _ before (unnamed s before x)
 
   -- each member at its entry
   abbrev called_by_each : Syntaxes → Option Tree → List Tree → Option Tree
@@ -640,7 +654,7 @@ module _ (q : List ℕ) where
         ap (cond (bytes_eq n q) (Some x)) (called-value s before x)
         ∙ sym (added q (at x) (binds s x) ((n, []) ∷ []) before ∙ pair-value q n (Some x) (last_value q (pair_entries (at x) (binds s x)) before))
     called-value (Attr s names) before x = called-value s before x
-    called-value (Alt ss) before x = first-value ss before x
+    called-value (Alt ss) before x = where-named (some_binds_name q ss) _ before (unnamed_first ss before x) ∙ first-value ss before x
     called-value (Multi ss) before x = refl
     called-value (Ancestrage l r) before x = chain-value l r x before (called-value l before x) (λ b. called-on r b (parents x))
 
@@ -663,7 +677,7 @@ module _ (q : List ℕ) where
         ∙ ap (last_value q (pair_entries (at_list xs) (pair_of_first n (candidates s xs)))) (called-on s before xs)
         ∙ sym (added q (at_list xs) (binds_on s xs) (pair_of_first n (candidates s xs)) before)
     called-on (Attr s names) before xs = called-on s before xs
-    called-on (Alt ss) before xs = first-value-on ss before xs
+    called-on (Alt ss) before xs = where-named (some_binds_name q ss) _ before (unnamed_first_on ss before xs) ∙ first-value-on ss before xs
     called-on (Multi ss) before xs =
         each_called-value ss before xs
         ∙ together ss xs before (λ is es h. each-value ss before xs is es h) (candidates (Multi ss) xs) (each_entry ss xs) (candidates-stand (Multi ss) xs)

@@ -1,5 +1,8 @@
 pub mod Options
 pub mod Syntaxes
+mod Depths
+mod Sides
+mod Equals
 mod NameSets
 mod NodeLists
 mod Marks
@@ -28,5 +31,5 @@ pub mod Runs
 pub mod Totals
 pub mod OneOutcome
 pub mod Again
-mod SelectorsEqual
+mod ErrorsEqual
 mod ReadingRows

@@ -1,5 +1,5 @@
 -- What the loops of the parser keep.
-use Rattle.std.proofs.Common.{◌≡◌, ◌≤◌, ◌∷◌, ◌++◌, [], List, ℕ, length, Option, Some, None, Result, Ok, Err, Vec, Global, ◌≢◌, map, fold, sym, subst, refl, ap, ◌∙◌, arith, append_assoc, append-nil}
+use Rattle.std.proofs.Common.{◌≡◌, ◌≤◌, ◌∷◌, ◌++◌, [], List, ℕ, length, Option, Some, None, Result, Ok, Err, IfOk, IfErr, suc, Vec, Global, ◌≢◌, map, fold, sym, subst, refl, ap, ◌∙◌, arith, append_assoc, append-nil}
 use Rattle.std.specs.Option.{IfSome}
 use Rattle.haya_entry.specs.declared.types.EntryType.{EntryType}
 use Rattle.haya_entry.specs.EntryType.{in_lower_case, type_read}
@@ -8,10 +8,10 @@ use Rattle.haya_selectors.specs.declared.token.Sign.TheVariants.{RightBracket, L
 use Rattle.haya_selectors.specs.declared.selector.Selector.{Selector}
 use Rattle.haya_selectors.specs.declared.selector.Selector.TheVariants as variant
 use Rattle.haya_selectors.specs.declared.selector.SelectorError.{SelectorError}
-use Rattle.haya_selectors.specs.Fault.{Fault, MalformedAttribute, MissingComma, UnknownEntryType}
-use Rattle.haya_selectors.specs.Grammar.{type_of, ReadsNames, closed, last_name, next_name, FailsNames, no_name, no_comma, later_name, Joint, Or, And, sign, run_syntax, before_runs, runs, in_runs, ValueForm, FactorForm, AttributesForm, BindingForm, TermForm, ExprForm, Reads, of_type, plain, unnamed, term, chain, ReadsPairs, no_pair, next_pair, ReadsTerms, next_term, Fails, unknown, in_parens, in_negated, in_plain, in_named, in_unnamed, in_pairs, in_terms, FailsPairs, in_pair, past_pair, FailsTerms, past_next}
-use Rattle.haya_selectors.specs.Parser.{Gives, ReadsRun, run_end, run_on, FailsRun, in_member, past_member}
-use Rattle.haya_selectors.specs.Syntax.{Syntax, Ancestrage, Alt, Multi, syntax, syntaxes}
+use Rattle.haya_selectors.specs.Fault.{Fault, fault, MalformedAttribute, MissingComma, UnknownEntryType}
+use Rattle.haya_selectors.specs.Grammar.{type_of, ReadsNames, closed, last_name, next_name, FailsNames, no_name, no_comma, later_name, Joint, Or, And, sign, run_syntax, before_runs, runs, in_runs, ValueForm, FactorForm, AttributesForm, BindingForm, TermForm, ExprForm, Reads, of_type, negated, plain, unnamed, term, chain, ReadsPairs, no_pair, next_pair, ReadsTerms, next_term, Fails, unknown, in_parens, in_negated, in_plain, in_named, in_unnamed, in_pairs, in_terms, FailsPairs, in_pair, past_pair, FailsTerms, past_next}
+use Rattle.haya_selectors.specs.Parser.{Gives, negations, ReadsRun, run_end, run_on, FailsRun, in_member, past_member}
+use Rattle.haya_selectors.specs.Syntax.{Syntax, Neg, Ancestrage, Alt, Multi, syntax, syntaxes}
 use Rattle.haya_selectors.specs.Token.{Token, SignToken, Word, BeginsNot, BeginsNoWord, BeginsNoName}
 use Rattle.haya_selectors.proofs.Syntaxes.{syntax-entry, syntax-alt, syntax-multi}
 
@@ -19,6 +19,11 @@ use Rattle.haya_selectors.proofs.Syntaxes.{syntax-entry, syntax-alt, syntax-mult
 pub record NamesSoFar (start now : List Token) (names : List (List ℕ)) : Type 0 where
   pub reads : (others : List (List ℕ)) (rest : List Token) → ReadsNames now others rest → ReadsNames start (names ++ others) rest
   pub fails : (f : Fault) → FailsNames now f → FailsNames start f
+  pub shorter : length now ≤ length start
+
+pub record SignsSoFar (start now : List Token) (signs : ℕ) : Type 0 where
+  pub reads : (s : Syntax) (rest : List Token) → Reads FactorForm now s rest → Reads FactorForm start (negations signs s) rest
+  pub fails : (f : Fault) → Fails FactorForm now f → Fails FactorForm start f
   pub shorter : length now ≤ length start
 
 pub record TermsSoFar (start now : List Token) (left : Syntax) : Type 0 where
@@ -77,9 +82,6 @@ terms_next {right = right} h e r s = record {
 pub in_parens_at : {ts mid : List Token} {f : Fault} → ts ≡ SignToken LeftParen ∷ mid → Fails ExprForm mid f → Fails ValueForm ts f
 in_parens_at e r = rw e (in_parens r)
 
-pub in_negated_at : {ts mid : List Token} {f : Fault} → ts ≡ SignToken ExclamationMark ∷ mid → Fails FactorForm mid f → Fails FactorForm ts f
-in_negated_at e r = rw e (in_negated r)
-
 pub in_named_at : {ts mid : List Token} {w : List ℕ} {f : Fault} → ts ≡ Word w ∷ SignToken Colon ∷ mid → Fails AttributesForm mid f → Fails BindingForm ts f
 in_named_at e r = rw e (in_named r)
 
@@ -95,9 +97,25 @@ pub type_unknown_at : (w name low : List ℕ) (rest : List Token) → name ≡ l
 unfolding type_of
 type_unknown_at w name low rest e l r = rw l (unknown (ap type_read (sym l ∙ sym e) ∙ sym r))
 
-pub factor_value : {ts ts' : List Token} (after : List Token) (r : Result Selector SelectorError) → BeginsNot ExclamationMark ts → ts' ≡ ts → Gives ValueForm ts' after r → Gives FactorForm ts after r
-factor_value after (Ok s) b e h = plain b (rw e at h)
-factor_value after (Err x) b e h = of_part (λ f. in_plain b) _ (rw e at h)
+-- the signs before a value
+pub signs_none : (start : List Token) → SignsSoFar start start 0
+signs_none start = record { reads = λ s rest r. r; fails = λ f r. r; shorter = omega arith }
+
+module _ {start now : List Token} {signs : ℕ} (h : SignsSoFar start now signs) where
+  pub signs_next : {mid : List Token} → now ≡ SignToken ExclamationMark ∷ mid → SignsSoFar start mid (suc signs)
+  signs_next e = record {
+    reads = λ s rest r. h.reads (Neg s) rest (rw e (negated r));
+    fails = λ f r. h.fails f (rw e (in_negated r));
+    shorter = omega (arith, h.shorter, ap length e);
+  }
+
+  pub value_fails : {now' : List Token} (o : Option Fault) → BeginsNot ExclamationMark now → now' ≡ now → IfSome o (Fails ValueForm now') → IfSome o (Fails FactorForm start)
+  value_fails o b e r = of_part (λ f q. h.fails f (in_plain b (rw e at q))) o r
+
+  pub value_negated : {now' : List Token} (after : List Token) (s : Syntax) (r : Result Selector SelectorError) → BeginsNot ExclamationMark now → now' ≡ now → Reads ValueForm now' s after
+      → IfOk r (λ t. syntax t ≡ negations signs s) → IfErr r (λ e. fault e ≡ None) → Gives FactorForm start after r
+  value_negated after s (Ok t) b e q is none = rw is (h.reads s after (plain b (rw e at q)))
+  value_negated after s (Err x) b e q is none = rw none tt
 
 pub binding_attributes : {ts ts' : List Token} (after : List Token) (r : Result Selector SelectorError) → BeginsNoName ts → ts' ≡ ts → Gives AttributesForm ts' after r → Gives BindingForm ts after r
 binding_attributes after (Ok s) b e h = unnamed b (rw e at h)

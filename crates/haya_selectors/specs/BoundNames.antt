@@ -20,6 +20,21 @@ abbrev mutual
   all_bound_names none = []
   all_bound_names (more s ss) = bound_names s ++ all_bound_names ss
 
+-- those that a form binds behind its first part, with its own
+abbrev pub later_of : Syntaxes → List (List ℕ)
+later_of none = []
+later_of (more s ss) = all_bound_names ss
+
+abbrev pub later_names : Syntax → List (List ℕ)
+later_names Wildcard = []
+later_names (Entry t) = []
+later_names (Neg s) = []
+later_names (Binding n s) = n ∷ []
+later_names (Attr s names) = []
+later_names (Alt ss) = later_of ss
+later_names (Multi ss) = later_of ss
+later_names (Ancestrage l r) = bound_names r
+
 -- the distinct names of a list, each at its first place
 abbrev pub distinct_names : List (List ℕ) → List (List ℕ)
 distinct_names [] = []

@@ -124,17 +124,26 @@ abbrev mutual
       option_and_then (λ c. option_map (λ ys. c.0 ∷ ys) (each_entry ss c.1))
       (first_choice (picks s) (each_stands ss) xs)
 
--- the first of the parents that the selector stands for
-abbrev pub first_candidate : Syntax → List Tree → Option Tree
-first_candidate Wildcard xs = find (λ x. true) xs
-first_candidate (Entry t) xs = find (is_of_type t) xs
-first_candidate (Attr Wildcard names) xs = find (has_names names) xs
-first_candidate (Attr (Entry t) names) xs = first_if names (is_of_type t) xs
-first_candidate (Ancestrage l r) xs = find (λ x. picks l x && stands r (parents x)) xs
-first_candidate s xs = first_entry (candidate_entries s xs)
+abbrev mutual
+  -- the first of the parents that the selector stands for
+  pub first_candidate : Syntax → List Tree → Option Tree
+  first_candidate Wildcard xs = find (λ x. true) xs
+  first_candidate (Entry t) xs = find (is_of_type t) xs
+  first_candidate (Attr Wildcard names) xs = find (has_names names) xs
+  first_candidate (Attr (Entry t) names) xs = first_if names (is_of_type t) xs
+  first_candidate (Alt ss) xs = candidate_of_first ss xs
+  first_candidate (Ancestrage l r) xs = find (λ x. picks l x && stands r (parents x)) xs
+  first_candidate s xs = first_entry (candidate_entries s xs)
+
+  -- that of the first member that holds
+  pub candidate_of_first : Syntaxes → List Tree → Option Tree
+  candidate_of_first none xs = None
+  candidate_of_first (more s none) xs = first_candidate s xs
+  candidate_of_first (more s ss) xs =
+      if stands s xs then first_candidate s xs else candidate_of_first ss xs
 
 abbrev mutual
-  -- whether the name stands in the selector
+  -- whether the name appears in the selector
   pub binds_name : List ℕ → Syntax → Bool
   binds_name q Wildcard = false
   binds_name q (Entry t) = false
@@ -175,7 +184,8 @@ abbrev mutual
   entry_called q (Neg s) before x = before
   entry_called q (Binding n s) before x = if bytes_eq n q then Some x else entry_called q s before x
   entry_called q (Attr s names) before x = entry_called q s before x
-  entry_called q (Alt ss) before x = called_by_first q ss before x
+  entry_called q (Alt ss) before x =
+      if some_binds_name q ss then called_by_first q ss before x else before
   entry_called q (Multi ss) before x = before
   entry_called q (Ancestrage l r) before x =
       parent_called q r (entry_called q l before x) (parents x)
@@ -195,7 +205,8 @@ abbrev mutual
       if bytes_eq n q then or_before (first_candidate s xs) (parent_called q s before xs) else
       parent_called q s before xs
   parent_called q (Attr s names) before xs = parent_called q s before xs
-  parent_called q (Alt ss) before xs = parent_called_by_first q ss before xs
+  parent_called q (Alt ss) before xs =
+      if some_binds_name q ss then parent_called_by_first q ss before xs else before
   parent_called q (Multi ss) before xs = each_called q ss before xs
   parent_called q (Ancestrage l r) before xs =
       option_map_or (λ x. parent_called q r (entry_called q l before x) (parents x))

@@ -1,5 +1,8 @@
 pub mod Syntax
 pub mod SyntaxCode
+pub mod Side
+pub mod Equality
+pub mod EqualityLaws
 pub mod Fault
 pub mod Token
 pub mod Cut

@@ -1,5 +1,9 @@
 -- A list of compiled nodes with the names of its slots, and how it grows.
-use Rattle.std.specs.Prelude.{◌≡◌, ◌<◌, ◌≤◌, ℕ, List, [], ◌∷◌, length, map, string_bytes}
+use Rattle.std.specs.Prelude.{◌≡◌, ◌<◌, ◌≤◌, ℕ, List, [], ◌∷◌, length, map, position, string_bytes}
+use Rattle.std.specs.Borrow.{Bor}
+use Rattle.std.specs.BTreeMap.{BTreeMap, get_by}
+use Rattle.std.specs.Cmp.Lexicographic.{slice_cmp}
+use Rattle.std.specs.Ordering.{nat_cmp}
 use Rattle.std.specs.Str.{bytes_eq}
 use Rattle.indexmap.specs.IndexSet.{insert_all}
 use Rattle.haya_selectors.specs.Compiled.{name_of, node_syntaxes, syntax_in}
@@ -33,6 +37,10 @@ pub record Keeps (old new : Nodes) : Type 0 where
 -- each of the names was added in turn, where it wasn't there yet
 abbrev pub AddsNames : Nodes → Nodes → List (List ℕ) → Type 0
 AddsNames old new names = slot_names new ≡ insert_all bytes_eq (slot_names old) names
+
+-- the map has for each of the names its place, and no other name
+abbrev pub AreSlots : BTreeMap (Bor (List ℕ)) ℕ → List (List ℕ) → Type 0
+AreSlots slots names = (name : List ℕ) → get_by (λ k. slice_cmp nat_cmp name k.now) slots ≡ position (bytes_eq name) names
 
 -- the node of the number was added, and stands for the selector
 pub record Adds (old new : Nodes) (s : Syntax) (number : ℕ) : Type 0 where

@@ -14,7 +14,7 @@ use crate::Selector;
 use crate::bindings::Bindings;
 use crate::evaluate::holds_at;
 use crate::names::Asked;
-use crate::nodes::Nodes;
+use crate::nodes::{Nodes, Slots};
 use haya_entry::{Entry, Steps};
 use haya_text::OutOfMemory;
 use std::alloc::Global;
@@ -37,7 +37,7 @@ impl Compiled {
             distinct_names (bound_names (syntax selector.now))) }
     {
         let mut nodes = Nodes::new(alloc);
-        let root = nodes.add(alloc, selector)?;
+        let root = nodes.add(alloc, &mut Slots::new(alloc), selector)?;
         nodes.mark_simple(alloc)?;
         Ok(Compiled { nodes, root })
     }

@@ -1,7 +1,7 @@
 //! Selectors that have no other inside, asked outside the evaluator's cycle of calls: what every
 //! walk comes down to.
 ghost use Rattle.std.specs.Prelude.{◌≡◌, ◌+◌, ◌<◌, [], IfSome, MatchOption};
-ghost use Rattle.std.specs.Prelude.{if◌then◌else◌, position, sum_by};
+ghost use Rattle.std.specs.Prelude.{false, if◌then◌else◌, position, sum_by};
 ghost use Rattle.haya_entry.specs.Names.{is_of_type};
 ghost use Rattle.haya_entry.specs.Tree.{view};
 ghost use Rattle.haya_selectors.specs.Binds.{binds};
@@ -34,9 +34,27 @@ fn plain_holds_at(nodes: &Nodes, number: usize, asked: &Asked) -> Option<bool>
     }
 }
 
+// `false` where a wildcard or a type doesn't hold at an entry, of a selector that then doesn't hold
+// either. `None` elsewhere, and then there is no tick.
+#[inline(always)]
+fn fails_with(nodes: &Nodes, number: usize, asked: &Asked, steps: &mut Steps) -> Option<bool>
+    requires { number < node_count nodes.now }
+    ensures answer { IfSome result (λ b. (b ≡ false)
+        × (holds (syntax_at nodes.now number) (view asked.now) ≡ false)) }
+    ensures ticks { MatchOption result (steps.new ≡ steps.old) (λ _.
+        steps.new ≡ steps.old + 1 + calls (syntax_at nodes.now number) (view asked.now)) }
+{
+    if plain_holds_at(nodes, number, asked)? {
+        return None;
+    }
+    steps.tick();
+    steps.tick();
+    Some(false)
+}
+
 // Whether a selector holds at an entry, where a wildcard or a type alone decides it: by itself, in
-// a bracket list, in a negation, or as a child that doesn't hold. `None` elsewhere, and then there
-// is no tick.
+// a bracket list, in a negation, or as what has a name or is a child, and doesn't hold. `None`
+// elsewhere, and then there is no tick.
 #[inline(always)]
 pub(crate) fn leaf_holds_at(
     nodes: &Nodes,
@@ -73,14 +91,8 @@ pub(crate) fn leaf_holds_at(
             steps.tick();
             Some(!holds)
         }
-        Node::Ancestrage(child, _) => {
-            if plain_holds_at(nodes, *child, asked)? {
-                return None;
-            }
-            steps.tick();
-            steps.tick();
-            Some(false)
-        }
+        Node::Binding(_, inner) => fails_with(nodes, *inner, asked, steps),
+        Node::Ancestrage(child, _) => fails_with(nodes, *child, asked, steps),
         _ => None,
     }
 }

@@ -1,10 +1,11 @@
 //! The nodes of a compiled selector, and how a selector is compiled.
-ghost use Rattle.std.specs.Prelude.{◌≡◌, ◌<◌, ◌≤◌, [], IfOk, IsTrue, false, get_or, length, map};
-ghost use Rattle.std.specs.Prelude.{string_bytes};
+ghost use Rattle.std.specs.Prelude.{◌≡◌, ◌<◌, ◌≤◌, [], IfOk, IsTrue, OnOk, false, get_or, length, true};
+ghost use Rattle.std.specs.Prelude.{map, string_bytes};
 ghost use Rattle.std.specs.List.{list_all};
-ghost use Rattle.haya_selectors.specs.BoundNames.{all_bound_names, bound_names};
+ghost use Rattle.haya_selectors.specs.BoundNames.{bound_names, later_names, later_of};
 ghost use Rattle.haya_selectors.specs.Compiled.{above, all_fit, fits, name_of, node_syntax};
 ghost use Rattle.haya_selectors.specs.Marks.{AreMarked};
+ghost use Rattle.haya_selectors.specs.Side.{is_end, with_first, with_first_of};
 ghost use Rattle.haya_selectors.specs.Simple.{has_plain_candidates, is_simple};
 ghost use Rattle.haya_selectors.specs.Syntax.{members_of, syntax, syntaxes};
 
@@ -13,6 +14,10 @@ use crate::names::NameSet;
 use crate::node::Node;
 use haya_text::OutOfMemory;
 use std::alloc::Global;
+use std::collections::BTreeMap;
+
+// The slot of each name that has one. Names that are made to collide cost no more than others.
+pub(crate) type Slots<'s> = BTreeMap<&'s str, usize>;
 
 // Nodes, children before parents, the names of their slots, and the numbers of the names that they
 // ask for: all, and those that more than one asks for.
@@ -29,8 +34,8 @@ pub(crate) struct Nodes {
 }
 
 impl Nodes {
-    ghost use Rattle.haya_selectors.specs.Nodes.{Adds, AddsNames, Keeps, NamesSlot, node_count};
-    ghost use Rattle.haya_selectors.specs.Nodes.{slot_names, syntax_at};
+    ghost use Rattle.haya_selectors.specs.Nodes.{Adds, AddsNames, AreSlots, Keeps, NamesSlot};
+    ghost use Rattle.haya_selectors.specs.Nodes.{node_count, slot_names, syntax_at};
 
     // No nodes.
     pub(crate) fn new(alloc: Global) -> Nodes
@@ -136,73 +141,140 @@ impl Nodes {
     }
 
     // The slot of the name, which is added where it has none.
-    fn slot_of(&mut self, alloc: Global, name: &str) -> Result<usize, OutOfMemory>
-        ensures { IfOk result (NamesSlot self.old self.new name.now) }
+    fn slot_of<'s>(
+        &mut self,
+        alloc: Global,
+        slots: &mut Slots<'s>,
+        name: &'s str,
+    ) -> Result<usize, OutOfMemory>
+        requires { AreSlots slots.old (slot_names self.old) }
+        ensures slot { IfOk result (NamesSlot self.old self.new name.now) }
+        ensures slots { OnOk result (AreSlots slots.new (slot_names self.new)) }
     {
-        let known = self.names.iter().position(|other| name == other.as_str());
-        if let Some(slot) = known {
-            return Ok(slot);
+        if let Some(slot) = slots.get(name) {
+            return Ok(*slot);
         }
         let slot = self.names.len();
         self.names.push(String::from_str(alloc, name)?)?;
+        slots.insert(name, slot)?;
         Ok(slot)
     }
 
-    // Adds the nodes of a selector, and answers the number of the last, which stands for it.
+    // Adds the nodes of a selector, and answers the number of the last, which stands for it: from the
+    // end of the first side up.
     #[cycle(compile)]
-    pub(crate) fn add(&mut self, alloc: Global, selector: &Selector) -> Result<usize, OutOfMemory>
+    pub(crate) fn add<'s>(
+        &mut self,
+        alloc: Global,
+        slots: &mut Slots<'s>,
+        selector: &'s Selector,
+    ) -> Result<usize, OutOfMemory>
+        requires { AreSlots slots.old (slot_names self.old) }
         ensures stands { IfOk result (Adds self.old self.new (syntax selector.now)) }
         ensures names { IfOk result (λ _.
             AddsNames self.old self.new (bound_names (syntax selector.now))) }
+        ensures slots { OnOk result (AreSlots slots.new (slot_names self.new)) }
+    {
+        let (mut above, end) = selector.first_side(alloc)?;
+        let mut root = self.add_end(alloc, end)?;
+        'up: while let Some(form) = above.pop() {
+            root = self.add_over(alloc, slots, form, root)?;
+        }
+        Ok(root)
+    }
+
+    // Adds the node of a selector that has no first part.
+    fn add_end(&mut self, alloc: Global, end: &Selector) -> Result<usize, OutOfMemory>
+        requires { is_end (syntax end.now) ≡ true }
+        ensures stands { IfOk result (Adds self.old self.new (syntax end.now)) }
+        ensures names { slot_names self.new ≡ slot_names self.old }
+    {
+        match end {
+            Selector::Wildcard => self.push(Node::Wildcard),
+            Selector::Entry(entry_type) => self.push(Node::Entry(*entry_type)),
+            Selector::Alt(_) => self.push(Node::Alt(Vec::new(alloc))),
+            Selector::Multi(_) => self.push(Node::Multi(Vec::new(alloc))),
+            Selector::Neg(_)
+            | Selector::Binding(_, _)
+            | Selector::Attr(_, _)
+            | Selector::Ancestrage(_, _) => unreachable!(),
+        }
+    }
+
+    // Adds the nodes of a selector whose first part is there: the node of that number.
+    #[cycle(compile)]
+    fn add_over<'s>(
+        &mut self,
+        alloc: Global,
+        slots: &mut Slots<'s>,
+        selector: &'s Selector,
+        first: usize,
+    ) -> Result<usize, OutOfMemory>
+        requires inside { first < node_count self.old }
+        requires slots { AreSlots slots.old (slot_names self.old) }
+        ensures stands { IfOk result (Adds self.old self.new
+            (with_first (syntax selector.now) (syntax_at self.old first))) }
+        ensures names { IfOk result (λ _.
+            AddsNames self.old self.new (later_names (syntax selector.now))) }
+        ensures slots { OnOk result (AreSlots slots.new (slot_names self.new)) }
     {
         match selector {
             Selector::Wildcard => self.push(Node::Wildcard),
             Selector::Entry(entry_type) => self.push(Node::Entry(*entry_type)),
-            Selector::Neg(inner) => {
-                let inner = self.add(alloc, inner)?;
-                self.push(Node::Neg(inner))
+            Selector::Neg(_) => self.push(Node::Neg(first)),
+            Selector::Binding(name, _) => {
+                let slot = self.slot_of(alloc, slots, name.as_str())?;
+                self.push(Node::Binding(slot, first))
             }
-            Selector::Binding(name, inner) => {
-                let inner = self.add(alloc, inner)?;
-                let slot = self.slot_of(alloc, name.as_str())?;
-                self.push(Node::Binding(slot, inner))
-            }
-            Selector::Attr(inner, names) => {
-                let inner = self.add(alloc, inner)?;
+            Selector::Attr(_, names) => {
                 let names = NameSet::new(names);
                 self.asked_again |= self.asked & names.numbers();
                 self.asked |= names.numbers();
-                self.push(Node::Attr(inner, names))
+                self.push(Node::Attr(first, names))
             }
             Selector::Alt(members) => {
-                let members = self.add_all(alloc, members)?;
+                let members = self.add_all(alloc, slots, first, members)?;
                 self.push(Node::Alt(members))
             }
             Selector::Multi(members) => {
-                let members = self.add_all(alloc, members)?;
+                let members = self.add_all(alloc, slots, first, members)?;
                 self.push(Node::Multi(members))
             }
-            Selector::Ancestrage(child, parent) => {
-                let child = self.add(alloc, child)?;
-                let parent = self.add(alloc, parent)?;
-                self.push(Node::Ancestrage(child, parent))
+            Selector::Ancestrage(_, parent) => {
+                let parent = self.add(alloc, slots, parent)?;
+                self.push(Node::Ancestrage(first, parent))
             }
         }
     }
 
-    // Adds the nodes of selectors, and answers the numbers of those that stand for them.
+    // Adds the nodes of selectors, of which the first is there, and answers the numbers of those that
+    // stand for them.
     #[cycle(compile)]
-    fn add_all(&mut self, alloc: Global, members: &[Selector]) -> Result<Vec<usize>, OutOfMemory>
+    fn add_all<'s>(
+        &mut self,
+        alloc: Global,
+        slots: &mut Slots<'s>,
+        first: usize,
+        members: &'s [Selector],
+    ) -> Result<Vec<usize>, OutOfMemory>
+        requires inside { first < node_count self.old }
+        requires slots { AreSlots slots.old (slot_names self.old) }
         ensures keeps { IfOk result (λ _. Keeps self.old self.new) }
         ensures inside { IfOk result (λ numbers. above numbers.items ≤ node_count self.new) }
         ensures stand { IfOk result (λ numbers.
-            syntaxes (map (syntax_at self.new) numbers.items) ≡ members_of members.now) }
+            syntaxes (map (syntax_at self.new) numbers.items) ≡
+            with_first_of (members_of members.now) (syntax_at self.old first)) }
         ensures names { IfOk result (λ _.
-            AddsNames self.old self.new (all_bound_names (members_of members.now))) }
+            AddsNames self.old self.new (later_of (members_of members.now))) }
+        ensures slots { OnOk result (AreSlots slots.new (slot_names self.new)) }
     {
         let mut numbers = Vec::with_capacity(alloc, members.len())?;
-        'members: for member in members {
-            numbers.push(self.add(alloc, member)?)?;
+        let Some((_, rest)) = members.split_first() else {
+            return Ok(numbers);
+        };
+        numbers.push(first)?;
+        'rest: for member in rest {
+            numbers.push(self.add(alloc, slots, member)?)?;
         }
         Ok(numbers)
     }

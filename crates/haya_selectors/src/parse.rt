@@ -1,8 +1,9 @@
 //! Reads a selector: a function for each form.
-ghost use Rattle.std.specs.Prelude.{◌≡◌, ◌≤◌, ◌∷◌, length};
+ghost use Rattle.std.specs.Prelude.{◌≡◌, ◌≤◌, ◌∷◌, IfErr, IfOk, None, length};
+ghost use Rattle.haya_selectors.specs.Fault.{fault};
 ghost use Rattle.haya_selectors.specs.Grammar.{ValueForm, FactorForm, AttributesForm, BindingForm};
 ghost use Rattle.haya_selectors.specs.Grammar.{TermForm, ExprForm};
-ghost use Rattle.haya_selectors.specs.Parser.{Gives, GivesNames, GivesRun};
+ghost use Rattle.haya_selectors.specs.Parser.{Gives, GivesNames, GivesRun, negations};
 ghost use Rattle.haya_selectors.specs.Syntax.{syntax};
 ghost use Rattle.haya_selectors.specs.Token.{Word};
 
@@ -93,17 +94,32 @@ fn attributes(alloc: Global, tokens: &mut Tokens<'_>) -> Result<Selector, Select
     Ok(Selector::Attr(Box::new(alloc, inner)?, list))
 }
 
-// A value, behind any number of `!`.
+// A value, behind any number of `!`: they are counted, so that none of them costs a call.
 #[cycle(parser)]
 fn factor(alloc: Global, tokens: &mut Tokens<'_>) -> Result<Selector, SelectorError>
     ensures value { Gives FactorForm tokens.old tokens.new result }
     ensures shorter { length tokens.new ≤ length tokens.old }
 {
-    if !tokens.eat_sign(Sign::ExclamationMark) {
-        return value(alloc, tokens);
+    let mut signs: usize = 0;
+    'signs: while tokens.eat_sign(Sign::ExclamationMark) {
+        signs = signs.checked_add(1).ok_or(SelectorError::OutOfMemory)?;
     }
-    let inner = factor(alloc, tokens)?;
-    Ok(Selector::Neg(Box::new(alloc, inner)?))
+    let inner = value(alloc, tokens)?;
+    negated(alloc, inner, signs)
+}
+
+// The selector behind so many `!`.
+fn negated(alloc: Global, inner: Selector, signs: usize) -> Result<Selector, SelectorError>
+    ensures value { IfOk result (λ s. syntax s ≡ negations signs (syntax inner)) }
+    ensures fault { IfErr result (λ e. fault e ≡ None) }
+{
+    let mut whole = inner;
+    let mut left = signs;
+    'wraps: while left > 0 {
+        whole = Selector::Neg(Box::new(alloc, whole)?);
+        left -= 1;
+    }
+    Ok(whole)
 }
 
 // A selector in parentheses, `*` or a type.

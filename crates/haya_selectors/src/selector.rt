@@ -12,7 +12,7 @@ use std::alloc::{AllocError, AllocFailed, Global};
 use thiserror::Error;
 
 /// Which entries are meant, and what their parts are called.
-#[derive(Debug, Drop, PartialEq, Eq)]
+#[derive(Debug)]
 pub enum Selector {
     /// `*`: any entry.
     Wildcard,
@@ -30,6 +30,34 @@ pub enum Selector {
     Multi(Vec<Selector>),
     /// `l > r`: what `l` picks, with parents that `r` picks.
     Ancestrage(Box<Selector>, Box<Selector>),
+}
+
+// A loop along the first side, on which a text without parentheses grows. What is in parentheses on
+// another side is dropped by a call of its own.
+impl Drop for Selector {
+    fn drop(mut self) {
+        loop {
+            match self {
+                Selector::Wildcard | Selector::Entry(_) => return,
+                Selector::Neg(inner) => self = Box::into_inner(inner),
+                Selector::Binding(_, inner) => self = Box::into_inner(inner),
+                Selector::Attr(inner, _) => self = Box::into_inner(inner),
+                Selector::Alt(mut members) => {
+                    if members.is_empty() {
+                        return;
+                    }
+                    self = members.swap_remove(0);
+                }
+                Selector::Multi(mut members) => {
+                    if members.is_empty() {
+                        return;
+                    }
+                    self = members.swap_remove(0);
+                }
+                Selector::Ancestrage(child, _) => self = Box::into_inner(child),
+            }
+        }
+    }
 }
 
 impl Selector {

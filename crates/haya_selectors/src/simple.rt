@@ -12,21 +12,37 @@ ghost use Rattle.haya_selectors.specs.Nodes.{members_at, node_count, syntax_at};
 ghost use Rattle.haya_selectors.specs.Places.{items_up_to};
 ghost use Rattle.haya_selectors.specs.Simple.{all_simple, has_plain_candidates, is_simple};
 
-use crate::leaves::place_of_type;
+use crate::leaves::{leaf_holds_at, place_of_type};
 use crate::names::{Asked, NameSet};
 use crate::node::Node;
 use crate::nodes::Nodes;
 use crate::places::{any_has, has_all_at};
 use haya_entry::{Entry, Steps};
 
-// Whether a simple selector holds at an entry.
+// Whether a simple selector holds at an entry. One that has no other inside is asked in the
+// caller's own code.
 #[cycle(simple)]
+#[inline(always)]
 pub(crate) fn simple_holds_at(
     nodes: &Nodes,
     number: usize,
     asked: &Asked,
     steps: &mut Steps,
 ) -> bool
+    requires inside { number < node_count nodes.now }
+    requires simple { IsTrue (is_simple (syntax_at nodes.now number)) }
+    ensures answer { result ≡ holds (syntax_at nodes.now number) (view asked.now) }
+    ensures ticks { steps.new ≡ steps.old + calls (syntax_at nodes.now number) (view asked.now) }
+{
+    match leaf_holds_at(nodes, number, asked, steps) {
+        Some(holds) => holds,
+        None => whole_simple_holds_at(nodes, number, asked, steps),
+    }
+}
+
+// The same of any simple selector.
+#[cycle(simple)]
+fn whole_simple_holds_at(nodes: &Nodes, number: usize, asked: &Asked, steps: &mut Steps) -> bool
     requires inside { number < node_count nodes.now }
     requires simple { IsTrue (is_simple (syntax_at nodes.now number)) }
     ensures answer { result ≡ holds (syntax_at nodes.now number) (view asked.now) }

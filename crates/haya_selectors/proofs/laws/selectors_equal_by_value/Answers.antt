@@ -1,5 +1,6 @@
-use Rattle.haya_selectors.proofs.SelectorsEqual.{selectors-tell}
+use Rattle.haya_selectors.specs.EqualityLaws.{syntax_eq-Decides}
+use Rattle.haya_selectors.specs.Syntax.{syntax}
 use Rattle.haya_selectors.proofs.laws.selectors_equal_by_value.Goals as goal
 
 pub returns : goal.returns
-returns c = selectors-tell
+returns c a b = syntax_eq-Decides (syntax a) (syntax b)

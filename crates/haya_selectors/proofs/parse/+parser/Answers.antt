@@ -1,10 +1,10 @@
-use Rattle.std.proofs.Common.{[], sym, ◌∙◌}
+use Rattle.std.proofs.Common.{◌≡◌, [], suc, sym, ◌∙◌, rules}
 use Rattle.std.proofs.lemmas.List.{map-append}
 use Rattle.std.proofs.lemmas.Result.{err_from_is_err_and}
-use Rattle.haya_selectors.specs.Grammar.{Or, And, no_list, with_names, in_factor, in_names, in_term, in_next, no_term, unbalanced, parens, wildcard, no_value, negated, named, in_binding, no_pair}
+use Rattle.haya_selectors.specs.Grammar.{Or, And, no_list, with_names, in_factor, in_names, in_term, in_next, no_term, unbalanced, parens, wildcard, no_value, named, in_binding, no_pair}
 use Rattle.haya_selectors.specs.Parser.{in_member}
-use Rattle.haya_selectors.proofs.Parsing.{of_part, terms_from, terms_next, in_parens_at, word_value, factor_value, binding_attributes, in_negated_at, in_named_at, run_closed, run_next, pairs_from, pairs_next, run_fails, alt_next, multi_next}
-use Rattle.haya_selectors.proofs.Syntaxes.{syntax-wildcard, syntax-neg, syntax-binding, syntax-attr, syntax-ancestrage}
+use Rattle.haya_selectors.proofs.Parsing.{of_part, terms_from, terms_next, in_parens_at, word_value, signs_none, signs_next, value_fails, value_negated, binding_attributes, in_named_at, run_closed, run_next, pairs_from, pairs_next, run_fails, alt_next, multi_next}
+use Rattle.haya_selectors.proofs.Syntaxes.{syntax-wildcard, syntax-binding, syntax-attr, syntax-ancestrage}
 use Rattle.haya_selectors.proofs.parse.+parser.Goals as goal
 
 pub attributes-returns-in_err-inner-clause-value : goal.attributes-returns-in_err-inner-clause-value
@@ -68,16 +68,24 @@ value-returns-in_default-clause-value t c =
 pub value-returns-clause-value : goal.value-returns-clause-value
 value-returns-clause-value t c = word_value _ _ c.if-eat_sign.ensures.1 c.if-eat_sign-2.ensures.1 c.in-Some.ensures (c.entry_type.ensures _)
 
-pub factor-returns-then-not-eat_sign-clause-value : goal.factor-returns-then-not-eat_sign-clause-value
-factor-returns-then-not-eat_sign-clause-value t c = factor_value _ _ c.if-not-eat_sign.ensures.0 c.if-not-eat_sign.ensures.1 c.value.ensures.value
+pub factor-signs-init : goal.factor-signs-init
+factor-signs-init t c = signs_none _
+
+pub factor-signs-preserved : goal.factor-signs-preserved
+factor-signs-preserved t c =
+    let more : c.in_ok-signs.signs ≡ suc c.signs.signs = search rules in
+    rw more (signs_next c.signs.invariant c.signs-test.ensures)
 
 pub factor-returns-in_err-inner-clause-value : goal.factor-returns-in_err-inner-clause-value
 factor-returns-in_err-inner-clause-value t c =
-    let p = err_from_is_err_and c.from_residual.result c.from_residual.ensures.1 in
-    rw (p.1, p.2) (of_part (λ f. in_negated_at c.if-not-eat_sign.ensures) _ c.in_err-inner.ensures.value)
+    let e = c.signs-test.ensures in
+    let p = err_from_is_err_and c.from_residual-in_err-inner.result c.from_residual-in_err-inner.ensures.1 in
+    rw (p.1, p.2) (value_fails c.signs.invariant _ e.0 e.1 c.in_err-inner.ensures.value)
 
 pub factor-returns-clause-value : goal.factor-returns-clause-value
-factor-returns-clause-value t c = rw (syntax-neg, c.in_ok-new.ensures.ok, c.if-not-eat_sign.ensures) (negated c.in_ok-inner.ensures.value)
+factor-returns-clause-value t c =
+    let e = c.signs-test.ensures in
+    value_negated c.signs.invariant _ _ c.negated.result e.0 e.1 c.in_ok-inner.ensures.value c.negated.ensures.value c.negated.ensures.fault
 
 pub binding-returns-in_default-clause-value : goal.binding-returns-in_default-clause-value
 binding-returns-in_default-clause-value t c = binding_attributes _ _ c.in_default.ensures.0 c.in_default.ensures.1 c.attributes.ensures.value

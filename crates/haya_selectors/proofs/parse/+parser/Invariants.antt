@@ -1,6 +1,6 @@
 use Rattle.std.proofs.Common.{◌+◌, ◌*◌, length, map}
 use Rattle.haya_selectors.specs.Syntax.{syntax}
-use Rattle.haya_selectors.proofs.Parsing.{TermsSoFar, PairsSoFar, RunSoFar}
+use Rattle.haya_selectors.proofs.Parsing.{SignsSoFar, TermsSoFar, PairsSoFar, RunSoFar}
 use Rattle.haya_selectors.proofs.parse.+parser.Given as goal
 
 abbrev pub decreases-value : goal.decreases-value
@@ -8,6 +8,12 @@ decreases-value l = 7 * length l.tokens.now
 
 abbrev pub decreases-factor : goal.decreases-factor
 decreases-factor l = 7 * length l.tokens.now + 1
+
+abbrev pub invariant-factor-signs : goal.invariant-factor-signs
+invariant-factor-signs l = SignsSoFar l.fn.tokens l.tokens l.signs
+
+abbrev pub decreases-factor-signs : goal.decreases-factor-signs
+decreases-factor-signs l = length l.tokens
 
 abbrev pub decreases-attributes : goal.decreases-attributes
 decreases-attributes l = 7 * length l.tokens.now + 2

@@ -1,4 +1,4 @@
-use Rattle.std.proofs.Common.{rules, refl, ℕ, List, ◌+◌, ◌∷◌, true, false, Option, [], drop, map, arith, sym, ap, ◌∙◌}
+use Rattle.std.proofs.Common.{rules, refl, ℕ, List, ◌+◌, ◌∷◌, Option, [], drop, map, arith, sym, ap, ◌∙◌}
 use Rattle.std.specs.Prelude.{is_some, option_and_then, option_map, slice_index_or}
 use Rattle.haya_text.proofs.Tells.{and-both}
 use Rattle.haya_entry.specs.Tree.{view}

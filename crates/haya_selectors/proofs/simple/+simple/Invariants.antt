@@ -11,17 +11,20 @@ use Rattle.haya_selectors.proofs.Walks.{to_find, to_sum}
 use Rattle.haya_selectors.proofs.simple.+simple.Given as goal
 
 -- a call goes to a node of a smaller number, or on the same node from a list to its entries
+abbrev pub decreases-whole_simple_holds_at : goal.decreases-whole_simple_holds_at
+decreases-whole_simple_holds_at l = 8 * l.number + 1
+
 abbrev pub decreases-simple_holds_at : goal.decreases-simple_holds_at
-decreases-simple_holds_at l = 8 * l.number + 1
+decreases-simple_holds_at l = 8 * l.number + 2
 
 abbrev pub decreases-first_simple : goal.decreases-first_simple
-decreases-first_simple l = 8 * l.number + 2
+decreases-first_simple l = 8 * l.number + 3
 
 abbrev pub decreases-simple_holds_on : goal.decreases-simple_holds_on
-decreases-simple_holds_on l = 8 * l.number + 3
+decreases-simple_holds_on l = 8 * l.number + 4
 
 abbrev pub decreases-simple_has_on : goal.decreases-simple_has_on
-decreases-simple_has_on l = 8 * l.number + 4
+decreases-simple_has_on l = 8 * l.number + 5
 
 abbrev pub decreases-any_simple_holds_at : goal.decreases-any_simple_holds_at
 decreases-any_simple_holds_at l = 8 * above l.members.now
