@@ -31,6 +31,9 @@ pub use Rattle.haya_entry.specs.EntryType
 pub use Rattle.haya_entry.specs.SerialNumber
 pub use Rattle.haya_entry.specs.Tree
 pub use Rattle.haya_entry.specs.Names
+pub use Rattle.haya_entry.specs.Levels
+pub use Rattle.haya_entry.specs.ParentTypes
+pub use Rattle.haya_entry.specs.Lookups
 pub use Rattle.haya_text.specs.Texts
 pub use Rattle.haya_numbers.specs.Numeric
 pub use Rattle.haya_numbers.specs.NumericReading

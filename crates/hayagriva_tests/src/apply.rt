@@ -245,10 +245,8 @@ fn asks_direct_parents_alone(rt: HostRuntime) {
     drop(entry);
 }
 
-fn holds_above_any(rt: &(impl Abort + AllocGlobal), parents: Selector) -> bool {
-    let child = Box::new(rt.alloc(), Selector::Wildcard).expect(rt, "memory");
-    let above = Box::new(rt.alloc(), parents).expect(rt, "memory");
-    let selector = Selector::Ancestrage(child, above);
+// Whether the selector holds at an article without parents.
+fn holds_alone(rt: &(impl Abort + AllocGlobal), selector: Selector) -> bool {
     let entry = made(rt, Work::Article);
     let holds = selector.matches(rt.alloc(), &entry).expect(rt, "memory");
     drop(entry);
@@ -256,12 +254,22 @@ fn holds_above_any(rt: &(impl Abort + AllocGlobal), parents: Selector) -> bool {
     holds
 }
 
-// No text reads as these: an `Alt` without members never holds, a `Multi` without members always
-// does.
+// The selector as the right side of a `>` whose left side always holds.
+fn above_any(rt: &(impl Abort + AllocGlobal), parents: Selector) -> Selector {
+    let child = Box::new(rt.alloc(), Selector::Wildcard).expect(rt, "memory");
+    let above = Box::new(rt.alloc(), parents).expect(rt, "memory");
+    Selector::Ancestrage(child, above)
+}
+
+// No text reads as these: an `Alt` without members never holds, and a `Multi` without members
+// always does on parents.
 #[test]
 fn lists_without_members(rt: HostRuntime) {
-    assert!(rt; !holds_above_any(&rt, Selector::Alt(Vec::new(rt.alloc()))));
-    assert!(rt; holds_above_any(&rt, Selector::Multi(Vec::new(rt.alloc()))));
+    assert!(rt; !holds_alone(&rt, Selector::Alt(Vec::new(rt.alloc()))));
+    let above = above_any(&rt, Selector::Alt(Vec::new(rt.alloc())));
+    assert!(rt; !holds_alone(&rt, above));
+    let above = above_any(&rt, Selector::Multi(Vec::new(rt.alloc())));
+    assert!(rt; holds_alone(&rt, above));
 }
 
 fn long_selector(rt: &(impl Abort + AllocGlobal)) -> String {

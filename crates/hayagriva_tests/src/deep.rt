@@ -1,7 +1,7 @@
 //! Selectors and entries as deep as the program's input goes, and texts past ASCII.
 use crate::works::{below, entry, selector, string};
 use hayagriva::types::EntryType;
-use hayagriva::{Entry, Selector, Steps};
+use hayagriva::{Entry, PreparedSelector, Selector, Steps};
 use std::process::Abort;
 
 const DEPTH: usize = 500;
@@ -79,4 +79,29 @@ fn deep_texts_and_texts_past_ascii(rt: HostRuntime) {
     assert!(rt; reads_as(&rt, spaced, "Ok(Ancestrage(Entry(Book), Wildcard))"));
     let accented = string(&rt, "b\u{fa}k");
     assert!(rt; reads_as(&rt, accented, "Err(UnknownEntryType(\"b\"))"));
+}
+
+// How often a sign stands in a long text.
+const LONG: usize = 5_000;
+
+// Whether the text is read, copied, compared, made ready and dropped, with equal copies.
+fn is_carried(rt: &(impl Abort + AllocGlobal), begin: &str) -> bool {
+    let text = nested(rt, begin, "*", "", LONG);
+    let read = selector(rt, text.as_str());
+    drop(text);
+    let copy = read.try_clone(rt.alloc()).expect(rt, "memory");
+    let same = copy == read;
+    drop(copy);
+    let prepared = PreparedSelector::new(rt.alloc(), &read).expect(rt, "memory");
+    drop(prepared);
+    drop(read);
+    same
+}
+
+// Without parentheses a selector is as long as memory allows.
+#[test]
+fn long_texts_take_no_stack(rt: HostRuntime) {
+    for begin in ["* > ", "!", "*|*&"] {
+        assert!(rt; is_carried(&rt, begin), "{begin}");
+    }
 }

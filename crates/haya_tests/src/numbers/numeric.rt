@@ -82,8 +82,9 @@ const REFUSED: &[(&str, NumericError)] = &[
     ),
     ("1,2,", NumericError::NoNumber),
     ("2147483648", NumericError::NoNumber),
-    ("1½", NumericError::NoNumber),
     ("٣", NumericError::NoNumber),
+    ("\u{661}", NumericError::NoNumber),
+    ("1\u{bd}", NumericError::NoNumber),
     ("1 x ", NumericError::UnexpectedCharactersAfterPostfix),
     ("1,2–-3", NumericError::UnexpectedCharactersAfterPostfix),
 ];

@@ -89,12 +89,19 @@ fn texts_are_read(rt: HostRuntime) {
     }
 }
 
-#[test]
-fn a_closing_brace_is_refused(rt: HostRuntime) {
-    let refused = ChunkedString::from_str(rt.alloc(), "a}b");
+// The fault of a text with a brace that closes nothing.
+fn brace_in(rt: &(impl Abort + AllocGlobal), text: &str) -> ChunkedStrParseError {
+    let refused = ChunkedString::from_str(rt.alloc(), text);
     let Err(ChunkedReadError::Parse(brace)) = refused else {
         panic!(rt; "a closing brace is read")
     };
+    brace
+}
+
+#[test]
+fn a_closing_brace_is_refused(rt: HostRuntime) {
+    assert_eq!(rt; brace_in(&rt, "\u{e9}}").position(), 2);
+    let brace = brace_in(&rt, "a}b");
     assert_eq!(rt; brace.position(), 1);
     let fault = ChunkedReadError::Parse(brace);
     assert!(rt; !fault.is_out_of_memory());

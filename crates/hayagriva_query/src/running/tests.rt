@@ -1,6 +1,7 @@
 //! A failed allocation ends a test, and what is owned is let go by a call: so no test has a path on
 //! which it has to drop what a run leaves, and its proof stays short.
 mod failing;
+mod faults;
 
 use super::{run, run_given};
 use crate::fault::Fault;
