@@ -1,0 +1,11 @@
+pub mod Refusal
+pub mod Whole
+pub mod Parts
+pub mod Values
+pub mod Fields
+pub mod Entries
+pub mod Libraries
+pub mod Messages
+pub mod Printed
+pub mod Writing
+pub mod ReadBack

@@ -1,0 +1,50 @@
+-- What an error shows: the place as a JSON Pointer, and the reason.
+use Rattle.std.specs.Prelude.{ℕ, List, ◌++◌, ◌==◌, flat_map, map, codes, if◌then◌else◌}
+use Rattle.std.specs.Char.{encode_utf8}
+use Rattle.std.specs.Fmt.{decimal}
+use Rattle.std.specs.Str.{chars}
+use Rattle.haya_json.specs.Refusal.{StepView, to_member, to_item, step_view}
+use Rattle.haya_json.specs.declared.error.ReadError.{ReadError}
+use Rattle.haya_json.specs.declared.error.ReadError.TheVariants.{NotJson, NameTwice, Refused, OutOfMemory}
+use Rattle.haya_json.specs.declared.fault.Why.{Why}
+use Rattle.haya_json.specs.declared.fault.Why.TheVariants.{NotObject, NotEntries, NotText, NotTruth, NotWhole, Missing, Twice, UnknownType, UnknownRole, NotChunks, NotPerson, NotDate, NotNumber, NotDuration}
+
+-- a character of a name in a pointer: `~0` for a tilde, and `~1` for a slash
+abbrev pub pointer_char : ℕ → List ℕ
+pointer_char c =
+    if c == 126 then codes "~0" else if c == 47 then codes "~1" else encode_utf8 c
+
+abbrev pub pointer_name : List ℕ → List ℕ
+pointer_name name = flat_map pointer_char (chars name)
+
+-- a step behind its slash
+abbrev pub pointer_step : StepView → List ℕ
+pointer_step (to_member name) = codes "/" ++ pointer_name name
+pointer_step (to_item n) = codes "/" ++ decimal n
+
+-- the pointer to the value at the end of these steps
+abbrev pub pointer : List StepView → List ℕ
+pointer path = flat_map pointer_step path
+
+abbrev pub why_text : Why → List ℕ
+why_text NotObject = codes "expected an object"
+why_text NotEntries = codes "expected an entry or a list of entries"
+why_text NotText = codes "expected a text"
+why_text NotTruth = codes "expected true or false"
+why_text NotWhole = codes "expected a whole number"
+why_text Missing = codes "missing"
+why_text Twice = codes "given twice"
+why_text UnknownType = codes "unknown type"
+why_text UnknownRole = codes "unknown role"
+why_text NotChunks = codes "a brace closes no group"
+why_text NotPerson = codes "not read as a person"
+why_text NotDate = codes "not read as a date"
+why_text NotNumber = codes "not read as a number"
+why_text NotDuration = codes "not read as a duration"
+
+abbrev pub error_text : ReadError → List ℕ
+error_text NotJson = codes "no JSON"
+error_text NameTwice = codes "an object has a member twice"
+error_text (Refused path why) =
+    pointer (map step_view path.items) ++ (codes ": " ++ why_text why)
+error_text OutOfMemory = codes "out of memory"

@@ -1,0 +1,120 @@
+//! Why a text is no library, and how that is shown.
+ghost use Rattle.std.specs.Prelude.{Some, map, string_bytes};
+ghost use Rattle.haya_json.specs.Messages.{error_text, pointer, pointer_char, pointer_name};
+ghost use Rattle.haya_json.specs.Messages.{pointer_step, why_text};
+ghost use Rattle.haya_json.specs.Refusal.{step_view};
+
+use crate::fault::{Step, Why};
+use std::fmt;
+
+/// Why a text is no library.
+#[derive(Debug, Drop)]
+pub enum ReadError {
+    /// The text is no JSON, or it nests more than 128 deep.
+    NotJson,
+    /// An object in it has a member twice.
+    NameTwice,
+    /// The value at the end of these steps is refused.
+    Refused(Vec<Step>, Why),
+    /// An allocation failed, which says nothing of the text.
+    OutOfMemory,
+}
+
+impl fmt::Display for ReadError {
+    ghost output = { λ e. Some (error_text e) };
+
+    /// What is wrong. A refusal has the place before it, as a JSON Pointer (RFC 6901):
+    /// `/klein2009/parent/1/date: not read as a date`.
+    fn fmt<W: fmt::Write>(&self, f: &mut fmt::Formatter<W>) -> fmt::Result {
+        match self {
+            ReadError::NotJson => f.write_str("no JSON"),
+            ReadError::NameTwice => f.write_str("an object has a member twice"),
+            ReadError::Refused(path, why) => write!(f, "{}: {why}", Pointer(path)),
+            ReadError::OutOfMemory => f.write_str("out of memory"),
+        }
+    }
+}
+
+impl std::error::Error for ReadError {}
+
+impl fmt::Display for Why {
+    ghost output = { λ why. Some (why_text why) };
+
+    /// What was expected, or what the text was not read as.
+    fn fmt<W: fmt::Write>(&self, f: &mut fmt::Formatter<W>) -> fmt::Result {
+        match self {
+            Why::NotObject => f.write_str("expected an object"),
+            Why::NotEntries => f.write_str("expected an entry or a list of entries"),
+            Why::NotText => f.write_str("expected a text"),
+            Why::NotTruth => f.write_str("expected true or false"),
+            Why::NotWhole => f.write_str("expected a whole number"),
+            Why::Missing => f.write_str("missing"),
+            Why::Twice => f.write_str("given twice"),
+            Why::UnknownType => f.write_str("unknown type"),
+            Why::UnknownRole => f.write_str("unknown role"),
+            Why::NotChunks => f.write_str("a brace closes no group"),
+            Why::NotPerson => f.write_str("not read as a person"),
+            Why::NotDate => f.write_str("not read as a date"),
+            Why::NotNumber => f.write_str("not read as a number"),
+            Why::NotDuration => f.write_str("not read as a duration"),
+        }
+    }
+}
+
+// The JSON Pointer of a path.
+#[derive(Drop)]
+struct Pointer<'a>(&'a Vec<Step>);
+
+impl fmt::Display for Pointer<'_> {
+    ghost output = { λ p. Some (pointer (map step_view p.0.now.items)) };
+
+    fn fmt<W: fmt::Write>(&self, f: &mut fmt::Formatter<W>) -> fmt::Result {
+        for step in self.0 {
+            write!(f, "{step}")?;
+        }
+        Ok(())
+    }
+}
+
+impl fmt::Display for Step {
+    ghost output = { λ step. Some (pointer_step (step_view step)) };
+
+    /// The step as a part of a JSON Pointer, behind a slash.
+    fn fmt<W: fmt::Write>(&self, f: &mut fmt::Formatter<W>) -> fmt::Result {
+        match self {
+            Step::Name(name) => write!(f, "/{}", PointerName(name)),
+            Step::Place(place) => write!(f, "/{place}"),
+        }
+    }
+}
+
+// A name in a JSON Pointer: `~0` for a tilde, and `~1` for a slash.
+#[derive(Drop)]
+struct PointerName<'a>(&'a String);
+
+impl fmt::Display for PointerName<'_> {
+    ghost output = { λ name. Some (pointer_name (string_bytes name.0.now)) };
+
+    fn fmt<W: fmt::Write>(&self, f: &mut fmt::Formatter<W>) -> fmt::Result {
+        for c in self.0.as_str().chars() {
+            write!(f, "{}", PointerChar(c))?;
+        }
+        Ok(())
+    }
+}
+
+// A character of such a name.
+#[derive(Clone, Copy)]
+struct PointerChar(char);
+
+impl fmt::Display for PointerChar {
+    ghost output = { λ c. Some (pointer_char c.0) };
+
+    fn fmt<W: fmt::Write>(&self, f: &mut fmt::Formatter<W>) -> fmt::Result {
+        match self.0 {
+            '~' => write!(f, "~0"),
+            '/' => write!(f, "~1"),
+            c => write!(f, "{c}"),
+        }
+    }
+}

@@ -1,0 +1,8 @@
+//! The values of fields, as JSON says them.
+mod dates;
+mod durations;
+mod numbers;
+mod people;
+mod serials;
+mod sources;
+mod texts;
