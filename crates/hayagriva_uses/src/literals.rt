@@ -1,10 +1,11 @@
 //! A proved call for each form of selector. What each ensures speaks of entries alone: their types,
 //! names and parents.
-ghost use Rattle.std.specs.Prelude.{◌≡◌, ◌&&◌, ◌||◌, All, IfOk, IsOkUnless, None, Some, codes};
-ghost use Rattle.std.specs.Prelude.{filter, find, map, not, true};
+ghost use Rattle.std.specs.Prelude.{◌≡◌, ◌&&◌, ◌||◌, if◌then◌else◌, All, IfOk, IsOkUnless};
+ghost use Rattle.std.specs.Prelude.{None, Some, codes, filter, find, map, not, true};
 ghost use Rattle.std.specs.List.{list_any};
 ghost use Rattle.std.specs.Option.{option_map_or};
-ghost use Rattle.haya_entry.specs.declared.types.EntryType.TheVariants.{Article, Book, Periodical};
+ghost use Rattle.haya_entry.specs.declared.types.EntryType.TheVariants.{Article, Book, Chapter};
+ghost use Rattle.haya_entry.specs.declared.types.EntryType.TheVariants.{Periodical, Proceedings};
 ghost use Rattle.haya_entry.specs.Names.{is_of_type, has_name};
 ghost use Rattle.haya_entry.specs.Tree.{parents};
 ghost use Rattle.hayagriva.specs.declared.SelectorError.TheVariants.{OutOfMemory};
@@ -82,6 +83,26 @@ pub fn articles_and_books<'s>(
     ensures error { IsOkUnless result OutOfMemory }
 {
     library.query(alloc, "article | book", &mut Steps::new())
+}
+
+/// `|` on both sides of `>`: the articles and the chapters with a book or proceedings among their
+/// parents, each with the first book as `p`, or where there is none the first proceedings.
+pub fn in_books<'s>(alloc: Global, library: &'s Library) -> Result<Vec<Hit<'s>>, SelectorError>
+    ensures hits { IfOk result (λ hits. map hit_entry hits.items ≡
+        filter (λ x. (is_of_type Article x || is_of_type Chapter x)
+        && (list_any (is_of_type Book) (parents x) || list_any (is_of_type Proceedings) (parents x)))
+        library.now) }
+    ensures named { IfOk result (λ hits. All (λ hit. hit_bound hit (codes "p")
+        ≡ (if list_any (is_of_type Book) (parents (hit_entry hit))
+        then find (is_of_type Book) (parents (hit_entry hit))
+        else find (is_of_type Proceedings) (parents (hit_entry hit)))) hits.items) }
+    ensures error { IsOkUnless result OutOfMemory }
+{
+    library.query(
+        alloc,
+        "(article | chapter) > p:(book | proceedings)",
+        &mut Steps::new(),
+    )
 }
 
 /// `&`: the entries with a periodical among their parents, and a book among the others.

@@ -2,6 +2,7 @@
 //! of entries, and by one that is only known when it runs.
 #![tactic(auto)]
 
+mod callers;
 mod literals;
 mod sample;
 
@@ -67,11 +68,22 @@ fn print_read(rt: &impl Print, alloc: Global, library: &Library, text: &str) -> 
     printed
 }
 
+// Prints the keys of the articles with a DOI one at a time, and how often the evaluator was called.
+fn print_in_turn(rt: &impl Print, alloc: Global, library: &Library) -> anyhow::Result<()> {
+    let mut query = library.query_iter(alloc, "article[doi]")?;
+    for hit in &mut query {
+        println!(rt; "{}", hit?.entry.key())?;
+    }
+    println!(rt; "{} steps", query.steps().seen())?;
+    Ok(())
+}
+
 fn print_all(rt: &impl Print, alloc: Global, library: &Library) -> anyhow::Result<()> {
     print_read(rt, alloc, library, "article > p:periodical")?;
     print_hits(rt, &articles_with_doi(alloc, library)?, "p")?;
     print_hits(rt, &works_with_doi(alloc, library)?, "a")?;
     println!(rt; "{}", hit_count(alloc, library, "* > !blog")?)?;
+    print_in_turn(rt, alloc, library)?;
     Ok(())
 }
 

@@ -1,0 +1,7 @@
+//! The callers that the documents of the crates show, each under the name of its crate.
+pub mod entry;
+pub mod numbers;
+pub mod people;
+pub mod text;
+pub mod time;
+pub mod values;
