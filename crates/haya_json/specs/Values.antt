@@ -87,7 +87,7 @@ person_in j =
       alias = alias;
     })))))))
 
--- a text, cut at its commas, or an object of the parts of the name
+-- a text whose parts are separated by commas, or an object of the parts of the name
 unfoldable pub person_of : Json → Result PersonView Refusal
 person_of j =
     if is_object j then person_in j

@@ -22,7 +22,7 @@ impl FromJson for Person {
 
     ghost reads = { person_of };
 
-    /// A text, cut at its commas, or an object of the parts of the name.
+    /// A text whose parts are separated by commas, or an object of the parts of the name.
     #[tactic(auto, unfolding(crate::specs::Values::person_of))]
     fn from_json(alloc: Global, json: &Value<'_>) -> Result<Person, Fault> {
         match json {
