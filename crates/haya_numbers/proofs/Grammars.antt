@@ -238,7 +238,7 @@ lacks-value n text e = go (first_delimiter text) refl e
     }
 
 -- the zeros of a prefix
-abbrev is_zero : ℕ → Bool
+abbrev pub is_zero : ℕ → Bool
 is_zero c = nat_eq c 48
 
 zero_numeric : (z : ℕ) → nat_eq z 48 ≡ true → is_numeric z ≡ true
@@ -248,7 +248,7 @@ next_numeric : (zs r : List ℕ) → list_all is_zero zs ≡ true → starts is_
 next_numeric [] r m s = s
 next_numeric (z ∷ zs) r m s = zero_numeric z (and-both (nat_eq z 48) (list_all is_zero zs) m).0
 
-zeros-all : (zs r : List ℕ) → list_all is_zero zs ≡ true → starts is_zero r ≡ false → starts is_numeric r ≡ true → (spare_zeros (zs ++ r) ≡ zs) × (past_zeros (zs ++ r) ≡ r)
+pub zeros-all : (zs r : List ℕ) → list_all is_zero zs ≡ true → starts is_zero r ≡ false → starts is_numeric r ≡ true → (spare_zeros (zs ++ r) ≡ zs) × (past_zeros (zs ++ r) ≡ r)
 zeros-all [] [] m s h = cc
 zeros-all [] (c ∷ r) m s h = rw s (refl, refl)
 zeros-all (z ∷ zs) r m s h =
@@ -261,7 +261,7 @@ last_numeric : (kept r : List ℕ) → list_all is_zero (kept ++ 48 ∷ []) ≡ 
 last_numeric [] r m = zero_numeric 48 refl
 last_numeric (k ∷ kept) r m = zero_numeric k (and-both (nat_eq k 48) (list_all is_zero (kept ++ 48 ∷ [])) m).0
 
-zeros-last : (kept r : List ℕ) → list_all is_zero (kept ++ 48 ∷ []) ≡ true → starts is_numeric r ≡ false → (spare_zeros ((kept ++ 48 ∷ []) ++ r) ≡ kept) × (past_zeros ((kept ++ 48 ∷ []) ++ r) ≡ 48 ∷ r)
+pub zeros-last : (kept r : List ℕ) → list_all is_zero (kept ++ 48 ∷ []) ≡ true → starts is_numeric r ≡ false → (spare_zeros ((kept ++ 48 ∷ []) ++ r) ≡ kept) × (past_zeros ((kept ++ 48 ∷ []) ++ r) ≡ 48 ∷ r)
 zeros-last [] r m h = rw h (refl, refl)
 zeros-last (k ∷ kept) r m h =
     let both = and-both (nat_eq k 48) (list_all is_zero (kept ++ 48 ∷ [])) m in
@@ -269,7 +269,7 @@ zeros-last (k ∷ kept) r m h =
     let one : nat_eq k 48 ≡ true = both.0 in
     rw (one, last_numeric kept r both.1) (ap (λ v. k ∷ v) more.0, more.1)
 
-zeros-none : (r : List ℕ) → starts is_zero r ≡ false → (spare_zeros r ≡ []) × (past_zeros r ≡ r)
+pub zeros-none : (r : List ℕ) → starts is_zero r ≡ false → (spare_zeros r ≡ []) × (past_zeros r ≡ r)
 zeros-none [] s = (refl, refl)
 zeros-none (c ∷ r) s = rw s (refl, refl)
 
@@ -278,7 +278,7 @@ keeps-is {zeros} {rest} (AllZeros h k b) m s = rw (k, b) (zeros-all zeros rest m
 keeps-is {zeros} {rest} (NoZeros h z k b) m s = rw (z, k, b) (zeros-none rest s)
 keeps-is {zeros} {rest} {kept} (ButLast h z b) m s = let ms : list_all is_zero (kept ++ 48 ∷ []) ≡ true = rw z at m in rw (z, b) (zeros-last kept rest ms h)
 
-zeros-turned : (z : ℕ) (zs : List ℕ) → list_all is_zero (z ∷ zs) ≡ true → z ∷ zs ≡ zs ++ 48 ∷ []
+pub zeros-turned : (z : ℕ) (zs : List ℕ) → list_all is_zero (z ∷ zs) ≡ true → z ∷ zs ≡ zs ++ 48 ∷ []
 zeros-turned z [] m = let one = (and-both (nat_eq z 48) true m).0 in let same : z ≡ 48 = grind (arith, nat_tests) in ap (λ v. v ∷ []) same
 zeros-turned z (y ∷ zs) m =
     let both = and-both (nat_eq z 48) (list_all is_zero (y ∷ zs)) m in

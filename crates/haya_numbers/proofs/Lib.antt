@@ -13,9 +13,11 @@ mod PartLemmas
 mod PieceLaws
 mod PieceLemmas
 mod Places
+mod Prefixes
 mod ReadLaws
 mod ReadLemmas
 mod ReadsBack
+mod RomanLetters
 mod Romans
 mod Rows
 mod Runs

@@ -15,3 +15,4 @@ pub mod PagesOrder
 pub mod PagesPrinted
 pub mod PagesReading
 pub mod Pieces
+pub mod Romans

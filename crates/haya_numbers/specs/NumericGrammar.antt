@@ -70,7 +70,7 @@ pub data LacksItem : List ℕ → Type 0 where
       → LacksItem behind → LacksItem text
 
 -- Of the zeros before the rest, which are the prefix's, and what stands behind them: all, where a
--- numeric character follows, and else all but the last.
+-- numeric character follows, and otherwise all but the last.
 pub data KeepsZeros : List ℕ → List ℕ → List ℕ → List ℕ → Type 0 where
   AllZeros : {zeros rest kept behind : List ℕ} → starts is_numeric rest ≡ true → kept ≡ zeros
       → behind ≡ rest → KeepsZeros zeros rest kept behind

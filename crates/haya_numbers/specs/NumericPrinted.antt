@@ -35,7 +35,8 @@ abbrev pub value_text : (ℤ → List ℕ) → (NumericDelimiter → List ℕ) �
 value_text number delimiter (Single n) = number n
 value_text number delimiter (SetOf items) = flat_map (item_text number delimiter) items
 
--- what is written for a delimiter: for a machine its character in ASCII, else what is shown
+-- what is written for a delimiter: for a machine its character in ASCII, otherwise what is
+-- shown
 abbrev pub formatted_delimiter : Bool → NumericDelimiter → List ℕ
 formatted_delimiter true d = delimiter_char d ∷ []
 formatted_delimiter false d = delimiter_text d

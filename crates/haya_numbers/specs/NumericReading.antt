@@ -19,7 +19,7 @@ delimiter_of c =
     else if c == hyphen || c == en_dash then Some Hyphen
     else None
 
--- The delimiter that a text of several characters is: a hyphen with anything after it, or else one
+-- The delimiter that a text of several characters is: a hyphen with anything after it, or one
 -- character alone.
 abbrev pub delimiter_read : List ℕ → Result NumericDelimiter NumericError
 delimiter_read [] = Err MissingDelimiter

@@ -40,7 +40,7 @@ halves_read range (start ∷ end ∷ []) =
     result_map_both (λ p. range p.0 p.1) (λ e. e) (both_read start end)
 halves_read range (start ∷ end ∷ third ∷ more) = result_and (both_read start end) (Err Malformed)
 
--- the halves round escaped hyphens, where there is one, or else those round dashes
+-- the halves round escaped hyphens, where there is one, otherwise those round dashes
 abbrev pub cut_read : List ℕ → Result PartView PageRangesPartErr
 cut_read cs =
     if nat_lt 1 (length (escaped_split cs)) then halves_read EscapedRange (escaped_split cs)

@@ -7,7 +7,7 @@ use Rattle.haya_numbers.specs.Characters.{ampersand, comma, starts}
 abbrev pub is_separator : ℕ → Bool
 is_separator c = c == comma || c == ampersand
 
--- a character before pieces: in the first where neither is a separator, else as a piece of its own
+-- a character before pieces: in the first where neither is a separator, otherwise alone
 abbrev pub onto_pieces : ℕ → List (List ℕ) → List (List ℕ)
 onto_pieces c [] = (c ∷ []) ∷ []
 onto_pieces c (p ∷ ps) =

@@ -1,14 +1,16 @@
 //! Laws of the definitions. A call of one, as `equal_by_value();`, gives its statement to the
 //! caller's proof.
-ghost use Rattle.std.specs.Prelude.{◌≡◌, ◌↔◌, ℕ, List, true, Ok, Err};
+ghost use Rattle.std.specs.Prelude.{◌≡◌, ◌↔◌, ◌<◌, ℕ, List, true, Ok, Err};
 ghost use Rattle.std.specs.Str.{chars};
 ghost use Rattle.std.specs.Cmp.{IsTotalOrder};
 ghost use Rattle.haya_text.specs.Equality.{EqualsByValue, EqualsByView, HashesAlike};
 ghost use Rattle.haya_numbers.specs.Numeric.{NumericView, value_view, numeric_view, csl_order};
 ghost use Rattle.haya_numbers.specs.NumericBack.{reads_back as is_back};
+ghost use Rattle.haya_numbers.specs.NumericForms.{roman_text};
 ghost use Rattle.haya_numbers.specs.NumericGrammar.{IsFault, ReadsAs};
 ghost use Rattle.haya_numbers.specs.NumericPrinted.{shown_numeric};
 ghost use Rattle.haya_numbers.specs.NumericReading.{numeric_read};
+ghost use Rattle.haya_numbers.specs.Romans.{letters_by_place, letters_value};
 ghost use Rattle.haya_numbers.specs.declared.numeric.NumericError.{NumericError};
 
 pub mod pages;
@@ -61,4 +63,11 @@ pub fn reads_its_parts()
         ↔ (numeric_read text ≡ Ok v) }
     ensures fault { (text : List ℕ) (e : NumericError) → IsFault (chars text) e
         ↔ (numeric_read text ≡ Err e) }
+{}
+
+/// Roman letters from 1 to 3999 are those of each decimal place, and their values give the number
+/// back. For 0 there are none.
+pub fn roman_letters()
+    ensures places { (n : ℕ) → n < 4000 → roman_text n ≡ letters_by_place n }
+    ensures value { (n : ℕ) → n < 4000 → letters_value (roman_text n) ≡ n }
 {}

@@ -31,8 +31,8 @@ pub fn halves()
         AreHalves IsDash text hs ↔ (hs ≡ dash_split text) }
 {}
 
-/// A text reads as pages exactly where each of its pieces reads as a part, and else its fault is
-/// that of the first piece that has one.
+/// A text reads as pages exactly where each of its pieces reads as a part, and otherwise its fault
+/// is that of the first piece that has one.
 pub fn reads_by_pieces()
     ensures read { (text : List ℕ) (ps : List PartView) →
         (pages_read text ≡ Ok ps) ↔ (map part_read (pieces text) ≡ map (λ p. Ok p) ps) }

@@ -53,8 +53,8 @@ pub trait Ordinals {
 
 impl Numeric {
     /// Writes the numbers in that form, without affixes. What ordinal numbers look like, perhaps by
-    /// gender, is asked of `ordinals`; where there is no word, the digits and the suffix stand
-    /// in for it. Roman letters write 1 to 3999, any other number is written in digits. The
+    /// gender, is asked of `ordinals`; where there is no word, the digits and the suffix are
+    /// written. Roman letters write 1 to 3999, any other number is written in digits. The
     /// writer's fault ends the call.
     pub fn with_form<W: fmt::Write, O: Ordinals>(
         &self,

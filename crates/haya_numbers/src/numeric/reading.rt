@@ -1,12 +1,13 @@
 //! Reads numbers.
 ghost use Rattle.std.specs.Prelude.{◌≡◌, ◌++◌, ◌<◌, ℕ, ℤ, pos, Some, None, IfOk, IfErr, IfSome};
-ghost use Rattle.std.specs.Prelude.{MatchBool, MatchOption, MatchResult, OnOk, Ok, option_map};
+ghost use Rattle.std.specs.Prelude.{MatchOption, MatchResult, OnOk, Ok, option_map};
 ghost use Rattle.std.specs.Prelude.{length, string_bytes, false};
 ghost use Rattle.std.specs.Char.{is_whitespace};
 ghost use Rattle.std.specs.Result.{result_ok};
 ghost use Rattle.std.specs.Str.{chars, encode_utf8_all, skip_leading_whitespace};
-ghost use Rattle.haya_numbers.specs.Characters.{is_numeric, is_delimiter, run, past_run};
-ghost use Rattle.haya_numbers.specs.Classes.{has, appended, IsSpareZero, NoSpareZero};
+ghost use Rattle.haya_text.specs.Cursor.{text_len};
+ghost use Rattle.haya_numbers.specs.Characters.{is_numeric, is_delimiter, run, past_run, starts};
+ghost use Rattle.haya_numbers.specs.Classes.{has, appended, own_zeros};
 ghost use Rattle.haya_numbers.specs.Numeric.{value_view, affix_view, numeric_view, is_memory};
 ghost use Rattle.haya_numbers.specs.NumericReading.{magnitude, number_front, delimiter_read};
 ghost use Rattle.haya_numbers.specs.NumericReading.{item_front, items_read, set_from};
@@ -26,6 +27,7 @@ use std::alloc::Global;
 #[derive(Clone, Copy)]
 enum Class {
     Affix,
+    Zero,
     Numeric,
     White,
     Delimiter,
@@ -39,6 +41,7 @@ impl Class {
     {
         match self {
             Class::Affix => !(is_numeric(c) || c == '-'),
+            Class::Zero => c == '0',
             Class::Numeric => is_numeric(c),
             Class::White => c.is_whitespace(),
             Class::Delimiter => is_delimiter(c),
@@ -51,6 +54,7 @@ impl Class {
 fn eat_run<'a>(cursor: &mut Cursor<'a>, class: Class) -> &'a str
     ensures run { chars result.now ≡ run (has class) cursor.old.rest }
     ensures rest { cursor.new.rest ≡ past_run (has class) cursor.old.rest }
+    ensures same_text { text_len cursor.new ≡ text_len cursor.old }
 {
     cursor.eat_while(
         |c| -> bool
@@ -67,23 +71,35 @@ fn eat_white<'a>(cursor: &mut Cursor<'a>) -> &'a str
     eat_run(cursor, Class::White)
 }
 
-// Takes a zero that a numeric character follows.
-fn eat_spare_zero(cursor: &mut Cursor) -> bool
-    ensures { MatchBool result
-        (IsSpareZero cursor.old.rest cursor.new.rest)
-        (NoSpareZero cursor.old.rest × (cursor.new ≡ cursor.old)) }
+// How many of these zeros are the number's own: the last one, where no numeric character is next.
+fn own_zeros(zeros: &str, cursor: &Cursor) -> usize
+    ensures { result ≡ own_zeros (chars zeros.now) cursor.now.rest }
 {
-    let mut ahead = cursor.fork();
-    if !ahead.eat_if('0') {
-        return false;
+    if zeros.is_empty() {
+        return 0;
     }
-    match ahead.peek() {
-        Some(next) if is_numeric(next) => {
-            cursor.eat();
-            true
-        }
-        _ => false,
+    if is_next_numeric(cursor) { 0 } else { 1 }
+}
+
+// Whether a numeric character is next.
+fn is_next_numeric(cursor: &Cursor) -> bool
+    ensures { result ≡ starts is_numeric cursor.now.rest }
+{
+    match cursor.peek() {
+        Some(next) => is_numeric(next),
+        None => false,
     }
+}
+
+// The text cut behind its prefix.
+fn split_prefix(text: &str) -> (&str, &str)
+    ensures prefix { result.0.now ≡ encode_utf8_all (prefix_run (chars text.now)) }
+    ensures rest { chars result.1.now ≡ past_prefix (chars text.now) }
+{
+    let mut cursor = Cursor::new(text);
+    eat_run(&mut cursor, Class::Affix);
+    let zeros = eat_run(&mut cursor, Class::Zero);
+    text.split_at(cursor.place() - own_zeros(zeros, &cursor))
 }
 
 // Takes the value of the numeric characters that stand next.
@@ -188,20 +204,6 @@ fn boxed(alloc: Global, text: String) -> Result<Option<Box<String>>, NumericErro
     Ok(Some(Box::new(alloc, text)?))
 }
 
-// Takes the prefix.
-fn eat_prefix(alloc: Global, cursor: &mut Cursor) -> Result<Option<Box<String>>, NumericError>
-    ensures bytes { IfOk result (λ b. affix_view b
-        ≡ affix (encode_utf8_all (prefix_run cursor.old.rest))) }
-    ensures rest { OnOk result (cursor.new.rest ≡ past_prefix cursor.old.rest) }
-    ensures fault { IfErr result (λ e. e ≡ OutOfMemory) }
-{
-    let mut prefix = String::from_str(alloc, eat_run(cursor, Class::Affix))?;
-    'zeros: while eat_spare_zero(cursor) {
-        prefix.push('0')?;
-    }
-    boxed(alloc, prefix)
-}
-
 // The suffix behind this white space; an empty one is none.
 fn suffix_behind(
     alloc: Global,
@@ -252,7 +254,8 @@ fn read_numeric(alloc: Global, text: &str) -> Result<Numeric, NumericError>
 {
     let mut cursor = Cursor::new(text);
     cursor.eat_whitespace();
-    let prefix = eat_prefix(alloc, &mut cursor)?;
+    let (prefix, behind) = split_prefix(cursor.rest());
+    let mut cursor = Cursor::new(behind);
     let number = eat_number(&mut cursor)?;
     let white = eat_white(&mut cursor);
     let value = eat_value(alloc, number, &mut cursor)?;
@@ -263,7 +266,7 @@ fn read_numeric(alloc: Global, text: &str) -> Result<Numeric, NumericError>
     }
     Ok(Numeric {
         value,
-        prefix,
+        prefix: boxed(alloc, String::from_str(alloc, prefix)?)?,
         suffix: suffix_behind(alloc, white, suffix)?,
     })
 }

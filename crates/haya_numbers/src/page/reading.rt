@@ -1,5 +1,5 @@
 //! Reads pages.
-ghost use Rattle.std.specs.Prelude.{◌∷◌};
+ghost use Rattle.std.specs.Prelude.{◌≡◌, ◌∷◌};
 ghost use Rattle.std.specs.Str.{chars};
 ghost use Rattle.haya_numbers.specs.Cuts.{dash_split, escaped_split};
 ghost use Rattle.haya_numbers.specs.Numeric.{numeric_view};
@@ -11,7 +11,7 @@ use super::cuts::{split_dash, split_escaped};
 use super::split_pages;
 use crate::{Numeric, PageRanges, PageRangesPart, PageRangesPartErr};
 use haya_text::ReadText;
-use std::alloc::Global;
+use std::alloc::{AllocError, Global};
 
 impl ReadText for PageRangesPart {
     type Fault = PageRangesPartErr;
@@ -82,15 +82,27 @@ impl ReadText for PageRanges {
 fn read_pieces(alloc: Global, text: &str) -> Result<PageRanges, PageRangesPartErr>
     ensures { Reads parts (pages_read (chars text.now)) result }
 {
-    // Most texts have one part, and most others three: two and what separates them.
     let mut ranges = Vec::with_capacity(alloc, 1)?;
     'pieces: for piece in split_pages(text) {
-        if ranges.len() == 1 {
-            ranges.reserve_exact(2)?;
-        }
-        ranges.push(read_part(alloc, piece)?)?;
+        let part = read_part(alloc, piece)?;
+        make_room(&mut ranges)?;
+        ranges.push(part)?;
     }
+    ranges.shrink_to_fit();
     Ok(PageRanges { ranges })
+}
+
+// Room for a part more, and where there is none yet, for half as many parts again: doubled room
+// would take more than the parts themselves. Most texts have one part, and most others three: two
+// and what separates them.
+fn make_room(ranges: &mut Vec<PageRangesPart>) -> Result<(), AllocError>
+    ensures { ranges.new.items ≡ ranges.old.items }
+{
+    let count = ranges.len();
+    if count == ranges.capacity() {
+        ranges.reserve_exact(count / 2 + 2)?;
+    }
+    Ok(())
 }
 
 // Reads a part.
