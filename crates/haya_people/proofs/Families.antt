@@ -1,5 +1,5 @@
 -- The words of a text, and the name among those of a family part.
-use Rattle.std.proofs.Common.{◌≡◌, ◌≢◌, ℕ, ◌-◌, length-append, Bool, true, false, cond, ◌||◌, List, [], ◌∷◌, ◌++◌, length, take, drop, refl, ap, sym, ◌∙◌, append_assoc, arith}
+use Rattle.std.proofs.Common.{◌≡◌, ◌≢◌, ℕ, ◌-◌, length-append, Bool, true, false, cond, ◌||◌, ◌&&◌, List, [], ◌∷◌, ◌++◌, length, take, drop, refl, ap, sym, ◌∙◌, append_assoc, arith}
 use Rattle.std.proofs.lemmas.List.{append-nil, take-append-drop}
 use Rattle.std.proofs.lemmas.Str.{chars-append, chars-nil, chars_from_encodes, chars_past_char, IsUtf8-take, IsUtf8-drop, IsUtf8-nil, IsCharBoundary-at_seam, encodes-chars}
 use Rattle.std.specs.Char.{is_whitespace, encode_utf8}
@@ -7,7 +7,7 @@ use Rattle.std.specs.Str.{chars, IsUtf8, IsCharBoundary, NonePass, NoCharPasses,
 use Rattle.std.specs.Str.Pattern.{HasPassingCharAt}
 use Rattle.unicode.specs.Binary.{is_lowercase}
 use Rattle.haya_people.specs.Words.{Word, onto_word, onto_gap, words, joined_words, first_passes}
-use Rattle.std.specs.List.{list_any}
+use Rattle.std.specs.List.{list_all, list_any}
 use Rattle.haya_people.proofs.WordLemmas.{Inner, joined_words-words, word-before, word-last}
 use Rattle.haya_people.specs.Reading.{words_of, is_lower, last_word, words_behind_lower, name_words, name_of, IsEnd, IsFirstWord}
 
@@ -177,6 +177,39 @@ lower_next_other text left name word behind s f b = record {
   words = lower_step text left name word behind s f ∙ ap (λ t. behind_or (cond t (words_of behind) (words_of name)) (words_of behind)) b;
 }
 
+-- a loop over the words has come to `left`: where the last word begins, what stands behind the last
+-- lower word, and whether all words before `left` are lower
+pub record NameSoFar (text left last name : List ℕ) (all : Bool) : Type 0 where
+  pub for_last : LastSoFar text left last
+  pub for_name : LowerSoFar text left name
+  pub lower : list_all is_lower (words_of text) ≡ (all && list_all is_lower (words_of left))
+
+pub name_none : (text : List ℕ) → IsUtf8 text → NameSoFar text text text text true
+name_none text u = record { for_last = last_none text u; for_name = lower_none text u; lower = refl }
+
+lower_more : (text left last name word behind : List ℕ) (all b : Bool) → NameSoFar text left last name all → IsFirstWord left word behind → first_passes is_lowercase (chars word) ≡ b
+    → list_all is_lower (words_of text) ≡ (all && (b && list_all is_lower (words_of behind)))
+lower_more text left last name word behind all b s f e =
+    s.lower ∙ ap (λ ws. all && list_all is_lower ws) f.words ∙ ap (λ t. all && (t && list_all is_lower (words_of behind))) e
+
+pub name_next_lower : (text left last name word behind : List ℕ) (all : Bool) → NameSoFar text left last name all → IsFirstWord left word behind → first_passes is_lowercase (chars word) ≡ true → NameSoFar text behind left behind all
+name_next_lower text left last name word behind all s f e = record {
+  for_last = last_next text left last word behind s.for_last f;
+  for_name = lower_next_lower text left name word behind s.for_name f e;
+  lower = lower_more text left last name word behind all true s f e;
+}
+
+none_lower : (all b : Bool) → (all && (false && b)) ≡ false
+none_lower true b = refl
+none_lower false b = refl
+
+pub name_next_other : (text left last name word behind : List ℕ) (all : Bool) → NameSoFar text left last name all → IsFirstWord left word behind → first_passes is_lowercase (chars word) ≡ false → NameSoFar text behind left name false
+name_next_other text left last name word behind all s f e = record {
+  for_last = last_next text left last word behind s.for_last f;
+  for_name = lower_next_other text left name word behind s.for_name f e;
+  lower = lower_more text left last name word behind all false s f e ∙ none_lower all (list_all is_lower (words_of behind));
+}
+
 -- no word is left at the end of the text
 pub words_of-empty : (left : List ℕ) → left ≡ [] → words_of left ≡ []
 unfolding words
@@ -186,6 +219,19 @@ words_of-empty left e = rw (e, chars-nil) refl
 pub name_by_words : (family name : List ℕ) → IsUtf8 name → words_of name ≡ name_words (words_of family) → name ≡ name_of family
 unfolding name_of
 name_by_words family name u e = sym (encodes-chars name u) ∙ ap encode_utf8_all (sym (joined_words-words is_whitespace (chars name)) ∙ ap joined_words e)
+
+all_or : (all : Bool) → (all && true) ≡ all
+all_or true = refl
+all_or false = refl
+
+-- where no word is left, whether all are lower is known, and so is the name
+pub name_words-end : (text left last name : List ℕ) (all : Bool) → NameSoFar text left last name all → left ≡ [] → name_words (words_of text) ≡ cond all (words_of last) (words_of name)
+name_words-end text left last name all s e =
+    let none : words_of left ≡ [] = words_of-empty left e in
+    let known : list_all is_lower (words_of text) ≡ all = s.lower ∙ ap (λ ws. all && list_all is_lower ws) none ∙ all_or all in
+    let at_last : last_word (words_of text) ≡ words_of last = s.for_last.words ∙ ap (last_or (words_of last)) none in
+    let at_name : words_behind_lower (words_of text) ≡ words_of name = s.for_name.words ∙ ap (behind_or (words_of name)) none in
+    ap (λ b. cond b (last_word (words_of text)) (words_behind_lower (words_of text))) known ∙ ap (λ ws. cond all ws (words_behind_lower (words_of text))) at_last ∙ ap (λ ws. cond all (words_of last) ws) at_name
 
 -- a family part may be cut before its name
 pub IsCharBoundary-name : (family name : List ℕ) → IsUtf8 name → IsEnd family name → IsCharBoundary family (length family - length name)

@@ -9,7 +9,7 @@ use Rattle.haya_people.specs.Signs.{blank}
 unfoldable pub delimiter_behind : List ℕ → List ℕ → List ℕ
 delimiter_behind delimiter item = if length (graphemes true item) == 1 then delimiter else []
 
--- the given name cut at each blank, each item with its delimiter, joined by blanks
+-- the given name's items, separated by blanks, each with its delimiter, joined by blanks
 unfoldable pub delimited : List ℕ → List ℕ → List ℕ
 delimited delimiter given_name =
     join_with_byte blank

@@ -81,7 +81,7 @@ pair_cmp pair =
     part_cmp (option_map folded (option_copied pair.0)) (option_map folded (option_copied pair.1))
 
 -- the order of a style's lists, for two names of which it is told whether they are CJK: those that
--- are not come first, and else their parts decide
+-- are not come first, and otherwise their parts decide
 abbrev pub csl_cmp : LongShortForm → Bool → List (List ℕ) → Bool × PersonView → Bool × PersonView
     → Ordering
 csl_cmp form demoted table p q =

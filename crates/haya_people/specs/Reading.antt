@@ -38,7 +38,8 @@ words_behind_lower [] = []
 words_behind_lower (w ∷ ws) =
     if list_any is_lower ws then words_behind_lower ws else if is_lower w then ws else w ∷ ws
 
--- the words of a name: the last one where all words are lower, else those behind the last lower one
+-- the words of a name: the last one where all words are lower, otherwise those behind
+-- the last lower one
 abbrev pub name_words : List (Word ℕ) → List (Word ℕ)
 name_words ws = if list_all is_lower ws then last_word ws else words_behind_lower ws
 
@@ -75,7 +76,7 @@ person_of (family ∷ suffix ∷ given_name ∷ []) =
     Ok (person_with (trim family) (Some (trim given_name)) (Some (trim suffix)))
 person_of (_ ∷ _ ∷ _ ∷ _ ∷ _) = Err TooManyParts
 
--- a text is cut at each comma
+-- the parts of a text are separated by commas
 abbrev pub person_read : List ℕ → Result PersonView PersonError
 person_read text = person_of (slice_split (λ b. b == comma) text)
 

@@ -1,15 +1,15 @@
 //! Persons that are read from texts.
 ghost use Rattle.std.specs.Prelude.{◌≡◌, ◌==◌, ◌++◌, [], ℕ, List, false, Err, IfOk, MatchOption};
 ghost use Rattle.std.specs.Prelude.{MatchResult, Ok, Option, Some, map, option_map, string_bytes};
-ghost use Rattle.std.specs.List.{list_all, slice_split};
+ghost use Rattle.std.specs.List.{slice_split};
 ghost use Rattle.std.specs.Str.{chars, trim};
 ghost use Rattle.haya_people.specs.Person.{PersonView, person_view, is_memory};
 ghost use Rattle.haya_people.specs.Signs.{comma};
 ghost use Rattle.haya_people.specs.Words.{first_passes};
 ghost use Rattle.unicode.specs.Binary.{is_lowercase};
-ghost use Rattle.haya_people.specs.Reading.{is_lower, last_word, name_of, prefix_of, person_of};
-ghost use Rattle.haya_people.specs.Reading.{person_read, person_with, text_if_any, texts, trimmed};
-ghost use Rattle.haya_people.specs.Reading.{words_behind_lower, words_of, IsEnd, IsFirstWord};
+ghost use Rattle.haya_people.specs.Reading.{name_of, prefix_of, person_of, person_read};
+ghost use Rattle.haya_people.specs.Reading.{person_with, text_if_any, texts, trimmed, IsEnd};
+ghost use Rattle.haya_people.specs.Reading.{IsFirstWord};
 
 use crate::{Person, PersonError};
 use haya_text::{OutOfMemory, ReadText};
@@ -52,7 +52,7 @@ impl ReadText for Person {
 
     ghost reads = { λ text. result_ok (person_read text) };
 
-    /// The person of the text, cut at each comma, as `from_strings` makes it of the parts.
+    /// The person of the text's parts, separated by commas, as `from_strings` makes it.
     fn from_str(alloc: Global, text: &str) -> Result<Person, PersonError>
         ensures { MatchResult result
             (λ person. person_read text.now ≡ Ok (person_view person))
@@ -120,60 +120,30 @@ fn split_family(family: &str) -> (&str, &str)
     (front.trim_end(), name)
 }
 
-// The name in a family part: its last word if each is lower, else what follows the last lower one.
+// The name in a family part: its last word if each is lower, otherwise what follows the last lower
+// one.
 fn name_of(family: &str) -> &str
     ensures name { result.now ≡ name_of family.now }
     ensures end { IsEnd family.now result.now }
 {
-    if is_all_lower(family) {
-        last_word(family)
-    } else {
-        words_behind_lower(family)
-    }
-}
-
-// Whether each word begins with a lower character.
-fn is_all_lower(text: &str) -> bool
-    ensures { result ≡ list_all is_lower (words_of text.now) }
-{
-    let mut left = text;
+    let mut left = family;
+    let mut last_word = family;
+    let mut behind_lower = family;
+    let mut is_all_lower = true;
     'words: while let Some((word, behind)) = split_word(left) {
-        if !is_lower(word) {
-            return false;
-        }
-        left = behind;
-    }
-    true
-}
-
-// The text from its last word on.
-fn last_word(text: &str) -> &str
-    ensures words { words_of result.now ≡ last_word (words_of text.now) }
-    ensures end { IsEnd text.now result.now }
-{
-    let mut left = text;
-    let mut last = text;
-    'words: while let Some((_, behind)) = split_word(left) {
-        last = left;
-        left = behind;
-    }
-    last
-}
-
-// The text behind its last lower word, or all of it.
-fn words_behind_lower(text: &str) -> &str
-    ensures words { words_of result.now ≡ words_behind_lower (words_of text.now) }
-    ensures end { IsEnd text.now result.now }
-{
-    let mut left = text;
-    let mut name = text;
-    'words: while let Some((word, behind)) = split_word(left) {
+        last_word = left;
         left = behind;
         if is_lower(word) {
-            name = left;
+            behind_lower = left;
+        } else {
+            is_all_lower = false;
         }
     }
-    name
+    if is_all_lower {
+        last_word
+    } else {
+        behind_lower
+    }
 }
 
 // The first word of a text, and the text from the next word on.
