@@ -1,6 +1,5 @@
 -- A loop that sets the fields of items in turn.
-use Rattle.std.proofs.Common.{◌≡◌, ℕ, ◌+◌, ◌<◌, List, ◌∷◌, Result, Ok, Err, length, map, drop, get_or, refl, sym, ap, ◌∙◌, subst}
-use Rattle.std.proofs.lemmas.List.{drop_more}
+use Rattle.std.proofs.Common.{◌≡◌, ℕ, List, ◌∷◌, Result, Ok, Err, refl, sym, ap, ◌∙◌, subst}
 use Rattle.std.specs.Prelude.{IsOkAnd}
 use Rattle.haya_entry.specs.Tree.{Tree, Fields, node, fields, with_fields}
 use Rattle.haya_lines.specs.declared.fault.LineFault.{LineFault}
@@ -39,8 +38,7 @@ Left-next first all now item rest next left set = by (field_read (fields now) it
           parents = h ∙ ap (with_fields (λ _. f)) left.parents ∙ set-set f (fields now) first ∙ ap (λ g. with_fields (λ _. g) first) (sym kept);
         }
 
-pub Left-more : {X : Type 0} (text : X → List ℕ) (xs : List X) (i : ℕ) (d : X) (first : Tree) (all : List (List ℕ)) (now next : Tree)
-    → i < length xs → Left first all now (map text (drop i xs)) → IsOkAnd (field_read (fields now) (text (get_or xs i d))) (λ f. Has now f next)
-    → Left first all next (map text (drop (i + 1) xs))
-Left-more text xs i d first all now next within left set =
-    Left-next first all now (text (get_or xs i d)) (map text (drop (i + 1) xs)) next (subst (Left first all now) (ap (map text) (drop_more xs i d within)) left) set
+-- the same of an item that was taken from those that were left
+pub Left-yielded : (first : Tree) (all : List (List ℕ)) (now : Tree) (item : List ℕ) (rest : List (List ℕ)) (next : Tree) (items : List (List ℕ)) → items ≡ item ∷ rest
+    → Left first all now items → IsOkAnd (field_read (fields now) item) (λ f. Has now f next) → Left first all next rest
+Left-yielded first all now item rest next items e left set = Left-next first all now item rest next (subst (Left first all now) e left) set

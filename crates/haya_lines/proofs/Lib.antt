@@ -1,4 +1,5 @@
 mod Depths
 mod FieldRows
 mod FieldsRead
+mod ItemLemmas
 pub mod Rows

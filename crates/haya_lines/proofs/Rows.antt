@@ -1,12 +1,11 @@
 -- The row that a line's items make.
-use Rattle.std.proofs.Common.{◌⊎◌, inl, inr, ⊎_elim, ◌≡◌, ℕ, ◌≤◌, List, ◌∷◌, Option, None, Some, Result, Ok, Err, length, map, take, drop, get_or, ◌-◌, refl, sym, ap, ◌∙◌, subst, arith, rules, tests}
+use Rattle.std.proofs.Common.{◌⊎◌, inl, inr, ⊎_elim, ◌≡◌, ℕ, ◌<◌, ◌≤◌, List, [], ◌∷◌, Option, None, Some, Result, Ok, Err, length, refl, sym, ap, ◌∙◌, subst, arith, rules, tests}
 use Rattle.std.specs.Prelude.{IsOkAnd, IfOk, ok_or}
-use Rattle.std.proofs.lemmas.List.{take_all}
 use Rattle.haya_entry.specs.declared.types.EntryType.{EntryType}
 use Rattle.haya_entry.specs.EntryType.{type_read}
 use Rattle.haya_entry.specs.Tree.{Tree, Fields, fields, with_fields, new_entry}
 use Rattle.haya_lines.specs.declared.fault.LineFault.{LineFault}
-use Rattle.haya_lines.specs.declared.fault.LineFault.TheVariants.{Depth, OutOfMemory, UnknownType}
+use Rattle.haya_lines.specs.declared.fault.LineFault.TheVariants.{Depth, OutOfMemory, Shape, UnknownType}
 use Rattle.haya_lines.specs.FieldTable.{and_then}
 use Rattle.haya_lines.specs.Line.{Row, leaf, depth_read, fields_read, row_at, row_read}
 
@@ -39,14 +38,17 @@ depth_within : (deepest : ℕ) (item : List ℕ) (d : ℕ) → depth_read deepes
 depth_within deepest item d is = search (rules, tests)
 
 -- the head of a row
-pub head_read : {X : Type 0} (text : X → List ℕ) (items : List X) (x : X) (deepest n : ℕ) (k : EntryType) → 3 ≤ length items
-    → depth_read deepest (text (get_or items 0 x)) ≡ Some n → type_read (text (get_or items 2 x)) ≡ Some k
-    → (row_read deepest (map text items) ≡ row_at n (fields_read (fields (new_entry (text (get_or items 1 x)) k)) (map text (take (length items - 3) (drop 3 items)))))
-    × (n ≤ deepest)
-head_read text (a ∷ b ∷ c ∷ more) x deepest n k three d t =
-    let rest : take (length (a ∷ b ∷ c ∷ more) - 3) more ≡ more = take_all _ more (omega arith) in
-    (rw (d, t, rest) refl, depth_within deepest (text a) n d)
-head_read text _ x deepest n k three d t = absurd (omega arith)
+pub head_read : (items : List (List ℕ)) (a b c : List ℕ) (more : List (List ℕ)) (deepest n : ℕ) (k : EntryType) → items ≡ a ∷ b ∷ c ∷ more
+    → depth_read deepest a ≡ Some n → type_read c ≡ Some k
+    → (row_read deepest items ≡ row_at n (fields_read (fields (new_entry b k)) more)) × (n ≤ deepest)
+head_read items a b c more deepest n k three d t = (rw (three, d, t) refl, depth_within deepest a n d)
+
+-- no row has fewer than three items
+pub row_read-short : (deepest : ℕ) (items : List (List ℕ)) → length items < 3 → row_read deepest items ≡ Err Shape
+row_read-short deepest [] short = refl
+row_read-short deepest (a ∷ []) short = refl
+row_read-short deepest (a ∷ b ∷ []) short = refl
+row_read-short deepest (a ∷ b ∷ c ∷ more) short = absurd (omega arith)
 
 -- no row is deeper than it may be
 pub row_within : (deepest : ℕ) (items : List (List ℕ)) → IfOk (row_read deepest items) (λ row. row.depth ≤ deepest)

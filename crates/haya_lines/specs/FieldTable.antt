@@ -78,7 +78,7 @@ duration_or_text_of value = Ok (typed_or_text (result_ok (duration_read (chars v
 abbrev pub role_of : List ℕ → Result RoleView LineFault
 role_of name = ok_or_refused (option_map role_view (role_read name))
 
--- a role and one person, cut at the first colon
+-- a role and one person, separated by the first colon
 abbrev pub affiliated_of : List ℕ → Result RolesView LineFault
 affiliated_of value =
     and_then (ok_or (cut_at colon value) Shape) (λ cut.

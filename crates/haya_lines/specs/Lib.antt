@@ -1,4 +1,5 @@
 pub mod Signs
 pub mod FieldTable
+pub mod Items
 pub mod Line
 pub mod LineReading

@@ -1,18 +1,14 @@
 -- What a line says: an entry but for its parents, and how deep it stands.
-use Rattle.std.specs.Prelude.{ℕ, ◌==◌, Bool, ◌&&◌, nat_lt, nat_le, List, [], ◌∷◌, length, Option, None, Some, ok_or, Result, Ok, Err, if◌then◌else◌}
+use Rattle.std.specs.Prelude.{ℕ, Bool, ◌&&◌, nat_lt, nat_le, List, [], ◌∷◌, length, Option, None, Some, ok_or, Result, Ok, Err, if◌then◌else◌}
 use Rattle.std.specs.Char.{is_ascii_digit}
-use Rattle.std.specs.List.{list_all, slice_split}
+use Rattle.std.specs.List.{list_all}
 use Rattle.std.specs.Str.Parse.{digits_value}
 use Rattle.haya_entry.specs.EntryType.{type_read}
 use Rattle.haya_entry.specs.Tree.{Tree, Fields, node, no_trees, fields, new_entry}
 use Rattle.haya_lines.specs.FieldTable.{and_then, cut_at, with_field}
-use Rattle.haya_lines.specs.Signs.{tab, equals_sign}
+use Rattle.haya_lines.specs.Signs.{equals_sign}
 use Rattle.haya_lines.specs.declared.fault.LineFault.{LineFault}
 use Rattle.haya_lines.specs.declared.fault.LineFault.TheVariants.{Shape, Depth, UnknownType}
-
--- what stands between the tabs
-abbrev pub items : List ℕ → List (List ℕ)
-items line = slice_split (λ b. b == tab) line
 
 -- one to three digits, for a depth of at most 500 that is no deeper than this
 abbrev pub is_depth : ℕ → List ℕ → Bool
@@ -23,7 +19,7 @@ is_depth deepest item =
 abbrev pub depth_read : ℕ → List ℕ → Option ℕ
 depth_read deepest item = if is_depth deepest item then Some (digits_value 10 item) else None
 
--- a name and a value, cut at the first `=`
+-- a name and a value, separated by the first `=`
 abbrev pub name_and_value : List ℕ → Option (List ℕ × List ℕ)
 name_and_value item = cut_at equals_sign item
 

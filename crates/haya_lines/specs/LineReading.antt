@@ -1,5 +1,5 @@
 -- What the functions that read a line answer.
-use Rattle.std.specs.Prelude.{◌≡◌, ◌⊎◌, ℕ, ◌≤◌, List, Result, Err, IsOkAnd, map}
+use Rattle.std.specs.Prelude.{◌≡◌, ◌⊎◌, ℕ, ◌≤◌, List, Result, Err, IsOkAnd}
 use Rattle.haya_entry.specs.Tree.{Fields, fields, new_entry, view, with_fields}
 use Rattle.haya_entry.specs.declared.entry.Entry.{Entry}
 use Rattle.haya_lines.specs.Line.{Row, fields_read, leaf, row_at, row_read}
@@ -11,11 +11,11 @@ use Rattle.haya_lines.specs.declared.fault.LineFault.TheVariants.{OutOfMemory}
 abbrev pub IsRow : Result Row LineFault → ℕ × Entry → Type 0
 IsRow read found = IsOkAnd read (λ row. (found.0 ≡ row.depth) × (view found.1 ≡ leaf row.fields))
 
--- what is left of the row to read are the fields of an entry with the head's key and type
-abbrev pub IsHead : ℕ → List (List ℕ) → Head → Type 0
-IsHead deepest items head =
-    (row_read deepest items ≡ row_at head.depth
-    (fields_read (fields (new_entry head.key.now head.kind)) (map (λ t. t.now) head.fields.now)))
+-- what is left of the row's items to read are the fields of an entry with the head's key and type
+abbrev pub IsHead : ℕ → List (List ℕ) → List (List ℕ) → Head → Type 0
+IsHead deepest items left head =
+    (row_read deepest items
+    ≡ row_at head.depth (fields_read (fields (new_entry head.key.now head.kind)) left))
     × (head.depth ≤ deepest)
 
 -- the entry has the fields that are read in the place of its own

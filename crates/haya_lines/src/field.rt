@@ -1,5 +1,5 @@
 //! The fields of a line: values that are read as the types of their fields are.
-ghost use Rattle.std.specs.Prelude.{◌≡◌, Err, Ok, Some, map, option_map, IfOk, IfErr, OnOk};
+ghost use Rattle.std.specs.Prelude.{◌≡◌, Err, Ok, Some, option_map, IfOk, IfErr, OnOk};
 ghost use Rattle.haya_people.specs.Person.{person_view};
 ghost use Rattle.haya_people.specs.Roles.{role_view, roles_view};
 ghost use Rattle.haya_entry.specs.Tree.{Sets, view, fields};
@@ -10,6 +10,7 @@ ghost use Rattle.haya_lines.specs.Line.{field_read, fields_read};
 ghost use Rattle.haya_lines.specs.LineReading.{IsFaultOf, SetsFields};
 
 use crate::fault::LineFault;
+use crate::items::Items;
 use haya_entry::Entry;
 use haya_people::{Person, PersonRole, PersonsWithRoles};
 use haya_text::{ReadFault, ReadText};
@@ -18,11 +19,11 @@ use std::alloc::{AllocError, Global};
 
 /// Sets the field of each item in turn, in the place of what was there. Where an item has a fault,
 /// those before it are set.
-pub fn read_fields(alloc: Global, entry: &mut Entry, items: &[&str]) -> Result<(), LineFault>
+pub fn read_fields(alloc: Global, entry: &mut Entry, items: Items) -> Result<(), LineFault>
     ensures ok { OnOk result (SetsFields
-        (fields_read (fields (view entry.old)) (map (λ t. t.now) items.now)) entry.old entry.new) }
+        (fields_read (fields (view entry.old)) items.entry) entry.old entry.new) }
     ensures fault { IfErr result (IsFaultOf
-        (fields_read (fields (view entry.old)) (map (λ t. t.now) items.now))) }
+        (fields_read (fields (view entry.old)) items.entry)) }
 {
     'items: for item in items {
         read_field(alloc, entry, item)?;
@@ -125,7 +126,7 @@ fn read_date(value: &str) -> Result<Date, LineFault>
     Ok(date)
 }
 
-// A role and one person, cut at the first colon.
+// A role and one person, separated by the first colon.
 fn read_affiliated(alloc: Global, value: &str) -> Result<PersonsWithRoles, LineFault>
     ensures ok { IfOk result (λ v. affiliated_of value.now ≡ Ok (roles_view v)) }
     ensures fault { IfErr result (IsFaultOf (affiliated_of value.now)) }

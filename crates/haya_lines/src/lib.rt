@@ -4,9 +4,11 @@
 
 mod fault;
 mod field;
+mod items;
 pub mod laws;
 mod line;
 
 pub use fault::LineFault;
 pub use field::read_fields;
-pub use line::{Head, cut_line, read_head, read_line};
+pub use items::{Items, split_line};
+pub use line::{Head, read_head, read_line};

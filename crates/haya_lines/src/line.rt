@@ -1,19 +1,21 @@
 //! One line: a depth, a key, a type, and fields `name=value`, with a tab between two.
-ghost use Rattle.std.specs.Prelude.{◌≡◌, map, Err, IfOk, IfErr};
+ghost use Rattle.std.specs.Prelude.{◌≡◌, ◌<◌, ◌∷◌, length, Err, IfOk, IfErr, MatchOption};
 ghost use Rattle.std.specs.Char.{is_ascii_digit};
 ghost use Rattle.std.specs.List.{list_all};
-ghost use Rattle.haya_lines.specs.Line.{items, depth_read, row_read};
+ghost use Rattle.haya_lines.specs.Items.{items};
+ghost use Rattle.haya_lines.specs.Line.{depth_read, row_read};
 ghost use Rattle.haya_lines.specs.LineReading.{IsFaultOf, IsHead, IsRow};
 
 use crate::fault::LineFault;
 use crate::field::read_fields;
+use crate::items::{Items, split_line};
 use haya_entry::{Entry, EntryType};
-use std::alloc::{AllocError, Global};
+use std::alloc::Global;
 
 // How deep an entry may stand.
 const MAX_DEPTH: usize = 500;
 
-/// What a line says before its fields, and the fields, which aren't read yet.
+/// What a line says before its fields.
 #[derive(Clone, Copy)]
 pub struct Head<'a> {
     /// How deep the entry stands.
@@ -22,8 +24,6 @@ pub struct Head<'a> {
     pub key: &'a str,
     /// Its type.
     pub kind: EntryType,
-    /// Its fields, as they are written.
-    pub fields: &'a [&'a str],
 }
 
 /// The entry of a line, without its parents, and its depth, where that is at most `deepest`: up to
@@ -37,25 +37,10 @@ pub fn read_line(alloc: Global, line: &str, deepest: usize) -> Result<(usize, En
     ensures row { IfOk result (IsRow (row_read deepest (items line.now))) }
     ensures fault { IfErr result (IsFaultOf (row_read deepest (items line.now))) }
 {
-    let items = cut_line(alloc, line)?;
-    read_items(alloc, items.as_slice(), deepest)
-}
-
-/// What stands between a line's tabs.
-pub fn cut_line<'a>(alloc: Global, line: &'a str) -> Result<Vec<&'a str>, AllocError>
-    ensures { IfOk result (λ parts. map (λ t. t.now) parts.items ≡ items line.now) }
-{
-    line.split('\t').collect(alloc)
-}
-
-// The same, from the items.
-fn read_items(alloc: Global, items: &[&str], deepest: usize) -> Result<(usize, Entry), LineFault>
-    ensures row { IfOk result (IsRow (row_read deepest (map (λ t. t.now) items.now))) }
-    ensures fault { IfErr result (IsFaultOf (row_read deepest (map (λ t. t.now) items.now))) }
-{
-    let head = read_head(items, deepest)?;
+    let mut items = split_line(line);
+    let head = read_head(&mut items, deepest)?;
     let mut entry = Entry::new(alloc, head.key, head.kind)?;
-    match read_fields(alloc, &mut entry, head.fields) {
+    match read_fields(alloc, &mut entry, items) {
         Ok(()) => Ok((head.depth, entry)),
         Err(fault) => {
             // By a call: at an exit, the drop of an entry is proved field by field.
@@ -65,14 +50,13 @@ fn read_items(alloc: Global, items: &[&str], deepest: usize) -> Result<(usize, E
     }
 }
 
-/// The head of a line of these items, as `read_line` reads it. Fails with the first fault that
-/// stands in it.
-pub fn read_head<'a>(items: &'a [&'a str], deepest: usize) -> Result<Head<'a>, LineFault>
-    ensures head { IfOk result (IsHead deepest (map (λ t. t.now) items.now)) }
-    ensures fault { IfErr result
-        (λ e. row_read deepest (map (λ t. t.now) items.now) ≡ Err e) }
+/// Takes the head of a line, of which these are the items: what is left are its fields. Fails with
+/// the first fault that stands in it.
+pub fn read_head<'a>(items: &mut Items<'a>, deepest: usize) -> Result<Head<'a>, LineFault>
+    ensures head { IfOk result (IsHead deepest items.old items.new) }
+    ensures fault { IfErr result (λ e. row_read deepest items.old ≡ Err e) }
 {
-    let [depth, key, kind, more @ ..] = items else {
+    let Some((depth, key, kind)) = take_three(items) else {
         return Err(LineFault::Shape);
     };
     let Some(depth) = depth_of(depth, deepest) else {
@@ -81,12 +65,16 @@ pub fn read_head<'a>(items: &'a [&'a str], deepest: usize) -> Result<Head<'a>, L
     let Ok(kind) = kind.parse::<EntryType>() else {
         return Err(LineFault::UnknownType);
     };
-    Ok(Head {
-        depth,
-        key,
-        kind,
-        fields: more,
-    })
+    Ok(Head { depth, key, kind })
+}
+
+// Takes three items, if there are so many.
+fn take_three<'a>(items: &mut Items<'a>) -> Option<(&'a str, &'a str, &'a str)>
+    ensures { MatchOption result
+        (length items.old < 3)
+        (λ p. items.old ≡ p.0.now ∷ p.1.now ∷ p.2.now ∷ items.new) }
+{
+    Some((items.next()?, items.next()?, items.next()?))
 }
 
 // One to three digits, for a depth of at most 500 that is no deeper than this.

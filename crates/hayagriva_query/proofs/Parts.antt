@@ -15,7 +15,8 @@ use Rattle.hayagriva.specs.Syntax.{Syntax}
 use Rattle.hayagriva.specs.Tree.{Tree, trees}
 use Rattle.hayagriva.proofs.Parts.{AllZip-append, AreApart-all, AreApart-entries, from_entries-distinct, from_entries-parts}
 use Rattle.haya_lines.specs.FieldTable.{and_then}
-use Rattle.haya_lines.specs.Line.{Row, depth_read, is_depth, items, row_read}
+use Rattle.haya_lines.specs.Items.{items}
+use Rattle.haya_lines.specs.Line.{Row, depth_read, is_depth, row_read}
 use Rattle.haya_lines.specs.declared.fault.LineFault.{LineFault}
 use Rattle.haya_lines.specs.declared.fault.LineFault.TheVariants.{Depth}
 use Rattle.hayagriva_query.specs.Input.{Describes, in_line, rows_of_all, rows_read}

@@ -8,7 +8,8 @@ use Rattle.hayagriva_query.specs.declared.fault.Fault.{Fault}
 use Rattle.hayagriva_query.specs.declared.fault.Fault.TheVariants.{Line, OutOfMemory}
 use Rattle.haya_lines.specs.declared.fault.LineFault.{LineFault}
 use Rattle.haya_lines.specs.FieldTable.{and_then}
-use Rattle.haya_lines.specs.Line.{Row, items, row_read}
+use Rattle.haya_lines.specs.Items.{items}
+use Rattle.haya_lines.specs.Line.{Row, row_read}
 use Rattle.hayagriva_query.specs.Input.{Describes, rows_read, rows_of_all}
 use Rattle.hayagriva_query.specs.Chain.{HoldsRows, chain_rows}
 

@@ -7,13 +7,14 @@ ghost use Rattle.hayagriva.specs.Tree.{fields, new_entry, view};
 ghost use Rattle.hayagriva_query.specs.declared.fault.Fault.TheVariants.{OutOfMemory};
 ghost use Rattle.hayagriva_query.specs.Chain.{AddsRow, KeepsRows, OpensEntry, chain_view};
 ghost use Rattle.hayagriva_query.specs.Chain.{Stands, with_parent};
-ghost use Rattle.haya_lines.specs.Line.{fields_read, items, row_read};
+ghost use Rattle.haya_lines.specs.Items.{items};
+ghost use Rattle.haya_lines.specs.Line.{fields_read, row_read};
 ghost use Rattle.haya_lines.specs.LineReading.{IsFaultOf};
 ghost use Rattle.hayagriva_query.specs.Input.{rows_read, Describes};
 ghost use Rattle.hayagriva_query.specs.TextReading.{FaultInLine, FaultInText};
 
 use crate::fault::Fault;
-use haya_lines::{Head, LineFault, cut_line, read_fields, read_head};
+use haya_lines::{Head, Items, LineFault, read_fields, read_head, split_line};
 use hayagriva::types::EntryType;
 use hayagriva::{Entry, HashKeys, Library};
 use std::alloc::Global;
@@ -67,13 +68,13 @@ impl Reader {
         ensures fault { IfErr result
             (FaultInLine number (row_read (length self.old.chain.items) (items line.now))) }
     {
-        let items = cut_line(alloc, line)?;
-        let head = match read_head(items.as_slice(), self.chain.len()) {
+        let mut items = split_line(line);
+        let head = match read_head(&mut items, self.chain.len()) {
             Ok(head) => head,
             Err(fault) => return Err(Fault::of_line(number, fault)),
         };
         self.close_to(head.depth)?;
-        match open(alloc, &mut self.chain, head) {
+        match open(alloc, &mut self.chain, head, items) {
             Ok(()) => Ok(()),
             Err(fault) => Err(Fault::of_line(number, fault)),
         }
@@ -123,18 +124,16 @@ impl Reader {
 }
 
 // Puts the entry of a line behind those that are open, and reads its fields in its place there.
-fn open(alloc: Global, chain: &mut Vec<Entry>, head: Head) -> Result<(), LineFault>
+fn open(alloc: Global, chain: &mut Vec<Entry>, head: Head, items: Items) -> Result<(), LineFault>
     ensures opened { OnOk result (OpensEntry
-        (fields_read (fields (new_entry head.entry.key.now head.entry.kind))
-        (map (λ t. t.now) head.entry.fields.now))
+        (fields_read (fields (new_entry head.entry.key.now head.entry.kind)) items.entry)
         (chain_view chain.old) (chain_view chain.new)) }
     ensures fault { IfErr result (IsFaultOf
-        (fields_read (fields (new_entry head.entry.key.now head.entry.kind))
-        (map (λ t. t.now) head.entry.fields.now))) }
+        (fields_read (fields (new_entry head.entry.key.now head.entry.kind)) items.entry)) }
 {
     push_new(alloc, chain, head.key, head.kind)?;
     match chain.last_mut() {
-        Some(entry) => read_fields(alloc, entry, head.fields),
+        Some(entry) => read_fields(alloc, entry, items),
         None => Ok(()),
     }
 }

@@ -1,8 +1,6 @@
-use Rattle.std.proofs.Common.{map, drop}
 use Rattle.haya_entry.specs.Tree.{view}
 use Rattle.haya_lines.proofs.FieldsRead.{Left}
 use Rattle.haya_lines.proofs.field.read_fields.Given as goal
 
 abbrev pub invariant-items : goal.invariant-items
-invariant-items l =
-    Left (view l.fn.entry) (map (λ t. t.now) l.fn.items) (view l.entry) (map (λ t. t.now) (drop l.item-index l.fn.items))
+invariant-items l = Left (view l.fn.entry) l.fn.items (view l.entry) l.item-iterator
