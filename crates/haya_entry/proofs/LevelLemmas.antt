@@ -225,6 +225,27 @@ reached_within x d some =
       | false ↦ λ e. ltb-false (height x) d e
     ]) refl
 
+some-over_parents : (ps qs : List (List ℕ)) → qs ≢ [] → ps ++ qs ≢ []
+some-over_parents [] qs some = some
+some-over_parents (p ∷ ps) qs some = λ e. absurd (cc)
+
+-- and some entry stands at each level below
+mutual
+  pub level_below : (x : Tree) (d : ℕ) → d ≤ height x → level x d ≢ []
+  level_below x zero h = λ e. absurd (cc)
+  level_below (node f ts) (suc d) h = λ e. fronts_below ts d 0 h (sym (level-first (node f ts) d) ∙ e)
+
+  fronts_below : (ts : Trees) (d i : ℕ) → suc d ≤ heights ts → fronts d i (tree_list ts) ≢ []
+  fronts_below no_trees d i h = absurd (omega arith)
+  fronts_below (one_more t ts) d i h =
+      elim (ltb (height t) d) as (λ b. ltb (height t) d ≡ b → fronts d i (tree_list (one_more t ts)) ≢ []) [
+        | true ↦ λ e.
+            let low = ltb-true (height t) d e in
+            let rest : suc d ≤ heights ts = omega arith in
+            some-over_parents (map (λ path. i ∷ path) (level t d)) (fronts d (suc i) (tree_list ts)) (fronts_below ts d (suc i) rest)
+        | false ↦ λ e. some-under_parent i (level t d) (fronts d (suc i) (tree_list ts)) (level_below t d (ltb-false (height t) d e))
+      ] refl
+
 levels_empty : (x : Tree) (n d : ℕ) → level x d ≡ [] → flat_map (level x) (range_with_len d n) ≡ []
 levels_empty x zero d none = refl
 levels_empty x (suc n) d none = let next : level x (d + 1) ≡ [] = let e : d + 1 ≡ suc d = omega arith in rw (e, none) refl in rw (none, levels_empty x n (d + 1) next) refl

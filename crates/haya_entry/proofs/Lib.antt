@@ -6,5 +6,5 @@ mod LevelsApart
 mod Rows
 mod LookupLemmas
 mod RoleLemmas
-mod FirstValues
+pub mod FirstValues
 mod LookupRows

@@ -18,7 +18,7 @@ container_rows :
     × (containers (work Post []) ≡ [])
 container_rows = (refl, refl, refl)
 
--- an article whose first parent, a web page, stands in another one, and whose second, a book, in a
+-- an article whose first parent, a web page, appears in another one, and whose second, a book, in a
 -- report and two series
 abbrev article : Tree
 article = work Article (work Web (work Web [] ∷ []) ∷ work Book (work Report [] ∷ work Book [] ∷ work Anthology [] ∷ []) ∷ [])

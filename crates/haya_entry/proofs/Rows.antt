@@ -1,4 +1,4 @@
--- Worked rows of the definitions: an article in a journal, which stands in a site, and in a book.
+-- Worked rows of the definitions: an article in a journal, which appears in a site, and in a book.
 use Rattle.std.proofs.Common.{◌≡◌, true, false, [], ◌∷◌, None, Some, refl}
 use Rattle.std.specs.Prelude.{codes}
 use Rattle.haya_entry.specs.declared.types.EntryType.TheVariants.{Article, Book, Periodical, Web}

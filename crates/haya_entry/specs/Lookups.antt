@@ -41,7 +41,7 @@ abbrev pub containers : Tree → List (List ℕ)
 containers x =
     flat_map (λ kind. parents_passing (is_of_type kind) x) (container_types (fields x).entry_type)
 
--- whether an entry is a collection of those of this type that stand in it
+-- whether an entry is a collection of those of this type that appear in it
 abbrev pub is_collection_of : EntryType → Tree → Bool
 is_collection_of kind x = is_of_type kind x || is_of_type Anthology x
 
@@ -83,7 +83,7 @@ abbrev mutual
   line_above no_trees = []
   line_above (one_more t ts) = line_of_first_parents t
 
--- whether the entry stands for itself, and isn't a part without a title of what it stands in
+-- whether the entry stands for itself, and isn't a part without a title of what it appears in
 abbrev pub is_full : Tree → Bool
 is_full x = not (is_part (fields x).entry_type && is_none (fields x).title)
 

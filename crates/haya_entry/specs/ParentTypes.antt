@@ -1,4 +1,4 @@
--- The types of works that an entry stands in, by its own type.
+-- The types of works that an entry appears in, by its own type.
 use Rattle.std.specs.Prelude.{Bool, true, false, List, [], ◌∷◌}
 use Rattle.haya_entry.specs.declared.types.EntryType.{EntryType}
 use Rattle.haya_entry.specs.declared.types.EntryType.TheVariants.{Article, Chapter, Entry, Anthos, Report, Web, Scene, Artwork, Case, Newspaper, Legislation, Post, Misc, Performance, Periodical, Proceedings, Book, Blog, Reference, Conference, Anthology, Thread, Video, Audio, Exhibition}
@@ -45,7 +45,7 @@ is_collected Reference = true
 is_collected Exhibition = true
 is_collected _ = false
 
--- whether an entry of this type is a part of what it stands in, and may go without a title of its
+-- whether an entry of this type is a part of what it appears in, and may go without a title of its
 -- own
 abbrev pub is_part : EntryType → Bool
 is_part Chapter = true

@@ -17,7 +17,7 @@ use haya_time::{Date, Duration, DurationRange};
 use haya_values::{MaybeTyped, Publisher, QualifiedUrl};
 use std::alloc::Global;
 
-/// A work of the literature: its key, its type, its fields, and the works that it stands in, its
+/// A work of the literature: its key, its type, its fields, and the works that it appears in, its
 /// parents.
 #[derive(PartialEq, Eq, Hash, Debug, Drop)]
 pub struct Entry {
@@ -25,7 +25,7 @@ pub struct Entry {
     pub key: String,
     /// What kind of work it is.
     pub entry_type: EntryType,
-    /// The works that it stands in, in order.
+    /// The works that it appears in, in order.
     pub parents: Vec<Entry>,
     /// The title.
     pub title: Option<FormatString>,
@@ -134,7 +134,7 @@ impl Entry {
         self.entry_type
     }
 
-    /// The works that the entry stands in, in order.
+    /// The works that the entry appears in, in order.
     pub fn parents(&self) -> &[Entry]
         ensures { map view result.now ≡ parents (view self.now) }
     {

@@ -1,9 +1,10 @@
 //! Laws of the definitions. A call of one, as `ancestors_once();`, gives its statement to the
 //! caller's proof.
-ghost use Rattle.std.specs.Prelude.{◌≡◌, ℕ, List, true, Some, if◌then◌else◌};
+ghost use Rattle.std.specs.Prelude.{◌≡◌, ◌≢◌, ◌↔◌, ◌≤◌, ℕ, List, [], true, Some};
+ghost use Rattle.std.specs.Prelude.{if◌then◌else◌};
 ghost use Rattle.std.specs.Str.{bytes_eq};
 ghost use Rattle.haya_entry.specs.declared.entry.Entry.{Entry as EntryData};
-ghost use Rattle.haya_entry.specs.Levels.{AncestorsOnce};
+ghost use Rattle.haya_entry.specs.Levels.{AncestorsOnce, height, level};
 ghost use Rattle.haya_entry.specs.Names.{has_name};
 ghost use Rattle.haya_entry.specs.SerialNumber.{serial_view};
 ghost use Rattle.haya_entry.specs.Tree.{Tree, view, keyed_serial_number, with_keyed_serial_number};
@@ -53,4 +54,10 @@ pub fn set_serial_number_is_found()
 /// The ancestors of an entry are all entries above it, each path once.
 pub fn ancestors_once()
     ensures { AncestorsOnce }
+{}
+
+/// The height of an entry is its last level that isn't empty: at each level up to it some entry
+/// stands, and at none above it.
+pub fn height_is_last_level()
+    ensures { (x : Tree) (d : ℕ) → (level x d ≢ []) ↔ (d ≤ height x) }
 {}

@@ -115,7 +115,7 @@ impl EntryType {
         EntryType::Original,
     ];
 
-    /// The type that a parent has where nothing else is known of it: a Chapter stands in a Book.
+    /// The type that a parent has where nothing else is known of it: a Chapter appears in a Book.
     ///
     /// | Type | Type of its parent |
     /// |---|---|

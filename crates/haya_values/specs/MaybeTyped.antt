@@ -13,7 +13,7 @@ abbrev pub maybe_typed_view : {T V : Type 0} → (T → V) → MaybeTyped T → 
 maybe_typed_view view (maybe.Typed value) = Typed (view value)
 maybe_typed_view view (maybe.String text) = Text (string_bytes text)
 
--- what a text reads as: the value that it writes, and else the text itself
+-- what a text reads as: the value that it writes, otherwise the text itself
 abbrev pub typed_or_text : {V : Type 0} → Option V → List ℕ → TypedOrText V
 typed_or_text (Some value) text = Typed value
 typed_or_text None text = Text text

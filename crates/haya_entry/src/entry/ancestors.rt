@@ -51,7 +51,7 @@ enum Outcome<T> {
     Answered(T),
 }
 
-// Asks the entry itself at no distance, else its ancestors.
+// Asks the entry itself at no distance, otherwise its ancestors.
 #[cycle(walk)]
 fn ask<E: Node, T, F: FnMut(E) -> Option<T>>(
     node: E,
@@ -157,7 +157,7 @@ impl Entry {
         walk_from(self, &Depth::One, &mut f, steps)
     }
 
-    /// What the entry makes of itself, or else the first ancestor that answers.
+    /// What the entry makes of itself, otherwise what the first ancestor that answers does.
     pub fn map<'a, T, F: FnMut(&'a Entry) -> Option<T> + Drop>(&'a self, f: F) -> Option<T>
         requires { F.IsAlwaysCallable f }
         ensures { let x = view self.now in AsksAll F.step x f ([] ∷ ancestors x) result }
@@ -169,7 +169,7 @@ impl Entry {
         }
     }
 
-    /// The date of the entry, or else of its first ancestor that has one: the parents are looked at
+    /// The date of the entry, otherwise of its first ancestor that has one: the parents are looked at
     /// in order, then all parents of these, and so on. `None` where none has a date.
     pub fn date_any(&self) -> Option<&Date>
         ensures { option_map (λ d. d.now) result
@@ -178,7 +178,7 @@ impl Entry {
         self.map(|entry| entry.date())
     }
 
-    /// The address of the entry, or else of its first ancestor that has one, in the same order.
+    /// The address of the entry, otherwise of its first ancestor that has one, in the same order.
     /// `None` where none has an address.
     pub fn url_any(&self) -> Option<&QualifiedUrl>
         ensures { option_map (λ u. url_view u.now) result

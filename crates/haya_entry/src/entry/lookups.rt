@@ -115,7 +115,7 @@ fn add_list(
 }
 
 impl Entry {
-    /// The work that the entry stands in, a book for a chapter: the types of such works are tried
+    /// The work that the entry appears in, a book for a chapter: the types of such works are tried
     /// in order, the most fitting first, and the answer is the first parent of the first type that
     /// some parent has. `None` where there is none.
     ///
@@ -192,7 +192,7 @@ impl Entry {
         !(is_part && self.title.is_none())
     }
 
-    /// The entry itself if it has this type, or else the first above it that has, depth first: a
+    /// The entry itself if it has this type, otherwise the first above it that has, depth first: a
     /// parent and all that is above it come before the next parent. `None` where there is none.
     pub fn dfs_parent(&self, kind: EntryType) -> Option<&Entry>
         ensures { IsAt (view self.now) (first (entries_of_type kind (view self.now))) result }

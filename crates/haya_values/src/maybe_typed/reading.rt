@@ -15,7 +15,7 @@ impl<T: ReadText> ReadText for MaybeTyped<T> {
 
     ghost reads = { λ text. Some (typed_or_text (T.reads text) text) };
 
-    /// The value of the type that the text writes, and else the text itself. A failed allocation
+    /// The value of the type that the text writes, otherwise the text itself. A failed allocation
     /// says nothing of the text, which is then not answered in place of a value.
     fn from_str(alloc: Global, text: &str) -> Result<MaybeTyped<T>, OutOfMemory>
         ensures { IfOk result (λ read.
