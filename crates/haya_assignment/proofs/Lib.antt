@@ -7,3 +7,4 @@ mod Listing
 mod Bridging
 mod Lowering
 mod LawsOfLists
+mod InTurn

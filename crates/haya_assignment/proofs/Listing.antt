@@ -129,7 +129,7 @@ Contains-from_not_taken taken is i c =
     free true h = absurd (cc)
     free false h = refl
 
-not_taken_ascends : (taken : List ℕ) (row : List Bool) → AllPairs (λ i j. i < j) (not_taken taken (true_positions row))
+pub not_taken_ascends : (taken : List ℕ) (row : List Bool) → AllPairs (λ i j. i < j) (not_taken taken (true_positions row))
 not_taken_ascends taken row = AllPairs-filter (λ i j. i < j) (λ i. not (list_any (λ t. t == i) taken)) (true_positions row) (true_positions_ascend row)
 
 -- ---- assignments beside positions that are taken

@@ -35,14 +35,14 @@ least_more A n best lower long was kept least others placed longer =
     (λ same. least others placed longer' (λ l z. kept l z ∙ same l z))
 
 -- ---- looks
-twice : (x y : ℕ) → (x ≡ 0 → y ≡ 0) → y + y ≤ (x + 1) * (y + 1)
-twice zero y h = let e : y ≡ 0 = h refl in omega arith
-twice (suc x) y h = let l : y * 1 ≤ y * suc x = mul-le-mul_left y (omega arith) in omega arith
+thrice : (x y : ℕ) → (x ≡ 0 → y ≡ 0) → x + y + y ≤ (x + 1) * (y + 1)
+thrice zero y h = let e : y ≡ 0 = h refl in omega arith
+thrice (suc x) y h = let l : y * 1 ≤ y * suc x = mul-le-mul_left y (omega arith) in omega arith
 
--- a completion and a lowering
-pub looks_of_both : (m p s₀ s₁ s₂ : ℕ) → s₁ ≤ s₀ + m * (m * p) → s₂ ≤ s₁ + m * (m * p) → s₂ ≤ s₀ + (m * p + 1) * (m * m * p + 1)
-looks_of_both m p s₀ s₁ s₂ h k =
-    rw (mul_assoc m m p) (both (m * p) (m * (m * p)) (twice (m * p) (m * (m * p)) (λ z. rw z (omega arith))) h k)
+-- where each takes a position in turn, a completion and a lowering
+pub looks_of_all : (m p s₀ s₁ s₂ s₃ : ℕ) → s₁ ≤ s₀ + m * p → s₂ ≤ s₁ + m * (m * p) → s₃ ≤ s₂ + m * (m * p) → s₃ ≤ s₀ + (m * p + 1) * (m * m * p + 1)
+looks_of_all m p s₀ s₁ s₂ s₃ g h k =
+    rw (mul_assoc m m p) (all (m * p) (m * (m * p)) (thrice (m * p) (m * (m * p)) (λ z. rw z (omega arith))) g h k)
   where
-    both : (x y : ℕ) → y + y ≤ (x + 1) * (y + 1) → s₁ ≤ s₀ + y → s₂ ≤ s₁ + y → s₂ ≤ s₀ + (x + 1) * (y + 1)
-    both x y l h k = omega arith
+    all : (x y : ℕ) → x + y + y ≤ (x + 1) * (y + 1) → s₁ ≤ s₀ + x → s₂ ≤ s₁ + y → s₃ ≤ s₂ + y → s₃ ≤ s₀ + (x + 1) * (y + 1)
+    all x y l g h k = omega arith

@@ -4,6 +4,7 @@ ghost use Rattle.haya_assignment.specs.Answer.{IsAnswer, IsCompleted, OnFound};
 ghost use Rattle.haya_assignment.specs.Assignment.{rows, true_positions};
 ghost use Rattle.haya_assignment.specs.Placed.{accepts, IsLeastBelow, IsPlaced};
 
+use crate::greedy::take_in_turn;
 use crate::place::place;
 use haya_entry::Steps;
 use haya_text::OutOfMemory;
@@ -110,6 +111,9 @@ pub fn least_assignment(
     ensures at_most { steps.new ≤ steps.old
         + (length table.now * parents + 1) * (length table.now * length table.now * parents + 1) }
 {
+    if let Some(taken) = take_in_turn(alloc, table, parents, steps)? {
+        return Ok(Assignment::Found(taken));
+    }
     match complete(alloc, table, parents, steps)? {
         Assignment::Found(mut positions) => {
             lower(alloc, table, parents, &mut positions, steps)?;

@@ -3,6 +3,7 @@
 #![tactic(auto)]
 
 mod assignment;
+mod greedy;
 pub mod laws;
 mod place;
 mod search;

@@ -12,7 +12,7 @@ use haya_text::OutOfMemory;
 use std::alloc::Global;
 
 /// Whether the member is accepted at the position: one look into the table.
-fn look(
+pub fn look(
     table: &[Vec<bool>],
     parents: usize,
     member: usize,

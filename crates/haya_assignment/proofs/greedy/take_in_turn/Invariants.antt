@@ -1,0 +1,15 @@
+use Rattle.std.proofs.Common.{◌≡◌, ◌+◌, ◌*◌, ◌≤◌, ◌++◌, drop, length, reverse}
+use Rattle.std.specs.Prelude.{option_map}
+use Rattle.haya_assignment.specs.Assignment.{greedy, greedy_beside, rows}
+use Rattle.haya_assignment.proofs.InTurn.{AreFlags}
+use Rattle.haya_assignment.proofs.greedy.take_in_turn.Given as goal
+
+abbrev pub invariant-members : goal.invariant-members
+invariant-members l =
+    record {
+      as_many : length l.taken.items ≡ l.parents;
+      flags : AreFlags (reverse l.positions.items) l.taken.items;
+      answer : option_map (λ is. l.positions.items ++ is) (greedy_beside (reverse l.positions.items) (drop l.member (rows l.table))) ≡ greedy (rows l.table);
+      least : l.fn.steps + l.member ≤ l.steps;
+      most : l.steps ≤ l.fn.steps + l.member * l.parents;
+    }
