@@ -1,7 +1,4 @@
-mod Chains
 mod Faults
-mod Progress
-mod InputRows
 mod Lines
 mod Names
 mod OutputRows

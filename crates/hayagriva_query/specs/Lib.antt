@@ -1,6 +1,3 @@
-pub mod Chain
-pub mod Input
-pub mod TextReading
 pub mod Output
 pub mod Parts
 pub mod Words

@@ -17,7 +17,7 @@ use Rattle.hayagriva.specs.Reading.{TextReads, TextFails}
 use Rattle.hayagriva.specs.Syntax.{Syntax}
 use Rattle.hayagriva.specs.Tree.{Tree, view}
 use Rattle.hayagriva.specs.declared.query.Hit.{Hit}
-use Rattle.hayagriva_query.specs.Input.{Describes, rows_read}
+use Rattle.haya_input.specs.Input.{Describes, rows_read}
 use Rattle.haya_lines.specs.Signs.{tab, equals_sign, line_feed}
 use Rattle.hayagriva_query.specs.declared.fault.Fault.{Fault as RunFault}
 use Rattle.hayagriva_query.specs.declared.fault.Fault.TheVariants.{CannotWrite}

@@ -1,8 +1,8 @@
 //! Why the program ends with another status than 0.
 ghost use Rattle.std.specs.Prelude.{◌≡◌, ◌≢◌};
-ghost use Rattle.hayagriva_query.specs.declared.fault.Fault.TheVariants.{Usage, Line};
+ghost use Rattle.hayagriva_query.specs.declared.fault.Fault.TheVariants.{Usage};
 
-use haya_lines::LineFault;
+use haya_input::InputFault;
 use hayagriva::{OutOfMemory, SelectorError};
 use std::alloc::{AllocError, AllocFailed};
 use thiserror::Error;
@@ -19,9 +19,9 @@ pub enum Fault {
     /// The input isn't UTF-8.
     #[error("not text")]
     NotText,
-    /// The line with this number, from 1 on, is the first with a fault.
-    #[error("line {0}: {1}")]
-    Line(usize, LineFault),
+    /// The input describes no library.
+    #[error("{0}")]
+    Input(InputFault),
     /// The argument is no selector.
     #[error("{0}")]
     Selector(SelectorError),
@@ -44,15 +44,19 @@ impl Fault {
             _ => 1,
         }
     }
+}
 
-    /// The fault of the line with this number. Out of memory is none of the line's.
-    pub fn of_line(number: usize, fault: LineFault) -> Fault
-        ensures memory { fault ≡ LineFault.OutOfMemory → result ≡ Fault.OutOfMemory }
-        ensures line { fault ≢ LineFault.OutOfMemory → result ≡ Line number fault }
-    {
-        match fault {
-            LineFault::OutOfMemory => Fault::OutOfMemory,
-            _ => Fault::Line(number, fault),
+impl From<InputFault> for Fault {
+    ghost use Rattle.haya_input.specs.declared.fault.InputFault.TheVariants as error;
+    ghost use Rattle.hayagriva_query.specs.declared.fault.Fault.TheVariants.{Input, OutOfMemory};
+
+    ghost from_gives = { λ s e. (s ≡ error.OutOfMemory → e ≡ OutOfMemory)
+        × (s ≢ error.OutOfMemory → e ≡ Input s) };
+
+    fn from(error: InputFault) -> Fault {
+        match error {
+            InputFault::OutOfMemory => Fault::OutOfMemory,
+            _ => Fault::Input(error),
         }
     }
 }

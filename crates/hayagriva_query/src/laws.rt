@@ -1,28 +1,14 @@
-//! Laws of the definitions. A call of one, as `text_in_parts();`, gives its statement to the
+//! Laws of the definitions. A call of one, as `runs_in_parts();`, gives its statement to the
 //! caller's proof.
 ghost use Rattle.std.specs.Prelude.{◌≡◌, ◌++◌, ℕ, All, List, Option};
 ghost use Rattle.std.specs.List.{AllPairs, AllZip, concat, flat_map};
 ghost use Rattle.std.specs.Str.{chars};
-ghost use Rattle.std.specs.Str.Lines.{lines};
-ghost use Rattle.hayagriva.specs.Library.{AreDistinct};
-ghost use Rattle.hayagriva.specs.Parts.{AreApart};
 ghost use Rattle.hayagriva.specs.Reading.{TextReads};
 ghost use Rattle.hayagriva.specs.Syntax.{Syntax};
 ghost use Rattle.hayagriva.specs.Tree.{Tree};
-ghost use Rattle.hayagriva_query.specs.Input.{Describes};
+ghost use Rattle.haya_input.specs.Parts.{AreWholeLines, DescribeApart};
 ghost use Rattle.hayagriva_query.specs.Output.{Answers, AreLinesAt};
-ghost use Rattle.hayagriva_query.specs.Parts.{AreWholeLines, DescribeApart, Shows};
-
-/// Whole lines and a text behind them describe the entries of both, where no key is in both.
-pub fn text_in_parts()
-    ensures lines { (first second : List ℕ) → AreWholeLines first →
-        lines (first ++ second) ≡ lines first ++ lines second }
-    ensures two { (first second : List ℕ) (a b : List Tree) → AreWholeLines first → AreApart a b →
-        Describes first a → Describes second b → Describes (first ++ second) (a ++ b) }
-    ensures many { (texts : List (List ℕ)) (parts : List (List Tree)) →
-        All AreWholeLines texts → AllPairs AreApart parts →
-        AllZip Describes texts parts → Describes (concat texts) (flat_map (λ a. a) parts) }
-{}
+ghost use Rattle.hayagriva_query.specs.Parts.{Shows};
 
 /// What is printed over the entries of two libraries is what is printed over those of the first,
 /// and then over those of the second.
@@ -34,17 +20,8 @@ pub fn output_in_parts()
         AreLinesAt s (flat_map (λ a. a) parts) (concat printed) }
 {}
 
-/// Where the keys of a text's entries are distinct, its library is these entries as they stand.
-pub fn distinct_entries_stand()
-    ensures { (text : List ℕ) (library : List Tree) (given : Describes text library) →
-        AreDistinct given.entries → library ≡ given.entries }
-{}
-
-/// A text describes one library; and what a run that ends well prints is told by its word and its
-/// input.
+/// What a run that ends well prints is told by its word and its input.
 pub fn one_output()
-    ensures library { (text : List ℕ) (a b : List Tree) →
-        Describes text a → Describes text b → a ≡ b }
     ensures run { (word : List ℕ) (unread left before after : Option (List ℕ)) →
         (run : Answers word unread left before after) → Shows word run.text run.printed }
     ensures one { (word text p q : List ℕ) → Shows word text p → Shows word text q → p ≡ q }

@@ -4,7 +4,6 @@
 mod arguments;
 mod fault;
 mod laws;
-mod library_text;
 mod printing;
 mod reading;
 mod running;

@@ -9,9 +9,9 @@ ghost use Rattle.hayagriva_query.specs.Output.{Answers, KeepsAtFault, Stands};
 ghost use Rattle.hayagriva_query.specs.Words.{IsStatus, words_of};
 
 use crate::fault::Fault;
-use crate::library_text::read_library;
 use crate::printing::print_hits;
 use crate::reading::read_all;
+use haya_input::read_library;
 use hayagriva::HashKeys;
 use std::alloc::Global;
 use std::io::{Read, Write};

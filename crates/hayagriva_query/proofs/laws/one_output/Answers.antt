@@ -1,8 +1,5 @@
-use Rattle.hayagriva_query.proofs.OneOutput.{Describes-same, Shows-same}
+use Rattle.hayagriva_query.proofs.OneOutput.{Shows-same}
 use Rattle.hayagriva_query.proofs.laws.one_output.Goals as goal
-
-pub returns-clause-library : goal.returns-clause-library
-returns-clause-library c = Describes-same
 
 pub returns-clause-run : goal.returns-clause-run
 returns-clause-run c = λ word unread left before after run. record {

@@ -1,0 +1,5 @@
+mod Chains
+mod Progress
+mod InputRows
+pub mod OneLibrary
+pub mod Parts

@@ -1,0 +1,4 @@
+pub mod Chain
+pub mod Input
+pub mod Parts
+pub mod TextReading
