@@ -18,73 +18,8 @@ use Rattle.haya_json.specs.Values.{format_of, person_of, persons_of, roles_of, a
 use Rattle.haya_json.specs.Entries.{type_of, type_among, key_among, with_member, entry_of, members_set, parents_of, parents_from}
 use Rattle.haya_json.specs.Libraries.{entries_of, library_of}
 use Rattle.haya_json.specs.Printed.{also, one_or_many_json, format_json, person_json, roles_json, date_json, publisher_json, url_json, typed_json, number_json, number_or_text_json, serial_json, type_json, field_members, json_of, parent_members, item_list, library_members, library_json}
+use Rattle.haya_json.proofs.Solids.{RefusesNull, solid, format_of_null, persons_of_null, affiliated_of_null, date_of_null, publisher_of_null, url_of_null, number_of_null, number_or_text_of_null, pages_or_text_of_null, range_or_text_of_null, duration_or_text_of_null, serials_of_null, plain_of_null}
 use Rattle.haya_json.specs.ReadBack.{IsBack, FieldsAreBack, TreeIsBack, TreesAreBack, EntriesAreBack}
-
--- ---- what is read isn't null
-
-RefusesNull : {V : Type 0} → (Json → Result V Refusal) → Type 0
-RefusesNull {V} read = (v : V) → read json.null ≡ Ok v → ⊥
-
-solid : {V : Type 0} (read : Json → Result V Refusal) (j : Json) (v : V) → RefusesNull read → read j ≡ Ok v → is_null j ≡ false
-unfolding RefusesNull
-solid read json.null v refuses is = absurd (refuses v is)
-solid read (json.boolean b) v refuses is = refl
-solid read (json.number s) v refuses is = refl
-solid read (json.string s) v refuses is = refl
-solid read (json.array js) v refuses is = refl
-solid read (json.object ms) v refuses is = refl
-
-format_of_null : RefusesNull format_of
-unfolding RefusesNull format_of
-format_of_null v is = cc
-
-persons_of_null : RefusesNull persons_of
-unfolding RefusesNull persons_of person_of
-persons_of_null v is = cc
-
-affiliated_of_null : RefusesNull affiliated_of
-unfolding RefusesNull affiliated_of roles_of
-affiliated_of_null v is = cc
-
-date_of_null : RefusesNull date_of
-unfolding RefusesNull date_of
-date_of_null v is = cc
-
-publisher_of_null : RefusesNull publisher_of
-unfolding RefusesNull publisher_of
-publisher_of_null v is = cc
-
-url_of_null : RefusesNull url_of
-unfolding RefusesNull url_of
-url_of_null v is = cc
-
-number_of_null : RefusesNull number_of
-unfolding RefusesNull number_of
-number_of_null v is = cc
-
-number_or_text_of_null : RefusesNull number_or_text_of
-unfolding RefusesNull number_or_text_of
-number_or_text_of_null v is = cc
-
-pages_or_text_of_null : RefusesNull pages_or_text_of
-unfolding RefusesNull pages_or_text_of
-pages_or_text_of_null v is = cc
-
-range_or_text_of_null : RefusesNull range_or_text_of
-unfolding RefusesNull range_or_text_of
-range_or_text_of_null v is = cc
-
-duration_or_text_of_null : RefusesNull duration_or_text_of
-unfolding RefusesNull duration_or_text_of
-duration_or_text_of_null v is = cc
-
-serials_of_null : RefusesNull serials_of
-unfolding RefusesNull serials_of
-serials_of_null v is = cc
-
-plain_of_null : RefusesNull plain_of
-unfolding RefusesNull
-plain_of_null v is = cc
 
 type_solid : (kind : EntryType) → is_null (type_json kind) ≡ false
 unfolding type_json

@@ -1,8 +1,19 @@
 mod Lists
+pub mod Tallies
 mod Wholes
 mod Serials
 mod InOrder
 mod Written
 mod WrittenEntries
 mod ReadBacks
+mod Solids
 mod EntriesBack
+mod Looked
+mod PersonsBack
+mod DatesBack
+mod TextsBack
+mod NumbersBack
+mod SerialsBack
+mod FieldsBack
+mod Sounds
+mod SoundEntries

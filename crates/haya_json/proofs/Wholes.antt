@@ -1,7 +1,11 @@
 -- Whole numbers that `parse` reads.
-use Rattle.std.proofs.Common.{◌≡◌, ℕ, ◌&&◌, Bool, true, false, List, None, Some, Result, Ok, Err, refl, sym, ap, ◌∙◌, ℤ, pos, negsuc, length, rules, arith}
+use Rattle.std.proofs.Common.{◌≡◌, ℕ, ◌^◌, ◌<◌, true≢false, ◌&&◌, Bool, true, false, List, None, Some, Result, Ok, Err, refl, sym, ap, ◌∙◌, ℤ, pos, negsuc, length, rules, arith}
 use Rattle.std.specs.Prelude.{FitsSigned, nat_lt, if◌then◌else◌}
 use Rattle.std.specs.Int.{w32}
+use Rattle.std.specs.Fmt.{signed_decimal}
+use lib.Signed.{mag}
+use Rattle.std.proofs.lemmas.Bool.{ltb-true, lt-ltb}
+use Rattle.std.proofs.lemmas.Fmt.{parse-signed_decimal}
 use Rattle.std.specs.Result.{result_ok}
 use Rattle.std.specs.Str.{all_ascii_digits}
 use Rattle.std.specs.Str.Parse.{IsNumeral, ParsesSigned, digits_value, signed_digits_value, without_leading_sign}
@@ -51,3 +55,40 @@ parsed_whole text (Ok n) h =
     ∙ sym (if_true _ (Some (signed_digits_value 10 text)) None (both _ _ (numeral _ h.0.0) (is_i32-fits _ h.0.1)))
 parsed_whole text (Err e) h =
     sym (if_not (is_numeral (without_leading_sign text) && is_i32 (signed_digits_value 10 text)) (Some (signed_digits_value 10 text)) None (λ t. h (is-numeral _ (first_of _ (is_i32 (signed_digits_value 10 text)) t), fits-is_i32 _ (second_of (is_numeral (without_leading_sign text)) _ t))))
+
+-- ---- whole numbers that are printed
+
+pub small : (z : ℤ) → is_i32 z ≡ true → mag z < 2 ^ 63
+small (pos n) h = omega (arith, ltb-true n (2 ^ 31) h)
+small (negsuc n) h = omega (arith, ltb-true n (2 ^ 31) h)
+
+equal_values : {V E : Type 0} (v w : V) → (let r : Result V E = Ok v in r ≡ Ok w) → v ≡ w
+equal_values v w h = cc
+
+no_error : {V E : Type 0} (e : E) (v : V) → Err e ≡ Ok v → ⊥
+no_error e v h = cc
+
+-- a whole number is read from what is printed of it
+pub whole_back : (z : ℤ) → is_i32 z ≡ true → whole_read (signed_decimal z) ≡ Some z
+whole_back z fits = by (is_numeral (without_leading_sign text) && is_i32 (signed_digits_value 10 text)) refl
+  where
+    text : List ℕ
+    text = signed_decimal z
+
+    parsed : (r : Result ℤ ℕ) → ParsesSigned w32 10 (signed_decimal z) r → r ≡ Ok z
+    parsed r parses = parse-signed_decimal w32 z (signed_decimal z) r (fits-is_i32 z fits) (small z fits) refl parses
+
+    by : (b : Bool) → (is_numeral (without_leading_sign text) && is_i32 (signed_digits_value 10 text)) ≡ b → whole_read (signed_decimal z) ≡ Some z
+    by true is =
+        let read : Ok (signed_digits_value 10 text) ≡ Ok z =
+        parsed (Ok (signed_digits_value 10 text))
+        ((is-numeral _ (first_of _ (is_i32 (signed_digits_value 10 text)) is), fits-is_i32 _ (second_of (is_numeral (without_leading_sign text)) _ is)), refl) in
+        let same = equal_values (signed_digits_value 10 text) z read in
+        if_true _ (Some (signed_digits_value 10 text)) None is ∙ ap Some same
+    by false is =
+        let read : Err 0 ≡ Ok z =
+        parsed (Err 0) (λ p. true≢false (sym (both _ _ (numeral _ p.0) (is_i32-fits _ p.1)) ∙ is)) in
+        absurd (no_error 0 z read)
+
+pub byte_fits : (n : ℕ) → nat_lt n 256 ≡ true → is_i32 (pos n) ≡ true
+byte_fits n h = lt-ltb n (2 ^ 31) (omega (arith, ltb-true n 256 h))

@@ -5,7 +5,10 @@ pub mod Values
 pub mod Fields
 pub mod Entries
 pub mod Libraries
+pub mod Tally
+pub mod Ignored
 pub mod Messages
 pub mod Printed
 pub mod Writing
+pub mod Readable
 pub mod ReadBack

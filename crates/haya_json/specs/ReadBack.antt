@@ -3,14 +3,15 @@ use Rattle.std.specs.Prelude.{◌≡◌, ◌≤◌, List, [], ◌∷◌, Option,
 use Rattle.json.specs.Json as json
 use Rattle.json.specs.Json.{Json, max_depth}
 use Rattle.json.specs.Strict.{HasUniqueKeys}
-use Rattle.json.specs.Tree.{HasNumbers, depth as nesting}
+use Rattle.json.specs.Print.{print}
+use Rattle.json.specs.Tree.{HasNumbers, depth as nesting, json_tokens}
 use Rattle.haya_numbers.specs.PagesPrinted.{shown_pages}
 use Rattle.haya_time.specs.DurationPrint.{duration_text, range_text}
 use Rattle.haya_entry.specs.Tree.{Tree, Trees, Fields, node, no_trees, one_more}
 use Rattle.haya_json.specs.Refusal.{Refusal}
 use Rattle.haya_json.specs.Parts.{plain_of}
 use Rattle.haya_json.specs.Values.{format_of, persons_of, affiliated_of, date_of, publisher_of, url_of, number_of, number_or_text_of, pages_or_text_of, range_or_text_of, duration_or_text_of, serials_of}
-use Rattle.haya_json.specs.Libraries.{library_of}
+use Rattle.haya_json.specs.Libraries.{Describes, library_of}
 use Rattle.haya_json.specs.Printed.{one_or_many_json, format_json, person_json, roles_json, date_json, publisher_json, url_json, typed_json, number_json, number_or_text_json, serial_json, library_json}
 
 -- The JSON of the library can be read, since it nests no deeper than 128, its numbers are numbers
@@ -20,6 +21,10 @@ pub record SaysItself (library : List Tree) : Type 0 where
   pub numbers : HasNumbers (library_json library)
   pub unique : HasUniqueKeys (library_json library)
   pub read : library_of (library_json library) ≡ Ok library
+
+-- the bytes that are printed of the library describe it
+abbrev pub ReadsBack : List Tree → Type 0
+ReadsBack library = Describes (print (json_tokens (library_json library))) library
 
 -- ---- value by value
 

@@ -1,12 +1,20 @@
 //! Laws of the definitions. A call of one, as `one_library();`, gives its statement to the caller's
 //! proof.
-ghost use Rattle.std.specs.Prelude.{◌≡◌, ℕ, List, Ok};
-ghost use Rattle.json.specs.Print.{print};
-ghost use Rattle.json.specs.Tree.{json_tokens};
+ghost use Rattle.std.specs.Prelude.{◌≡◌, ◌≤◌, ℕ, List, Ok};
+ghost use Rattle.json.specs.Json.{max_depth};
+ghost use Rattle.json.specs.Tree.{depth as nesting};
+ghost use Rattle.haya_text.specs.Chunks.{chunks};
+ghost use Rattle.haya_text.specs.Normal.{IsNormal};
+ghost use Rattle.haya_text.specs.declared.strings.chunked.ChunkedString.{ChunkedString as Text};
+ghost use Rattle.haya_people.specs.Person.{PersonView};
+ghost use Rattle.haya_time.specs.declared.date.Date.{Date};
 ghost use Rattle.haya_entry.specs.Tree.{Tree};
+ghost use Rattle.hayagriva.specs.Library.{AreDistinct};
 ghost use Rattle.haya_json.specs.Libraries.{Describes, library_of};
-ghost use Rattle.haya_json.specs.Printed.{library_json};
-ghost use Rattle.haya_json.specs.ReadBack.{EntriesAreBack, SaysItself};
+ghost use Rattle.haya_json.specs.Printed.{date_json, library_json, person_json};
+ghost use Rattle.haya_json.specs.ReadBack.{EntriesAreBack, ReadsBack, SaysItself};
+ghost use Rattle.haya_json.specs.Readable.{AreReadable, EntriesAreReadable, IsReadableDate};
+ghost use Rattle.haya_json.specs.Values.{date_of, person_of};
 
 /// A text describes one library, if it describes any.
 pub fn one_library()
@@ -23,6 +31,23 @@ pub fn entries_read_back()
 /// Where the JSON of a library says the library, and nests no deeper than 128, the bytes that
 /// `to_json` prints describe that library.
 pub fn printed_libraries_read_back()
-    ensures { (library : List Tree) → SaysItself library
-        → Describes (print (json_tokens (library_json library))) library }
+    ensures { (library : List Tree) → SaysItself library → ReadsBack library }
 {}
+
+/// A library with distinct keys, whose values are as `EntriesAreReadable` says type by type, and
+/// whose JSON nests no deeper than 128, is read back from what `to_json` prints of it.
+pub fn readable_libraries_read_back()
+    ensures { (library : List Tree) → EntriesAreReadable library → AreDistinct library
+        → nesting (library_json library) ≤ max_depth → ReadsBack library }
+{}
+
+/// Persons are always read from what is printed of them, and chunks of a text where they are in
+/// normal form.
+pub fn values_read_back()
+    ensures person { (p : PersonView) → person_of (person_json p) ≡ Ok p }
+    ensures date { (d : Date) → IsReadableDate d → date_of (date_json d) ≡ Ok d }
+    ensures text { (text : Text) → IsNormal (chunks text) → AreReadable (chunks text) }
+{
+    haya_text::laws::canonical();
+    haya_text::laws::normal_form();
+}

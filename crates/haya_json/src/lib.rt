@@ -6,15 +6,18 @@ mod error;
 mod fault;
 mod fields;
 mod from_json;
+mod ignored;
 pub mod laws;
 mod libraries;
 mod members;
-#[cfg(test)]
-mod tests;
+mod passed_over;
+mod reading_back;
 mod values;
 mod writing;
 
 pub use error::ReadError;
 pub use fault::{Step, Why};
+pub use ignored::{Ignored, IgnoredNames};
 pub use libraries::read_library;
+pub use reading_back::reads_back;
 pub use writing::to_json;

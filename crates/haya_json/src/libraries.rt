@@ -5,34 +5,60 @@ ghost use Rattle.json.specs.Value.{members_view, value_view};
 ghost use Rattle.haya_json.specs.Refusal.{IsFaultOf};
 ghost use Rattle.haya_json.specs.Libraries.{Describes, IsErrorOf, entries_of, entries_pushed};
 ghost use Rattle.haya_json.specs.Libraries.{library_of};
+ghost use Rattle.haya_json.specs.Ignored.{IsPassedOver, counts_of, passed_over};
+ghost use Rattle.haya_json.specs.Tally.{tally};
 
 use crate::entries::read_entry;
 use crate::error::ReadError;
 use crate::fault::{Fault, Why};
+use crate::ignored::Ignored;
+use crate::passed_over::ignored_in;
 use hayagriva::Library;
 use json::{Scratch, Value};
 use std::alloc::Global;
 
 /// The library that a text says in hayagriva's file format, written as JSON: an object of entries
 /// under their keys, in the order of the text. An entry is an object of its `type`, its fields and
-/// its `parent`. A member of another name is passed over.
+/// its `parent`. A member of another name is passed over, and counted; members of the objects
+/// inside values aren't, nor is a null.
 ///
 /// `NotJson`: the text is no JSON. `NameTwice`: it is, and an object has a member twice. `Refused`:
 /// a value is not what its place asks for.
-pub fn read_library(alloc: Global, text: &str) -> Result<Library, ReadError>
-    ensures library { IfOk result (Describes text.now) }
+pub fn read_library(alloc: Global, text: &str) -> Result<(Library, Ignored), ReadError>
+    ensures library { IfOk result (λ read. Describes text.now read.0) }
+    ensures ignored { IfOk result (λ read. IsPassedOver text.now read.1) }
     ensures error { IfErr result (IsErrorOf text.now) }
 {
     let mut scratch = Scratch::new(alloc);
     match Value::parse_strict(alloc, text, &mut scratch) {
-        Ok(json) => match library_of(alloc, &json) {
-            Ok(library) => Ok(library),
+        Ok(json) => match library_and_ignored(alloc, &json) {
+            Ok(read) => Ok(read),
             Err(Fault::Refused(path, why)) => Err(ReadError::Refused(path, why)),
             Err(Fault::OutOfMemory) => Err(ReadError::OutOfMemory),
         },
         Err(json::Error::Invalid) => Err(ReadError::NotJson),
         Err(json::Error::DuplicateKey) => Err(ReadError::NameTwice),
         Err(_) => Err(ReadError::OutOfMemory),
+    }
+}
+
+// The library that a value says, and what is passed over of it.
+fn library_and_ignored(alloc: Global, json: &Value<'_>) -> Result<(Library, Ignored), Fault>
+    ensures ok { IfOk result (λ read. HasUniqueKeys (value_view json.now)
+        → library_of (value_view json.now) ≡ Ok read.0) }
+    ensures ignored { IfOk result (λ read.
+        counts_of read.1 ≡ tally (passed_over (value_view json.now))) }
+    ensures fault { IfErr result (IsFaultOf (library_of (value_view json.now))) }
+{
+    match library_of(alloc, json) {
+        Ok(library) => match ignored_in(alloc, json) {
+            Ok(ignored) => Ok((library, ignored)),
+            Err(_) => {
+                drop(library);
+                Err(Fault::OutOfMemory)
+            }
+        },
+        Err(fault) => Err(fault),
     }
 }
 

@@ -1,5 +1,6 @@
 //! Libraries.
 ghost use Rattle.std.specs.Prelude.{◌≡◌, ◌++◌, string_bytes, IfOk, OnOk};
+ghost use Rattle.std.specs.Str.{IsUtf8};
 ghost use Rattle.json.specs.Json.{no_members};
 ghost use Rattle.json.specs.Print.{print};
 ghost use Rattle.json.specs.Tree.{json_tokens, members_tokens};
@@ -15,8 +16,9 @@ use std::alloc::Global;
 /// The library as JSON in hayagriva's file format, with no white space: the bytes that
 /// `read_library` reads.
 pub fn to_json(alloc: Global, library: &Library) -> Result<Vec<u8>, OutOfMemory>
-    ensures { IfOk result (λ bytes.
+    ensures bytes { IfOk result (λ bytes.
         bytes.items ≡ print (json_tokens (library_json library.now))) }
+    ensures text { IfOk result (λ bytes. IsUtf8 bytes.items) }
 {
     let mut out = Writer::new(Vec::new(alloc));
     out.begin_object()?;

@@ -1,0 +1,55 @@
+-- Numbers, and values that are typed or a text, that are read from what is printed of them.
+use Rattle.std.proofs.Common.{◌≡◌, ℕ, ℤ, Bool, true, false, List, [], ◌∷◌, Option, None, Some, Result, Ok, Err, refl, sym, ap, ◌∙◌}
+use Rattle.std.specs.Prelude.{codes, ok_or, if◌then◌else◌, option_map, IfSome}
+use Rattle.std.specs.Result.{result_ok}
+use Rattle.std.specs.Fmt.{signed_decimal}
+use Rattle.json.specs.Json as json
+use Rattle.json.specs.Json.{Json}
+use Rattle.haya_numbers.specs.Numeric.{NumericView, ValueView, Single, SetOf, single_number, without_affixes}
+use Rattle.haya_numbers.specs.NumericReading.{numeric_read}
+use Rattle.haya_numbers.specs.NumericPrinted.{shown_numeric}
+use Rattle.haya_values.specs.MaybeTyped.{TypedOrText, Typed, Text, typed_or_text}
+use Rattle.haya_json.specs.Refusal.{Refusal, and_then}
+use Rattle.haya_json.specs.Parts.{plain_of}
+use Rattle.haya_json.specs.Whole.{is_i32, whole_read}
+use Rattle.haya_json.specs.Values.{number_of, number_or_text_of, typed_by}
+use Rattle.haya_json.specs.Printed.{number_json, number_or_text_json, typed_json, typed_text}
+use Rattle.haya_json.specs.Readable.{IsReadableNumber, IsReadableNumberOrText, IsReadableTyped}
+use Rattle.haya_json.proofs.Wholes.{whole_back}
+
+-- one number is that number without affixes
+single_is : (v : ValueView) (prefix suffix : Option (List ℕ)) (z : ℤ)
+    → single_number (record { value = v; prefix = prefix; suffix = suffix }) ≡ Some z
+    → record { value = v; prefix = prefix; suffix = suffix } ≡ without_affixes (Single z)
+single_is (Single n) None None z h = let same : n ≡ z = cc in ap (λ m. without_affixes (Single m)) same
+single_is (Single n) None (Some s) z h = cc
+single_is (Single n) (Some p) s z h = cc
+single_is (SetOf ns) None None z h = cc
+single_is (SetOf ns) None (Some s) z h = cc
+single_is (SetOf ns) (Some p) s z h = cc
+
+pub number_back : (n : NumericView) → IsReadableNumber n → number_of (number_json n) ≡ Ok n
+unfolding number_of number_json
+number_back n back = by (single_number n) refl
+  where
+    by : (o : Option ℤ) → single_number n ≡ o → number_of (number_json n) ≡ Ok n
+    by None is = let read = rw is at back in rw (is, read) refl
+    by (Some z) is =
+        let fits = rw is at back in
+        rw (is, whole_back z fits) (ap Ok (sym (single_is n.value n.prefix n.suffix z is)))
+
+pub number_or_text_back : (v : TypedOrText NumericView) → IsReadableNumberOrText v → number_or_text_of (number_or_text_json v) ≡ Ok v
+unfolding number_or_text_of number_or_text_json number_json
+number_or_text_back (Text text) none = rw none refl
+number_or_text_back (Typed n) back = by (single_number n) refl
+  where
+    by : (o : Option ℤ) → single_number n ≡ o → number_or_text_of (number_or_text_json (Typed n)) ≡ Ok (Typed n)
+    by None is = let read = rw is at back in rw (is, read) refl
+    by (Some z) is =
+        let fits = rw is at back in
+        rw (is, whole_back z fits) (ap (λ m. Ok (Typed m)) (sym (single_is n.value n.prefix n.suffix z is)))
+
+pub typed_back : {V : Type 0} (reads : List ℕ → Option V) (show : V → List ℕ) (v : TypedOrText V) → IsReadableTyped reads show v → typed_by reads (typed_json show v) ≡ Ok v
+unfolding typed_json
+typed_back reads show (Typed v) back = rw back refl
+typed_back reads show (Text text) none = rw none refl
