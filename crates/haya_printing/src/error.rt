@@ -1,0 +1,48 @@
+//! Why an entry isn't printed as lines.
+ghost use Rattle.std.specs.Prelude.{◌≡◌};
+
+use haya_text::OutOfMemory;
+use std::alloc::{AllocError, AllocFailed};
+use thiserror::Error;
+
+/// Why an entry isn't printed as lines.
+#[derive(Debug, Drop, PartialEq, Eq, Error)]
+pub enum LinesError {
+    /// No lines say the entry: of it or of an ancestor, which has this key, the field with this
+    /// name has a value that no text in a line reads as.
+    #[error("no line says the {1} of `{0}`")]
+    Unsaid(String, &'static str),
+    /// An allocation failed, which says nothing of the entry.
+    #[error("out of memory")]
+    OutOfMemory,
+}
+
+impl From<OutOfMemory> for LinesError {
+    ghost use Rattle.haya_printing.specs.declared.error.LinesError.TheVariants.{OutOfMemory};
+
+    ghost from_gives = { λ _ e. e ≡ OutOfMemory };
+
+    fn from(_error: OutOfMemory) -> LinesError {
+        LinesError::OutOfMemory
+    }
+}
+
+impl From<AllocError> for LinesError {
+    ghost use Rattle.haya_printing.specs.declared.error.LinesError.TheVariants.{OutOfMemory};
+
+    ghost from_gives = { λ _ e. e ≡ OutOfMemory };
+
+    fn from(_error: AllocError) -> LinesError {
+        LinesError::OutOfMemory
+    }
+}
+
+impl<T: Drop> From<AllocFailed<T>> for LinesError {
+    ghost use Rattle.haya_printing.specs.declared.error.LinesError.TheVariants.{OutOfMemory};
+
+    ghost from_gives = { λ _ e. e ≡ OutOfMemory };
+
+    fn from(_error: AllocFailed<T>) -> LinesError {
+        LinesError::OutOfMemory
+    }
+}
