@@ -1,0 +1,8 @@
+//! Libraries in JSON: what is read and printed, and why a text says no library.
+mod examples;
+mod ignored;
+mod limits;
+mod printed;
+mod refused;
+mod rows;
+mod shown;

@@ -1,0 +1,112 @@
+//! Rows: lines that are read and printed again, and entries that no lines say.
+use haya_entry::{Entry, EntryType};
+use haya_input::read_library;
+use haya_printing::entry_lines;
+use haya_text::{ChunkedString, FormatString, ReadText};
+use haya_time::Date;
+use haya_values::QualifiedUrl;
+use hayagriva::HashKeys;
+use std::process::Abort;
+
+// Lines of an entry, and what is printed of it, where that isn't the same.
+const LINES: &[(&str, &str)] = &[
+    ("0\ta\tbook\n", ""),
+    (
+        "0\tx\tArticle\tdoi=10.1/x\ttitle=A {B} $c$ \\{\n1\tj\tPeriodical\tissn=1\n2\ts\tweb\n1\tb\tbook\n",
+        "0\tx\tarticle\ttitle=A {B} $c$ \\{\tdoi=10.1/x\n1\tj\tperiodical\tissn=1\n2\ts\tweb\n1\tb\tbook\n",
+    ),
+    (
+        "0\tx\tmisc\tauthor=Doe, Jane\tauthor=van der Berg, Jr., Jan\teditor=ACM\taffiliated=translator:Kwan, Kevin\n",
+        "",
+    ),
+    (
+        "0\tx\tmisc\tdate=~2014-07\tpublisher=P {Q}\turl=http://a=b\tissue=3\tvolume=a\tvolume-total=12\tpage-range=12-15, 20\truntime=01:30:00\tserial-number=n\tlanguage=en\n",
+        "",
+    ),
+];
+
+#[test]
+fn prints_what_reads_as_the_entry(rt: HostRuntime) {
+    let alloc = rt.alloc();
+    for (read, printed) in LINES {
+        let library = read_library(alloc, HashKeys::new(0, 0), read).expect(&rt, "lines");
+        let Some(entry) = library.nth(0) else {
+            panic!(rt; "an entry");
+        };
+        let lines = entry_lines(alloc, entry).expect(&rt, "said");
+        let wanted = if printed.is_empty() { read } else { printed };
+        assert_eq!(rt; lines.as_str(), *wanted);
+    }
+}
+
+// The message of an entry that no lines say.
+fn refusal<R: Abort + AllocGlobal>(rt: &R, entry: &Entry) -> String {
+    match entry_lines(rt.alloc(), entry) {
+        Ok(lines) => lines,
+        Err(error) => format!(in rt.alloc(); "{error}").expect(rt, "room"),
+    }
+}
+
+fn text<R: Abort + AllocGlobal>(rt: &R, text: &str) -> String {
+    String::from_str(rt.alloc(), text).expect(rt, "room")
+}
+
+fn new_entry<R: Abort + AllocGlobal>(rt: &R, key: &str) -> Entry {
+    Entry::new(rt.alloc(), key, EntryType::Book).expect(rt, "room")
+}
+
+#[test]
+fn names_what_no_line_says(rt: HostRuntime) {
+    let alloc = rt.alloc();
+    let mut short = new_entry(&rt, "k");
+    let mut title = FormatString::from_str(alloc, "A").expect(&rt, "a text");
+    title.short = Some(Box::new(
+        alloc,
+        ChunkedString::from_str(alloc, "B").expect(&rt, "a text"),
+    )
+    .expect(&rt, "room"));
+    short.set_title(title);
+    assert_eq!(rt;
+        refusal(&rt, &short).as_str(),
+        "no line says the title of `k`"
+    );
+    let mut visited = new_entry(&rt, "k");
+    let address = text(&rt, "http://a");
+    visited.set_url(QualifiedUrl::new(address, Some(Date::from_year(2014))));
+    visited.set_language(text(&rt, "en"));
+    assert_eq!(rt;
+        refusal(&rt, &visited).as_str(),
+        "no line says the url of `k`"
+    );
+    let mut keyed = new_entry(&rt, "k");
+    keyed
+        .set_keyed_serial_number("eric", text(&rt, "1"))
+        .expect(&rt, "room");
+    assert_eq!(rt;
+        refusal(&rt, &keyed).as_str(),
+        "no line says the serial-number of `k`"
+    );
+    let mut cut = new_entry(&rt, "k");
+    cut.set_language(text(&rt, "a\tb"));
+    assert_eq!(rt;
+        refusal(&rt, &cut).as_str(),
+        "no line says the language of `k`"
+    );
+    let mut below = new_entry(&rt, "k");
+    below.add_parent(cut).expect(&rt, "room");
+    below.add_parent(new_entry(&rt, "a\nb")).expect(&rt, "room");
+    assert_eq!(rt;
+        refusal(&rt, &below).as_str(),
+        "no line says the language of `k`"
+    );
+    assert_eq!(rt;
+        refusal(&rt, &new_entry(&rt, "a\nb")).as_str(),
+        "no line says the key of `a\nb`"
+    );
+    let mut last = new_entry(&rt, "k");
+    last.set_authors(Vec::new(alloc));
+    assert_eq!(rt;
+        refusal(&rt, &last).as_str(),
+        "no line says the author of `k`"
+    );
+}
