@@ -52,10 +52,10 @@ fn reads_many_members(rt: HostRuntime) {
     let (library, ignored) = read_library(rt.alloc(), text.as_str()).expect(&rt, "a library");
     assert!(rt; library.len() == 1);
     drop(library);
-    let mut names = 0;
+    let mut names = 0_usize;
     for (_, count) in &ignored {
         assert!(rt; count == 1);
-        names += 1;
+        names = names.saturating_add(1);
     }
     assert!(rt; names == 100_000);
 }
