@@ -39,12 +39,14 @@ fn prints_what_reads_as_the_entry(rt: HostRuntime) {
     }
 }
 
-// The message of an entry that no lines say.
-fn refusal<R: Abort + AllocGlobal>(rt: &R, entry: &Entry) -> String {
-    match entry_lines(rt.alloc(), entry) {
+// Checks the message of an entry that no lines say.
+fn refuses<R: Abort + AllocGlobal>(rt: &R, entry: Entry, wanted: &str) {
+    let told = match entry_lines(rt.alloc(), &entry) {
         Ok(lines) => lines,
         Err(error) => format!(in rt.alloc(); "{error}").expect(rt, "room"),
-    }
+    };
+    drop(entry);
+    assert_eq!(rt; told.as_str(), wanted);
 }
 
 fn text<R: Abort + AllocGlobal>(rt: &R, text: &str) -> String {
@@ -55,58 +57,45 @@ fn new_entry<R: Abort + AllocGlobal>(rt: &R, key: &str) -> Entry {
     Entry::new(rt.alloc(), key, EntryType::Book).expect(rt, "room")
 }
 
+// A text with a short form.
+fn shortened<R: Abort + AllocGlobal>(rt: &R) -> FormatString {
+    let mut title = FormatString::from_str(rt.alloc(), "A").expect(rt, "a text");
+    let short = ChunkedString::from_str(rt.alloc(), "B").expect(rt, "a text");
+    title.short = Some(Box::new(rt.alloc(), short).expect(rt, "room"));
+    title
+}
+
 #[test]
-fn names_what_no_line_says(rt: HostRuntime) {
-    let alloc = rt.alloc();
+fn names_the_value_that_no_line_says(rt: HostRuntime) {
     let mut short = new_entry(&rt, "k");
-    let mut title = FormatString::from_str(alloc, "A").expect(&rt, "a text");
-    title.short = Some(Box::new(
-        alloc,
-        ChunkedString::from_str(alloc, "B").expect(&rt, "a text"),
-    )
-    .expect(&rt, "room"));
-    short.set_title(title);
-    assert_eq!(rt;
-        refusal(&rt, &short).as_str(),
-        "no line says the title of `k`"
-    );
+    short.set_title(shortened(&rt));
+    refuses(&rt, short, "no line says the title of `k`");
     let mut visited = new_entry(&rt, "k");
     let address = text(&rt, "http://a");
     visited.set_url(QualifiedUrl::new(address, Some(Date::from_year(2014))));
     visited.set_language(text(&rt, "en"));
-    assert_eq!(rt;
-        refusal(&rt, &visited).as_str(),
-        "no line says the url of `k`"
-    );
+    refuses(&rt, visited, "no line says the url of `k`");
     let mut keyed = new_entry(&rt, "k");
     keyed
         .set_keyed_serial_number("eric", text(&rt, "1"))
         .expect(&rt, "room");
-    assert_eq!(rt;
-        refusal(&rt, &keyed).as_str(),
-        "no line says the serial-number of `k`"
+    refuses(&rt, keyed, "no line says the serial-number of `k`");
+    let mut unwritten = new_entry(&rt, "k");
+    unwritten.set_authors(Vec::new(rt.alloc()));
+    refuses(&rt, unwritten, "no line says the author of `k`");
+}
+
+#[test]
+fn names_the_entry_that_no_line_says(rt: HostRuntime) {
+    refuses(
+        &rt,
+        new_entry(&rt, "a\nb"),
+        "no line says the key of `a\nb`",
     );
-    let mut cut = new_entry(&rt, "k");
-    cut.set_language(text(&rt, "a\tb"));
-    assert_eq!(rt;
-        refusal(&rt, &cut).as_str(),
-        "no line says the language of `k`"
-    );
+    let mut parent = new_entry(&rt, "p");
+    parent.set_language(text(&rt, "a\tb"));
     let mut below = new_entry(&rt, "k");
-    below.add_parent(cut).expect(&rt, "room");
+    below.add_parent(parent).expect(&rt, "room");
     below.add_parent(new_entry(&rt, "a\nb")).expect(&rt, "room");
-    assert_eq!(rt;
-        refusal(&rt, &below).as_str(),
-        "no line says the language of `k`"
-    );
-    assert_eq!(rt;
-        refusal(&rt, &new_entry(&rt, "a\nb")).as_str(),
-        "no line says the key of `a\nb`"
-    );
-    let mut last = new_entry(&rt, "k");
-    last.set_authors(Vec::new(alloc));
-    assert_eq!(rt;
-        refusal(&rt, &last).as_str(),
-        "no line says the author of `k`"
-    );
+    refuses(&rt, below, "no line says the language of `p`");
 }

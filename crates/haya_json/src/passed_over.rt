@@ -38,7 +38,8 @@ fn ignored_among(alloc: Global, entries: &Vec<(&str, Value<'_>)>) -> Result<Igno
 #[tactic(auto, using(crate::proofs::Tallies::counted_together))]
 fn note_entries(ignored: &mut Ignored, entries: &Vec<(&str, Value<'_>)>) -> Result<(), OutOfMemory>
     ensures { OnOk result (counts_of ignored.new
-        ≡ all_counted (entries_passed_over (members_view entries.now.items)) (counts_of ignored.old)) }
+        ≡ all_counted (entries_passed_over (members_view entries.now.items))
+        (counts_of ignored.old)) }
 {
     'entries: for entry in entries {
         note_entry(ignored, false, &entry.1)?;

@@ -36,7 +36,8 @@ pub(crate) fn push_item(line: &mut String, name: &str, text: &str) -> Result<(),
 
 /// A tab, a name and `=`.
 pub(crate) fn push_name(line: &mut String, name: &str) -> Result<(), OutOfMemory>
-    ensures { OnOk result (Pushes line.old line.new (λ rest. tab ∷ name.now ++ equals_sign ∷ rest)) }
+    ensures { OnOk result (Pushes line.old line.new
+        (λ rest. tab ∷ name.now ++ equals_sign ∷ rest)) }
 {
     line.push('\t')?;
     line.push_str(name)?;

@@ -1,5 +1,6 @@
 //! The lines of an entry and of its ancestors.
-ghost use Rattle.std.specs.Prelude.{◌≡◌, ◌⊎◌, [], ◌∷◌, true, false, map, string_bytes, IfOk, IfErr, OnOk};
+ghost use Rattle.std.specs.Prelude.{◌≡◌, ◌⊎◌, [], ◌∷◌, true, false, map, string_bytes};
+ghost use Rattle.std.specs.Prelude.{IfOk, IfErr, OnOk};
 ghost use Rattle.haya_entry.specs.Tree.{fields, trees, view};
 ghost use Rattle.haya_input.specs.Input.{Describes};
 ghost use Rattle.haya_printing.specs.declared.error.LinesError.TheVariants.{OutOfMemory as memory};
