@@ -20,6 +20,7 @@ pub mod Choices
 pub mod InWords
 mod LeastTrue
 mod Nowhere
+mod Stretches
 mod Pieces
 mod Tried
 mod ParentSides

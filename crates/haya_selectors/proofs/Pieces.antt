@@ -1,13 +1,13 @@
 -- Pieces in rows, of known lengths, and the piece at a place of each row.
 use Rattle.std.proofs.Common.{◌≡◌, ℕ, zero, suc, ◌+◌, ◌<◌, ◌≤◌, List, [], ◌∷◌, ◌++◌, length, take, drop, map, get_or, refl, sym, ap, ◌∙◌, append_assoc, arith}
-use Rattle.std.specs.Prelude.{◌-◌, sum, sum_by}
-use Rattle.std.specs.List.{AllZip, copy_within}
+use Rattle.std.specs.Prelude.{◌*◌, ◌-◌, All, sum, sum_by}
+use Rattle.std.specs.List.{copy_within}
 use Rattle.std.proofs.Math.Seq.{paste}
-use Rattle.std.proofs.lemmas.List.{take_at, drop_at, length-append, drop-drop, drop-map, take-map, length-drop, length-map, map-append, drop_more}
+use Rattle.std.proofs.lemmas.List.{take_at, drop_at, length-append, drop-drop, drop-map, take-map, length-drop, map-append, drop_more}
 use Rattle.std.proofs.lemmas.List.Sums.{sum_by-cons, sum_by_more_le}
 use Rattle.std.proofs.lemmas.List.Edits.{drop-paste, length-paste, take-paste}
-use Rattle.haya_selectors.specs.Tries.{joined, all_joined, joined_at, lengths, all_lengths}
-use Rattle.haya_selectors.proofs.Walks.{next_of_map, read_map}
+use Rattle.haya_selectors.specs.Tries.{joined, all_joined, joined_at, lengths, all_lengths, rows_of}
+use Rattle.haya_selectors.proofs.Stretches.{get_or-rows_of, length-row_of, length-rows_of, row_of}
 
 -- of items that stand row by row in pieces of these lengths, the piece at the place of each row
 abbrev pub chosen : {A : Type 0} → List (List ℕ) → List ℕ → List A → List A
@@ -64,28 +64,22 @@ pub record Turn (rows : List (List ℕ)) (places : List ℕ) (m : ℕ) (row : Li
   pub sums : sum_by sum (drop m rows) ≡ sum row + sum_by sum (drop (m + 1) rows)
   pub within : sum (take (get_or places m 0) row) + get_or row (get_or places m 0) 0 ≤ sum row
 
-inside_at : (rows : List (List ℕ)) (places : List ℕ) (m : ℕ) → AllZip (λ row i. i < length row) rows places → m < length rows
-    → (m < length places) × (get_or places m 0 < length (get_or rows m []))
-inside_at [] is m h l = absurd (omega arith)
-inside_at (row ∷ rows) [] m h l = absurd h
-inside_at (row ∷ rows) (i ∷ is) zero h l = (omega arith, h.0)
-inside_at (row ∷ rows) (i ∷ is) (suc m) h l = let k = inside_at rows is m h.1 (omega arith) in (omega (arith, k.0), k.1)
-
-pub turn : {A : Type 0} (f : A → List ℕ) (table : List A) (places : List ℕ) (m : ℕ) (row : A) → AllZip (λ row i. i < length row) (map f table) places
-    → m < length table → row ≡ get_or table m row → Turn (map f table) places m (f row)
-turn f table places m row h l e =
-    let rows = map f table in
-    let here : m < length rows = omega (arith, l, length-map table f) in
-    let is : get_or rows m [] ≡ f row = read_map f table m row [] l e in
-    let inside = rw is at (inside_at rows places m h here) in
-    let left = next_of_map f table m row l e in
+pub turn : (width n : ℕ) (items places : List ℕ) (m : ℕ) → length items ≡ n * width → n ≡ length places → All (λ i. i < width) places → m < n
+    → Turn (rows_of width n items) places m (row_of width m items)
+turn width n items places m e as_many inside l =
+    let rows = rows_of width n items in
+    let row = row_of width m items in
+    let there : m < length places = omega (arith, as_many, l) in
+    let here : m < length rows = omega (arith, l, length-rows_of width n items) in
+    let left : drop m rows ≡ row ∷ drop (m + 1) rows = drop_more rows m [] here ∙ ap (λ row. row ∷ drop (m + 1) rows) (get_or-rows_of width n m items l) in
+    let within : get_or places m 0 < length row = let i : get_or places m 0 < width = inside m 0 there in omega (arith, i, length-row_of width n m items l e) in
     record {
-      there = inside.0;
-      inside = inside.1;
+      there = there;
+      inside = within;
       row_left = left;
-      place_left = drop_more places m 0 inside.0;
-      sums = ap (sum_by sum) left ∙ sum_by-cons sum (f row) (drop (m + 1) rows);
-      within = sum_by_more_le (λ x. x) (f row) (get_or places m 0) 0 inside.1;
+      place_left = drop_more places m 0 there;
+      sums = ap (sum_by sum) left ∙ sum_by-cons sum row (drop (m + 1) rows);
+      within = sum_by_more_le (λ x. x) row (get_or places m 0) 0 within;
     }
 
 -- a list that is moved down

@@ -1,10 +1,10 @@
 -- What the tries of members at entries add, and what is kept of it.
-use Rattle.std.proofs.Common.{◌≡◌, ℕ, zero, suc, ◌+◌, ◌<◌, Bool, true, cond, List, [], ◌∷◌, ◌++◌, Option, Some, None, length, map, get_or, refl, sym, ap, ◌∙◌, subst, arith}
+use Rattle.std.proofs.Common.{◌≡◌, ℕ, zero, suc, ◌+◌, ◌*◌, ◌<◌, Bool, true, cond, List, [], ◌∷◌, ◌++◌, Option, Some, None, length, map, get_or, take, refl, sym, ap, ◌∙◌, subst, arith}
 use Rattle.std.specs.Prelude.{All, IfOk, Result, Ok, Err, Vec, slice_get, vec_len}
 use Rattle.std.specs.List.{AllZip}
 use Rattle.std.specs.Option.{option_map_or}
-use Rattle.std.proofs.lemmas.List.{get_or-map, length-append, length-map, map-append}
-use Rattle.std.proofs.lemmas.List.Elements.{All-nil, All-cons}
+use Rattle.std.proofs.lemmas.List.{get_or-map, length-append, length-map, map-append, take_at, take-map}
+use Rattle.std.proofs.lemmas.List.Elements.{All-nil, All-cons, All-head, All-tail}
 use Rattle.std.proofs.lemmas.Option.{slice_get_within}
 use Rattle.haya_assignment.specs.Assignment.{Table, IsTrueAt, least, rows}
 use Rattle.haya_entry.specs.declared.entry.Entry.{Entry}
@@ -15,23 +15,48 @@ use Rattle.haya_selectors.specs.Compiled.{name_of}
 use Rattle.haya_selectors.specs.declared.places.Candidates.{Candidates}
 use Rattle.haya_selectors.specs.Evaluation.{EntryPairs, pair_entries, pairs_view}
 use Rattle.haya_selectors.specs.Holds.{holds, table_of}
-use Rattle.haya_selectors.specs.Syntax.{Syntax, Syntaxes, none, more}
-use Rattle.haya_selectors.specs.Tries.{Piece, tried, all_tried, joined_at, all_lengths}
+use Rattle.haya_selectors.specs.Syntax.{Syntax, Syntaxes, none, more, syntaxes}
+use Rattle.haya_selectors.specs.Tries.{Piece, tried, all_tried, all_joined, joined, joined_at, lengths, all_lengths, rows_of}
 use Rattle.haya_selectors.proofs.LeastTrue.{least_true}
 use Rattle.haya_selectors.proofs.Paths.{resolved_led}
-
--- a row of lengths is as long as the row of answers
-abbrev pub AreAsLong : List Bool → List ℕ → Type 0
-AreAsLong held row = length row ≡ length held
+use Rattle.haya_selectors.proofs.Stretches.{length_back, length-rows_of, rows_back, width_of-rows}
 
 pub table_width : (ss : Syntaxes) (xs : List Tree) → All (λ row. length row ≡ length xs) (table_of ss xs)
 table_width none xs = All-nil (λ row. length row ≡ length xs)
 table_width (more s ss) xs = All-cons (λ row. length row ≡ length xs) (map (holds s) xs) (table_of ss xs) (length-map xs (holds s)) (table_width ss xs)
 
-pub tried_shape : (ss : Syntaxes) (xs : List Tree) → AllZip AreAsLong (table_of ss xs) (all_lengths (all_tried ss xs))
-tried_shape none xs = tt
-tried_shape (more s ss) xs =
-    (length-map (map (tried s) xs) (λ piece. length piece) ∙ length-map xs (tried s) ∙ sym (length-map xs (holds s)), tried_shape ss xs)
+pub lengths_width : (ss : Syntaxes) (xs : List Tree) → All (λ row. length row ≡ length xs) (all_lengths (all_tried ss xs))
+lengths_width none xs = All-nil (λ row. length row ≡ length xs)
+lengths_width (more s ss) xs =
+    All-cons (λ row. length row ≡ length xs) (lengths (map (tried s) xs)) (all_lengths (all_tried ss xs)) (length-map (map (tried s) xs) (λ piece. length piece) ∙ length-map xs (tried s)) (lengths_width ss xs)
+
+length_table : (ss : List Syntax) (xs : List Tree) → length ss ≡ length (table_of (syntaxes ss) xs)
+length_table [] xs = refl
+length_table (s ∷ ss) xs = let later = length_table ss xs in omega (arith, later)
+
+length_lengths : (ss : List Syntax) (xs : List Tree) → length ss ≡ length (all_lengths (all_tried (syntaxes ss) xs))
+length_lengths [] xs = refl
+length_lengths (s ∷ ss) xs = let later = length_lengths ss xs in omega (arith, later)
+
+-- the tries of members at entries, by rows
+pub record ByRows (ss : Syntaxes) (xs : List Tree) (width n : ℕ) (held : List Bool) (found : List ℕ) : Type 0 where
+  pub count : length held ≡ n * width
+  pub held_is : rows_of width n held ≡ table_of ss xs
+  pub found_is : rows_of width n found ≡ all_lengths (all_tried ss xs)
+
+pub by_rows : (f : ℕ → Syntax) (ns : List ℕ) (xs : List Tree) (width : ℕ) (held : List Bool) (found : List ℕ) → length xs ≡ width
+    → held ≡ joined (table_of (syntaxes (map f ns)) xs) → found ≡ joined (all_lengths (all_tried (syntaxes (map f ns)) xs)) → ByRows (syntaxes (map f ns)) xs width (length ns) held found
+by_rows f ns xs width held found l e k =
+    let ss = syntaxes (map f ns) in
+    let wide : All (λ row. length row ≡ width) (table_of ss xs) = λ i d h. table_width ss xs i d h ∙ l in
+    let long : All (λ row. length row ≡ width) (all_lengths (all_tried ss xs)) = λ i d h. lengths_width ss xs i d h ∙ l in
+    let as_many : length ns ≡ length (table_of ss xs) = sym (length-map ns f) ∙ length_table (map f ns) xs in
+    let as_many_lengths : length ns ≡ length (all_lengths (all_tried ss xs)) = sym (length-map ns f) ∙ length_lengths (map f ns) xs in
+    record {
+      count = length_back width (length ns) (table_of ss xs) held wide as_many e;
+      held_is = rows_back width (length ns) (table_of ss xs) held wide as_many e;
+      found_is = rows_back width (length ns) (all_lengths (all_tried ss xs)) found long as_many_lengths k;
+    }
 
 -- rows of this width, as they are stored
 pub stored_width : {Z : Type 0} (table : List (Vec Bool Z)) (n : ℕ) → All (λ row. length row ≡ n) (rows table) → All (λ row. vec_len row ≡ n) table
@@ -41,15 +66,35 @@ stored_width table n h = λ k d l.
     let is : get_or (rows table) k d.items ≡ row.items = get_or-map (λ row. row.items) table k d d.items l in
     omega (arith, ap length is, h k d.items there, row.ok.0)
 
--- where each answer is true at its place, there is a length at that place
-pub inside_from : (table : Table) (rows : List (List ℕ)) (is : List ℕ) → AllZip AreAsLong table rows → AllZip IsTrueAt table is → AllZip (λ row i. i < length row) rows is
-inside_from [] [] [] h k = tt
-inside_from [] [] (i ∷ is) h k = absurd k
-inside_from [] (row ∷ rows) is h k = absurd h
-inside_from (held ∷ table) [] is h k = absurd h
-inside_from (held ∷ table) (row ∷ rows) [] h k = absurd k
-inside_from (held ∷ table) (row ∷ rows) (i ∷ is) h k =
-    (omega (arith, h.0, slice_get_within held i true k.0), inside_from table rows is h.1 k.1)
+-- where each row is true at its place, that is one of its positions
+pub inside_from : (width : ℕ) (table : Table) (is : List ℕ) → All (λ row. length row ≡ width) table → AllZip IsTrueAt table is → All (λ i. i < width) is
+inside_from width [] [] h k = All-nil (λ i. i < width)
+inside_from width [] (i ∷ is) h k = absurd k
+inside_from width (held ∷ table) [] h k = absurd k
+inside_from width (held ∷ table) (i ∷ is) h k =
+    let long : length held ≡ width = All-head (λ row. length row ≡ width) held table h in
+    All-cons (λ i. i < width) i is (omega (arith, long, slice_get_within held i true k.0)) (inside_from width table is (All-tail (λ row. length row ≡ width) held table h) k.1)
+
+-- there are as many places as rows
+pub as_many_from : (table : Table) (is : List ℕ) → AllZip IsTrueAt table is → length is ≡ length table
+as_many_from [] [] k = refl
+as_many_from [] (i ∷ is) k = absurd k
+as_many_from (held ∷ table) [] k = absurd k
+as_many_from (held ∷ table) (i ∷ is) k = let later = as_many_from table is k.1 in omega (arith, later)
+
+-- a place for each row, in the row
+pub record FitsRows (width n : ℕ) (is : List ℕ) : Type 0 where
+  pub as_many : length is ≡ n
+  pub inside : All (λ i. i < width) is
+
+pub least_fits : (width n : ℕ) (held : List Bool) (is : List ℕ) → length held ≡ n * width → least (rows_of width n held) ≡ Some is → FitsRows width n is
+least_fits width n held is e h =
+    let table = rows_of width n held in
+    let accepted = least_true table is h in
+    record {
+      as_many = as_many_from table is accepted ∙ length-rows_of width n held;
+      inside = inside_from width table is (width_of-rows width n held e) accepted;
+    }
 
 -- an item where a test is true
 true_item : {A : Type 0} (test : A → Bool) (xs : List A) (i : ℕ) → slice_get (map test xs) i ≡ Some true → (x : A) × (slice_get xs i ≡ Some x) × (test x ≡ true)
@@ -81,6 +126,13 @@ pub piece_length : (names : List (List ℕ)) (olds news : EntryPairs) (piece : P
 piece_length names olds news piece e =
     let value : ℕ × Entry → List ℕ × Option Tree = λ p. (name_of names p.0, Some (view p.1)) in
     omega (arith, ap length e, length-append (pairs_view names olds) piece, length-map olds value, length-map news value)
+
+-- where the bindings that were found are taken away again
+pub none_left : (names : List (List ℕ)) (olds news : EntryPairs) (before : ℕ) (front : Piece) (pieces : List (List Piece)) → news ≡ take before olds → length front ≡ before
+    → pairs_view names olds ≡ front ++ all_joined pieces → pairs_view names news ≡ front
+none_left names olds news before front pieces t l e =
+    let value : ℕ × Entry → List ℕ × Option Tree = λ p. (name_of names p.0, Some (view p.1)) in
+    ap (pairs_view names) t ∙ sym (take-map value before olds) ∙ ap (take before) e ∙ take_at front (all_joined pieces) before l
 
 -- where a call has answered the least assignment and kept the pieces, the bindings of each member at its place are added
 pub settled : {E : Type 0} (ss : Syntaxes) (xs : List Tree) (r : Result (Option Candidates) E) (olds news : Piece) → GivesCandidates xs r (least (table_of ss xs))

@@ -1,7 +1,7 @@
 -- What trying each member of `&` at each entry finds, and what is kept of it.
-use Rattle.std.specs.Prelude.{ℕ, Bool, not, if◌then◌else◌, List, [], ◌∷◌, ◌++◌, Option, Vec, flat_map, get_or, length, map}
-use Rattle.std.specs.List.{list_any}
-use Rattle.haya_assignment.specs.Assignment.{Table, rows}
+use Rattle.std.specs.Prelude.{ℕ, zero, suc, Bool, if◌then◌else◌, List, [], ◌∷◌, ◌++◌, Option, drop, flat_map, get_or, length, map, take}
+use Rattle.std.specs.List.{list_all, list_any}
+use Rattle.haya_assignment.specs.Assignment.{Table}
 use Rattle.haya_entry.specs.Tree.{Tree, at}
 use Rattle.haya_selectors.specs.Binds.{binds}
 use Rattle.haya_selectors.specs.declared.tries.Tries.{Tries}
@@ -42,17 +42,25 @@ lengths pieces = map (λ piece. length piece) pieces
 abbrev pub all_lengths : {A : Type 0} → List (List (List A)) → List (List ℕ)
 all_lengths rows = map lengths rows
 
--- the rows of a table of numbers as they are stored
-abbrev pub number_rows : {Z : Type 0} → List (Vec ℕ Z) → List (List ℕ)
-number_rows table = map (λ row. row.items) table
+-- a list in rows of this width, so many of them
+abbrev pub rows_of : {A : Type 0} → ℕ → ℕ → List A → List (List A)
+rows_of width zero items = []
+rows_of width (suc count) items = take width items ∷ rows_of width count (drop width items)
 
--- those of the tries: where the members hold, and how long the pieces are
-abbrev pub held_rows : Tries → Table
-held_rows tries = rows tries.table.items
+-- of all tries in order: where the members hold, and how long the pieces are
+abbrev pub all_held : Tries → List Bool
+all_held tries = map (λ t. t.held) tries.tries.items
 
-abbrev pub length_rows : Tries → List (List ℕ)
-length_rows tries = number_rows tries.lengths.items
+abbrev pub all_found : Tries → List ℕ
+all_found tries = map (λ t. t.found) tries.tries.items
 
--- whether a member holds at no entry
-abbrev pub holds_nowhere : List Bool → Bool
-holds_nowhere held = not (list_any (λ holds. holds) held)
+-- the same by rows, one a member
+abbrev pub held_rows : ℕ → ℕ → Tries → Table
+held_rows parents members tries = rows_of parents members (all_held tries)
+
+abbrev pub found_rows : ℕ → ℕ → Tries → List (List ℕ)
+found_rows parents members tries = rows_of parents members (all_found tries)
+
+-- whether each member holds at some entry
+abbrev pub each_holds : Table → Bool
+each_holds table = list_all (λ held. list_any (λ holds. holds) held) table

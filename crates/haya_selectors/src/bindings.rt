@@ -1,23 +1,26 @@
 //! The names that an evaluation has bound so far.
-ghost use Rattle.std.specs.Prelude.{◌≡◌, ◌+◌, ◌<◌, ◌≤◌, ◌^◌, ℕ, All, List, [], ◌∷◌, ◌++◌, Some};
+ghost use Rattle.std.specs.Prelude.{◌≡◌, ◌+◌, ◌*◌, ◌<◌, ◌≤◌, ℕ, All, List, [], ◌∷◌, ◌++◌, Some};
 ghost use Rattle.std.specs.Prelude.{IfOk, OnOk, length, map, option_map, sum, sum_by, take};
 ghost use Rattle.std.specs.Coded.{codes};
 ghost use Rattle.std.specs.HashMap.{get_by_text};
-ghost use Rattle.std.specs.List.{AllZip};
+ghost use Rattle.std.specs.Option.{option_map_or};
+ghost use Rattle.haya_assignment.specs.Assignment.{least};
 ghost use Rattle.haya_entry.specs.contracts.entry.Entry as the_entry;
-ghost use Rattle.haya_entry.specs.Tree.{view};
+ghost use Rattle.haya_entry.specs.Tree.{Tree, view};
 ghost use Rattle.haya_selectors.specs.Binds.{last_of, pair_of_first};
-ghost use Rattle.haya_selectors.specs.Candidates.{candidate_places};
+ghost use Rattle.haya_selectors.specs.Candidates.{GivesCandidates, candidate_places};
 ghost use Rattle.haya_selectors.specs.Compiled.{name_of};
 ghost use Rattle.haya_selectors.specs.Evaluation.{AddsOn, EntryPairs, named_pairs, pairs_view};
 ghost use Rattle.haya_selectors.specs.Nodes.{slot_names};
-ghost use Rattle.haya_selectors.specs.Tries.{Piece, all_joined, all_lengths, held_rows, joined_at};
-ghost use Rattle.haya_selectors.specs.Tries.{length_rows, number_rows};
+ghost use Rattle.haya_selectors.specs.Tries.{Piece, all_found, all_held, all_joined, all_lengths};
+ghost use Rattle.haya_selectors.specs.Tries.{each_holds as table_holds, found_rows, held_rows};
+ghost use Rattle.haya_selectors.specs.Tries.{joined_at};
 
 use crate::nodes::Nodes;
 use crate::places::{Candidates, first_place};
 use crate::tries::Tries;
-use haya_entry::Entry;
+use haya_assignment::{Assignment, least_assignment};
+use haya_entry::{Entry, Steps};
 use haya_text::OutOfMemory;
 use std::alloc::Global;
 use std::collections::HashMap;
@@ -29,6 +32,8 @@ pub(crate) struct Bindings<'e> {
     pairs: Vec<(usize, &'e Entry)>,
     // Tries that are done with: the next `&` uses their memory again.
     spare: Vec<Tries>,
+    // Memory for where the members of a `&` hold.
+    table: Vec<Vec<bool>>,
 }
 
 impl<'e> Model for Bindings<'e> {
@@ -47,6 +52,7 @@ impl<'e> Bindings<'e> {
         Bindings {
             pairs: Vec::new(alloc),
             spare: Vec::new(alloc),
+            table: Vec::new(alloc),
         }
     }
 
@@ -93,34 +99,103 @@ impl<'e> Bindings<'e> {
         self.pairs.truncate(len);
     }
 
-    // Of the pieces of these lengths, row by row, that stand from `before` on, leaves of each row
+    // The least assignment of the members to the parents, if there is one, where each holds at some
+    // parent or one at none. Of the bindings from `before` on, which the tries have found, those of
+    // each member at its place are left, or none.
+    pub(crate) fn settle(
+        &mut self,
+        alloc: Global,
+        tries: &Tries,
+        each_holds: bool,
+        parents: usize,
+        members: usize,
+        before: usize,
+    ) -> Result<Option<Candidates>, OutOfMemory>
+        requires count { length (all_held tries.now) ≡ members * parents }
+        requires each { each_holds ≡ table_holds (held_rows parents members tries.now) }
+        requires within { before + sum_by sum (found_rows parents members tries.now)
+            ≡ length self.old }
+        ensures answer { (xs : List Tree) →
+            GivesCandidates xs result (least (held_rows parents members tries.now)) }
+        ensures left { (names : List (List ℕ)) (front : Piece) (pieces : List (List Piece)) →
+            length front ≡ before → all_lengths pieces ≡ found_rows parents members tries.now →
+            pairs_view names self.old ≡ front ++ all_joined pieces →
+            IfOk result (λ _. pairs_view names self.new ≡ front ++ option_map_or
+            (joined_at pieces) (least (held_rows parents members tries.now)) []) }
+    {
+        if !each_holds {
+            self.truncate(before);
+            return Ok(None);
+        }
+        self.assign(alloc, tries, parents, members, before)
+    }
+
+    // The same in every case.
+    #[inline(never)]
+    fn assign(
+        &mut self,
+        alloc: Global,
+        tries: &Tries,
+        parents: usize,
+        members: usize,
+        before: usize,
+    ) -> Result<Option<Candidates>, OutOfMemory>
+        requires count { length (all_held tries.now) ≡ members * parents }
+        requires within { before + sum_by sum (found_rows parents members tries.now)
+            ≡ length self.old }
+        ensures answer { (xs : List Tree) →
+            GivesCandidates xs result (least (held_rows parents members tries.now)) }
+        ensures left { (names : List (List ℕ)) (front : Piece) (pieces : List (List Piece)) →
+            length front ≡ before → all_lengths pieces ≡ found_rows parents members tries.now →
+            pairs_view names self.old ≡ front ++ all_joined pieces →
+            IfOk result (λ _. pairs_view names self.new ≡ front ++ option_map_or
+            (joined_at pieces) (least (held_rows parents members tries.now)) []) }
+    {
+        tries.write_table(alloc, parents, members, &mut self.table)?;
+        let table = &self.table[..members];
+        match least_assignment(alloc, table, parents, &mut Steps::new())? {
+            Assignment::Found(places) => {
+                self.keep(before, tries, parents, &places);
+                Ok(Some(Candidates::Kept(places)))
+            }
+            Assignment::Short(_) => {
+                self.truncate(before);
+                Ok(None)
+            }
+        }
+    }
+
+    // Of the pieces that the tries have found, which stand from `before` on, leaves of each member
     // the one at its place.
-    pub(crate) fn keep(&mut self, before: usize, lengths: &[Vec<usize>], places: &[usize])
-        requires within { before + sum_by sum (number_rows lengths.now) ≡ length self.old }
-        requires inside { AllZip (λ row i. i < length row) (number_rows lengths.now) places.now }
+    fn keep(&mut self, before: usize, tries: &Tries, parents: usize, places: &[usize])
+        requires count { length (all_found tries.now) ≡ length places.now * parents }
+        requires within { before + sum_by sum (found_rows parents (length places.now) tries.now)
+            ≡ length self.old }
+        requires inside { All (λ place. place < parents) places.now }
         ensures { (names : List (List ℕ)) (front : Piece) (pieces : List (List Piece)) →
-            length front ≡ before → all_lengths pieces ≡ number_rows lengths.now →
+            length front ≡ before →
+            all_lengths pieces ≡ found_rows parents (length places.now) tries.now →
             pairs_view names self.old ≡ front ++ all_joined pieces →
             pairs_view names self.new ≡ front ++ joined_at pieces places.now }
     {
         let mut to = before;
         let mut start = before;
-        for (member, row) in lengths.iter().enumerate() {
+        'members: for member in 0..places.len() {
             let place = places[member];
-            let len = row[place];
-            let at = start + total(&row[..place]);
+            let at = start + tries.found_before(parents, member, place);
+            let len = tries.found_at(parents, member, place);
             self.pairs.copy_within(at..at + len, to);
             to += len;
-            start += total(row);
+            start += tries.found_before(parents, member, parents);
         }
         self.pairs.truncate(to);
     }
 
-    // Tries with no rows, in memory that was used before if there is some.
+    // No tries, in memory that was used before if there is some.
     pub(crate) fn take_tries(&mut self, alloc: Global) -> Tries
         ensures kept { self.new ≡ self.old }
-        ensures held { held_rows result ≡ [] }
-        ensures lengths { length_rows result ≡ [] }
+        ensures held { all_held result ≡ [] }
+        ensures found { all_found result ≡ [] }
     {
         match self.spare.pop() {
             Some(mut tries) => {
@@ -163,12 +238,4 @@ impl<'e> Bindings<'e> {
         }
         Ok(map)
     }
-}
-
-// The sum of the lengths.
-fn total(lengths: &[usize]) -> usize
-    requires { sum lengths.now < 2 ^ 64 }
-    ensures { result ≡ sum lengths.now }
-{
-    lengths.iter().sum()
 }

@@ -42,8 +42,8 @@ impl Compiled {
         Ok(Compiled { nodes, root })
     }
 
-    // Whether it holds at an entry. What it binds there stands in `found` then, in the place of
-    // what was there.
+    // Whether it holds at an entry. What it binds there is in `found` then, in place of what was
+    // there.
     pub(crate) fn holds<'e>(
         &self,
         alloc: Global,

@@ -1,5 +1,6 @@
 //! Equality of selectors: along the first side by a loop.
-ghost use Rattle.std.specs.Prelude.{◌≡◌, ◌≤◌, ◌&&◌, ◌==◌, IfNone, IfSome, length, map, string_bytes};
+ghost use Rattle.std.specs.Prelude.{◌≡◌, ◌≤◌, ◌&&◌, ◌==◌, IfNone, IfSome, length, map};
+ghost use Rattle.std.specs.Prelude.{string_bytes};
 ghost use Rattle.std.specs.Str.{bytes_eq};
 ghost use denote.Param.Weighed.{most};
 ghost use lib.Pointwise.{pointwise};

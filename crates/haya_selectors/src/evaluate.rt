@@ -2,10 +2,11 @@
 //! goes by the number of a node, and from a node to its children alone, whose numbers are smaller.
 ghost use Rattle.std.specs.Prelude.{◌≡◌, ◌<◌, ◌≤◌, [], ◌∷◌, ◌++◌, IfOk, OnSome, map, sum_by};
 ghost use Rattle.std.specs.Bool.{OnTrue};
+ghost use Rattle.std.specs.List.{list_any};
 ghost use Rattle.haya_entry.specs.Tree.{view};
 ghost use Rattle.haya_selectors.specs.Compiled.{above};
-ghost use Rattle.haya_selectors.specs.Binds.{binds, binds_on, each_binds, first_binds, first_binds_on};
-ghost use Rattle.haya_selectors.specs.Binds.{pairs_at_first};
+ghost use Rattle.haya_selectors.specs.Binds.{binds, binds_on, each_binds, first_binds};
+ghost use Rattle.haya_selectors.specs.Binds.{first_binds_on, pairs_at_first};
 ghost use Rattle.haya_selectors.specs.Calls.{all_calls, calls, calls_on, first_calls};
 ghost use Rattle.haya_selectors.specs.Calls.{first_calls_on};
 ghost use Rattle.haya_selectors.specs.Candidates.{GivesCandidates, candidate_places};
@@ -15,11 +16,11 @@ ghost use Rattle.haya_selectors.specs.Holds.{holds, some_holds, candidates, firs
 ghost use Rattle.haya_selectors.specs.Holds.{first_place as alone, table_of};
 ghost use Rattle.haya_selectors.specs.Places.{items_up_to};
 ghost use Rattle.haya_selectors.specs.Nodes.{members_at, node_count, slot_names, syntax_at};
-ghost use Rattle.haya_selectors.specs.Tries.{held_rows, joined, length_rows, lengths, tried};
+ghost use Rattle.haya_selectors.specs.Tries.{all_found, all_held, joined, lengths, tried};
 ghost use Rattle.haya_assignment.specs.Assignment.{least};
 
 use crate::bindings::Bindings;
-use crate::leaves::{first_of_type, leaf_holds_at};
+use crate::leaves::{first_of_type, leaf_holds_at, named_leaf_holds_at};
 use crate::names::Asked;
 use crate::node::Node;
 use crate::nodes::Nodes;
@@ -283,16 +284,24 @@ fn each_takes_one<'e>(
 {
     let before = found.len();
     let mut tries = found.take_tries(alloc);
+    let mut each_holds = true;
     for member in members {
-        try_at_each(nodes, *member, alloc, parents, &mut tries, found, steps)?;
+        each_holds &= try_at_each(nodes, *member, alloc, parents, &mut tries, found, steps)?;
     }
-    let candidates = tries.settle(alloc, parents.len(), before, found)?;
+    let candidates = found.settle(
+        alloc,
+        &tries,
+        each_holds,
+        parents.len(),
+        members.len(),
+        before,
+    )?;
     found.give_back(tries);
     Ok(candidates)
 }
 
-// Tries the selector at each parent, as one more row. Where it holds, its bindings are added to
-// `found`.
+// Tries the selector at each parent: whether it holds at one. Its bindings where it holds are added
+// to `found`.
 #[cycle(evaluate)]
 fn try_at_each<'e>(
     nodes: &Nodes,
@@ -302,27 +311,53 @@ fn try_at_each<'e>(
     tries: &mut Tries,
     found: &mut Bindings<'e>,
     steps: &mut Steps,
-) -> Result<(), OutOfMemory>
+) -> Result<bool, OutOfMemory>
     requires { number < node_count nodes.now }
-    ensures held { IfOk result (λ _. held_rows tries.new ≡ held_rows tries.old
-        ++ map (holds (syntax_at nodes.now number)) (views parents.now) ∷ []) }
-    ensures lengths { IfOk result (λ _. length_rows tries.new ≡ length_rows tries.old
-        ++ lengths (map (tried (syntax_at nodes.now number)) (views parents.now)) ∷ []) }
+    ensures answer { IfOk result
+        (λ b. b ≡ list_any (holds (syntax_at nodes.now number)) (views parents.now)) }
+    ensures held { IfOk result (λ _. all_held tries.new ≡ all_held tries.old
+        ++ map (holds (syntax_at nodes.now number)) (views parents.now)) }
+    ensures lengths { IfOk result (λ _. all_found tries.new ≡ all_found tries.old
+        ++ lengths (map (tried (syntax_at nodes.now number)) (views parents.now))) }
     ensures bound { IfOk result (λ _. pairs_view (slot_names nodes.now) found.new
         ≡ pairs_view (slot_names nodes.now) found.old
         ++ joined (map (tried (syntax_at nodes.now number)) (views parents.now))) }
     ensures ticks { Ticks result steps.old steps.new
         (sum_by (calls (syntax_at nodes.now number)) (views parents.now)) }
 {
-    let mut row = tries.take_row(alloc);
+    let mut somewhere = false;
     for parent in parents {
         let before = found.len();
         let asked = Asked::new(parent, 0);
-        row.held
-            .push(holds_at(nodes, number, alloc, &asked, found, steps)?)?;
-        row.lengths.push(found.len() - before)?;
+        let held = tried_at(nodes, number, alloc, &asked, found, steps)?;
+        tries.push(held, found.len() - before)?;
+        somewhere |= held;
     }
-    tries.push(row)
+    Ok(somewhere)
+}
+
+// As `holds_at`, with fewer calls for a wildcard or a type that has a name.
+#[cycle(evaluate)]
+#[inline(always)]
+fn tried_at<'e>(
+    nodes: &Nodes,
+    number: usize,
+    alloc: Global,
+    asked: &Asked<'e>,
+    found: &mut Bindings<'e>,
+    steps: &mut Steps,
+) -> Result<bool, OutOfMemory>
+    requires { number < node_count nodes.now }
+    ensures answer { IfOk result (λ b. b ≡ holds (syntax_at nodes.now number) (view asked.now)) }
+    ensures bound { IfOk result (AddsAtIf nodes.now (view asked.now) found.old found.new
+        (binds (syntax_at nodes.now number))) }
+    ensures ticks { Ticks result steps.old steps.new
+        (calls (syntax_at nodes.now number) (view asked.now)) }
+{
+    match named_leaf_holds_at(nodes, number, asked, found, steps)? {
+        Some(holds) => Ok(holds),
+        None => whole_holds_at(nodes, number, alloc, asked, found, steps),
+    }
 }
 
 // The first place where the selector holds, as the one candidate. The bindings at that parent are

@@ -1,22 +1,24 @@
 //! Selectors that have no other inside, asked outside the evaluator's cycle of calls: what every
 //! walk comes down to.
-ghost use Rattle.std.specs.Prelude.{◌≡◌, ◌+◌, ◌<◌, [], IfSome, MatchOption};
+ghost use Rattle.std.specs.Prelude.{◌≡◌, ◌+◌, ◌<◌, ◌≤◌, [], IfOk, IfSome, MatchOption};
 ghost use Rattle.std.specs.Prelude.{false, if◌then◌else◌, position, sum_by};
 ghost use Rattle.haya_entry.specs.Names.{is_of_type};
 ghost use Rattle.haya_entry.specs.Tree.{view};
 ghost use Rattle.haya_selectors.specs.Binds.{binds};
 ghost use Rattle.haya_selectors.specs.Calls.{calls};
 ghost use Rattle.haya_selectors.specs.Candidates.{AreCandidates};
-ghost use Rattle.haya_selectors.specs.Evaluation.{views};
+ghost use Rattle.haya_selectors.specs.Evaluation.{AddsAtIf, views};
 ghost use Rattle.haya_selectors.specs.Holds.{first_place, holds};
 ghost use Rattle.haya_selectors.specs.Nodes.{node_count, syntax_at};
 ghost use Rattle.haya_selectors.specs.Places.{items_up_to};
 
+use crate::bindings::Bindings;
 use crate::names::Asked;
 use crate::node::Node;
 use crate::nodes::Nodes;
 use crate::places::Candidates;
 use haya_entry::{Entry, EntryType, Steps};
+use haya_text::OutOfMemory;
 
 // Whether a wildcard or a type holds at an entry. `None` of any other selector.
 #[inline(always)]
@@ -95,6 +97,40 @@ pub(crate) fn leaf_holds_at(
         Node::Ancestrage(child, _) => fails_with(nodes, *child, asked, steps),
         _ => None,
     }
+}
+
+// The same, and also of a wildcard or a type that has a name, where it holds: its binding is added
+// to `found`. Where there is no answer, nothing is added.
+#[inline(always)]
+pub(crate) fn named_leaf_holds_at<'e>(
+    nodes: &Nodes,
+    number: usize,
+    asked: &Asked<'e>,
+    found: &mut Bindings<'e>,
+    steps: &mut Steps,
+) -> Result<Option<bool>, OutOfMemory>
+    requires { number < node_count nodes.now }
+    ensures answer { IfOk result (λ o. IfSome o
+        (λ b. b ≡ holds (syntax_at nodes.now number) (view asked.now))) }
+    ensures bound { IfOk result (λ o. MatchOption o (found.new ≡ found.old)
+        (AddsAtIf nodes.now (view asked.now) found.old found.new
+        (binds (syntax_at nodes.now number)))) }
+    ensures ticks { IfOk result (λ o. MatchOption o (steps.new ≡ steps.old) (λ _.
+        steps.new ≡ steps.old + calls (syntax_at nodes.now number) (view asked.now))) }
+    ensures most { steps.new ≤ steps.old + calls (syntax_at nodes.now number) (view asked.now) }
+{
+    if let Node::Binding(slot, inner) = nodes.at(number) {
+        let Some(holds) = plain_holds_at(nodes, *inner, asked) else {
+            return Ok(None);
+        };
+        steps.tick();
+        steps.tick();
+        if holds {
+            found.bind(*slot, asked.entry())?;
+        }
+        return Ok(Some(holds));
+    }
+    Ok(leaf_holds_at(nodes, number, asked, steps))
 }
 
 // The first place of an entry of this type, with a tick for each entry up to it.

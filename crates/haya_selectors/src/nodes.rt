@@ -1,6 +1,6 @@
 //! The nodes of a compiled selector, and how a selector is compiled.
-ghost use Rattle.std.specs.Prelude.{◌≡◌, ◌<◌, ◌≤◌, [], IfOk, IsTrue, OnOk, false, get_or, length, true};
-ghost use Rattle.std.specs.Prelude.{map, string_bytes};
+ghost use Rattle.std.specs.Prelude.{◌≡◌, ◌<◌, ◌≤◌, [], IfOk, IsTrue, OnOk, false, get_or, length};
+ghost use Rattle.std.specs.Prelude.{map, string_bytes, true};
 ghost use Rattle.std.specs.List.{list_all};
 ghost use Rattle.haya_selectors.specs.BoundNames.{bound_names, later_names, later_of};
 ghost use Rattle.haya_selectors.specs.Compiled.{above, all_fit, fits, name_of, node_syntax};
@@ -160,8 +160,8 @@ impl Nodes {
         Ok(slot)
     }
 
-    // Adds the nodes of a selector, and answers the number of the last, which stands for it: from the
-    // end of the first side up.
+    // Adds the nodes of a selector, and answers the number of the last, which stands for it: from
+    // the end of the first side up.
     #[cycle(compile)]
     pub(crate) fn add<'s>(
         &mut self,
@@ -247,8 +247,8 @@ impl Nodes {
         }
     }
 
-    // Adds the nodes of selectors, of which the first is there, and answers the numbers of those that
-    // stand for them.
+    // Adds the nodes of selectors, of which the first is there, and answers the numbers of those
+    // that stand for them.
     #[cycle(compile)]
     fn add_all<'s>(
         &mut self,

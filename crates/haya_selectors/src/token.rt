@@ -25,7 +25,7 @@ pub(crate) enum Sign {
     ExclamationMark,
 }
 
-// A token, where it stands in the text.
+// A token, as it appears in the text.
 #[derive(Clone, Copy, PartialEq, Eq)]
 pub(crate) enum Lexeme<'a> {
     Sign(Sign),

@@ -1,149 +1,121 @@
-//! What trying each member of `&` at each parent has found, and what is kept of it.
-ghost use Rattle.std.specs.Prelude.{◌≡◌, ◌+◌, ◌<◌, ◌^◌, ℕ, All, List, [], ◌∷◌, ◌++◌, IfOk, OnOk};
-ghost use Rattle.std.specs.Prelude.{length, sum, sum_by};
-ghost use Rattle.std.specs.List.{AllZip, list_any};
-ghost use Rattle.std.specs.Option.{option_map_or};
-ghost use Rattle.haya_assignment.specs.Assignment.{least, rows};
-ghost use Rattle.haya_entry.specs.Tree.{Tree};
-ghost use Rattle.haya_selectors.specs.Candidates.{GivesCandidates};
-ghost use Rattle.haya_selectors.specs.Evaluation.{pairs_view};
-ghost use Rattle.haya_selectors.specs.Tries.{Piece, all_joined, all_lengths, held_rows, joined_at};
-ghost use Rattle.haya_selectors.specs.Tries.{holds_nowhere, length_rows};
+//! What trying each member of `&` at each parent has found.
+ghost use Rattle.std.specs.Prelude.{◌≡◌, ◌+◌, ◌*◌, ◌<◌, ◌≤◌, ◌^◌, [], ◌∷◌, ◌++◌, OnOk};
+ghost use Rattle.std.specs.Prelude.{drop, get_or, length, map, sum, sum_by, take};
+ghost use Rattle.haya_assignment.specs.Assignment.{rows};
+ghost use Rattle.haya_selectors.specs.Tries.{all_found, all_held, held_rows};
 
-use crate::bindings::Bindings;
-use crate::places::Candidates;
-use haya_assignment::{Assignment, least_assignment};
-use haya_entry::Steps;
 use haya_text::OutOfMemory;
 use std::alloc::Global;
 
-// For each member a row, with its try at each parent.
+// What trying a member at a parent has found.
 #[derive(Drop)]
-pub(crate) struct Tries {
-    // Whether the member holds there.
-    table: Vec<Vec<bool>>,
+struct Try {
+    // Whether it holds there.
+    held: bool,
     // How many bindings were found there.
-    lengths: Vec<Vec<usize>>,
-    // Rows that are done with: the next ones use their memory again.
-    spare: Vec<Row>,
+    found: usize,
 }
 
-// The tries of a member.
+// The tries of the members: those of the first at each parent in turn, then those of the next.
 #[derive(Drop)]
-pub(crate) struct Row {
-    // Whether it holds at each parent.
-    pub(crate) held: Vec<bool>,
-    // How many bindings were found there.
-    pub(crate) lengths: Vec<usize>,
+pub(crate) struct Tries {
+    tries: Vec<Try>,
 }
 
 impl Tries {
-    // No rows.
+    // No tries.
     pub(crate) fn new(alloc: Global) -> Tries
-        ensures held { held_rows result ≡ [] }
-        ensures lengths { length_rows result ≡ [] }
+        ensures held { all_held result ≡ [] }
+        ensures found { all_found result ≡ [] }
     {
         Tries {
-            table: Vec::new(alloc),
-            lengths: Vec::new(alloc),
-            spare: Vec::new(alloc),
+            tries: Vec::new(alloc),
         }
     }
 
-    // Takes the rows away, and keeps their memory.
+    // Takes the tries away, and keeps their memory.
     pub(crate) fn clear(&mut self)
-        ensures held { held_rows self.new ≡ [] }
-        ensures lengths { length_rows self.new ≡ [] }
+        ensures held { all_held self.new ≡ [] }
+        ensures found { all_found self.new ≡ [] }
     {
-        while let (Some(held), Some(lengths)) = (self.table.pop(), self.lengths.pop()) {
-            if self.spare.push(Row { held, lengths }).is_err() {
-                break;
-            }
-        }
-        self.table.clear();
-        self.lengths.clear();
+        self.tries.clear();
     }
 
-    // A row with no try, in memory that was used before if there is some.
-    pub(crate) fn take_row(&mut self, alloc: Global) -> Row
-        ensures held_rows { held_rows self.new ≡ held_rows self.old }
-        ensures length_rows { length_rows self.new ≡ length_rows self.old }
-        ensures held { result.held.items ≡ [] }
-        ensures lengths { result.lengths.items ≡ [] }
+    // Adds a try.
+    pub(crate) fn push(&mut self, held: bool, found: usize) -> Result<(), OutOfMemory>
+        ensures held { OnOk result (all_held self.new ≡ all_held self.old ++ held ∷ []) }
+        ensures found { OnOk result (all_found self.new ≡ all_found self.old ++ found ∷ []) }
     {
-        match self.spare.pop() {
-            Some(mut row) => {
-                row.held.clear();
-                row.lengths.clear();
-                row
-            }
-            None => Row {
-                held: Vec::new(alloc),
-                lengths: Vec::new(alloc),
-            },
-        }
-    }
-
-    // Adds the row of a member.
-    pub(crate) fn push(&mut self, row: Row) -> Result<(), OutOfMemory>
-        ensures held { OnOk result
-            (held_rows self.new ≡ held_rows self.old ++ row.held.items ∷ []) }
-        ensures lengths { OnOk result
-            (length_rows self.new ≡ length_rows self.old ++ row.lengths.items ∷ []) }
-    {
-        self.table.push(row.held)?;
-        self.lengths.push(row.lengths)?;
+        self.tries.push(Try { held, found })?;
         Ok(())
     }
 
-    // The least assignment of the members to the parents, if there is one. Of the bindings from
-    // `before` on, which the tries have found, those of each member at its place are left, or none.
-    pub(crate) fn settle(
+    // How many bindings were found where the member was tried at the place.
+    pub(crate) fn found_at(&self, parents: usize, member: usize, place: usize) -> usize
+        requires inside { place < parents }
+        requires within { member * parents + parents ≤ length (all_found self.now) }
+        ensures { result ≡
+            get_or (take parents (drop (member * parents) (all_found self.now))) place 0 }
+    {
+        self.tries[member * parents + place].found
+    }
+
+    // How many bindings were found where the member was tried at the first places.
+    pub(crate) fn found_before(&self, parents: usize, member: usize, place: usize) -> usize
+        requires inside { place ≤ parents }
+        requires within { member * parents + parents ≤ length (all_found self.now) }
+        requires fits { sum (take parents (drop (member * parents) (all_found self.now))) < 2 ^ 64 }
+        ensures { result ≡
+            sum (take place (take parents (drop (member * parents) (all_found self.now)))) }
+    {
+        let start = member * parents;
+        total(&self.tries[start..start + place])
+    }
+
+    // Writes for each member a row, which says of each parent whether it holds there. The memory of
+    // the rows is used again.
+    pub(crate) fn write_table(
         &self,
         alloc: Global,
         parents: usize,
-        before: usize,
-        found: &mut Bindings,
-    ) -> Result<Option<Candidates>, OutOfMemory>
-        requires width { All (λ row. length row ≡ parents) (held_rows self.now) }
-        requires shape { AllZip (λ held lengths. length lengths ≡ length held)
-            (held_rows self.now) (length_rows self.now) }
-        requires within { before + sum_by sum (length_rows self.now) ≡ length found.old }
-        ensures answer { (xs : List Tree) →
-            GivesCandidates xs result (least (held_rows self.now)) }
-        ensures left { (names : List (List ℕ)) (front : Piece) (pieces : List (List Piece)) →
-            length front ≡ before → all_lengths pieces ≡ length_rows self.now →
-            pairs_view names found.old ≡ front ++ all_joined pieces →
-            IfOk result (λ _. pairs_view names found.new ≡
-            front ++ option_map_or (joined_at pieces) (least (held_rows self.now)) []) }
+        members: usize,
+        table: &mut Vec<Vec<bool>>,
+    ) -> Result<(), OutOfMemory>
+        requires count { length (all_held self.now) ≡ members * parents }
+        ensures enough { OnOk result (members ≤ length table.new.items) }
+        ensures rows { OnOk result
+            (rows (take members table.new.items) ≡ held_rows parents members self.now) }
     {
-        if any_holds_nowhere(&self.table) {
-            found.truncate(before);
-            return Ok(None);
+        'room: while table.len() < members {
+            table.push(Vec::new(alloc))?;
         }
-        match least_assignment(alloc, &self.table, parents, &mut Steps::new())? {
-            Assignment::Found(places) => {
-                found.keep(before, &self.lengths, &places);
-                Ok(Some(Candidates::Kept(places)))
-            }
-            Assignment::Short(_) => {
-                found.truncate(before);
-                Ok(None)
-            }
+        'members: for member in 0..members {
+            let start = member * parents;
+            write_row(&self.tries[start..start + parents], &mut table[member])?;
         }
+        Ok(())
     }
 }
 
-// Whether some member holds at no parent.
-fn any_holds_nowhere(table: &[Vec<bool>]) -> bool
-    ensures { result ≡ list_any holds_nowhere (rows table.now) }
+// Writes whether the member holds at each parent.
+fn write_row(tries: &[Try], row: &mut Vec<bool>) -> Result<(), OutOfMemory>
+    ensures { OnOk result (row.new.items ≡ map (λ t. t.held) tries.now) }
 {
-    table.iter().any(|held| holds_nowhere(held))
+    row.clear();
+    'tries: for at in 0..tries.len() {
+        row.push(tries[at].held)?;
+    }
+    Ok(())
 }
 
-// Whether the member of the row holds at no parent.
-fn holds_nowhere(held: &[bool]) -> bool
-    ensures { result ≡ holds_nowhere held.now }
+// How many bindings the tries have found.
+fn total(tries: &[Try]) -> usize
+    requires { sum (map (λ t. t.found) tries.now) < 2 ^ 64 }
+    ensures { result ≡ sum (map (λ t. t.found) tries.now) }
 {
-    !held.iter().any(|holds| *holds)
+    let mut total = 0;
+    'tries: for at in 0..tries.len() {
+        total += tries[at].found;
+    }
+    total
 }

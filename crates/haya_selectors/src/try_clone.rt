@@ -1,4 +1,5 @@
-//! Copies of selectors, made from the end of the first side up, and of the reasons why a text is none.
+//! Copies of selectors, made from the end of the first side up, and of the reasons why a text is
+//! none.
 ghost use Rattle.std.specs.Prelude.{◌≡◌, IfOk, true};
 ghost use Rattle.haya_selectors.specs.Fault.{fault};
 ghost use Rattle.haya_selectors.specs.Side.{is_end, with_first, with_first_of};

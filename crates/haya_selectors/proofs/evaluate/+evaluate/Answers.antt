@@ -1,5 +1,6 @@
 use Rattle.std.proofs.Common.{rules, refl, ℕ, List, ◌≡◌, ◌+◌, ◌-◌, ◌++◌, length, true, Some, [], ◌∷◌, drop, map, append-nil, append_assoc, arith, sym, ap, ◌∙◌}
 use Rattle.std.specs.Prelude.{Ok, is_some, option_map, position, slice_index_or, sum, sum_by}
+use Rattle.std.proofs.Math.Bool.{and-true, and_assoc, or_assoc}
 use Rattle.std.proofs.Math.ListN.{drop_of_length-le}
 use Rattle.std.proofs.lemmas.Bool.{OnTrue_from}
 use Rattle.std.proofs.lemmas.List.{length-map}
@@ -9,15 +10,16 @@ use Rattle.haya_entry.specs.Tree.{parents, view}
 use Rattle.haya_selectors.specs.Binds.{binds, binds_on, first_binds, pairs_at_first}
 use Rattle.haya_selectors.specs.Evaluation.{pairs_view}
 use Rattle.haya_selectors.specs.Calls.{calls, first_calls}
-use Rattle.haya_selectors.specs.Holds.{holds, table_of}
+use Rattle.haya_selectors.specs.Holds.{holds}
 use Rattle.haya_selectors.specs.Places.{items_up_to}
 use Rattle.haya_selectors.specs.Candidates.{candidate_places}
 use Rattle.haya_selectors.specs.Nodes.{members_at, slot_names, syntax_at}
 use Rattle.haya_selectors.specs.Syntax.{Syntax, Ancestrage}
-use Rattle.haya_selectors.specs.Tries.{all_joined, all_lengths, all_tried, held_rows, length_rows, tried}
+use Rattle.haya_selectors.specs.Tries.{all_found, all_held, all_joined, all_tried, tried}
 use Rattle.haya_selectors.proofs.Bounds.{ticks_more}
 use Rattle.haya_selectors.proofs.Walks.{walked, next_of_map, place_is, met_any, met_yes, met_no, to_find_all}
-use Rattle.haya_selectors.proofs.Tried.{piece_length, settled, table_width, tried_shape}
+use Rattle.haya_selectors.proofs.Kept.{any-map}
+use Rattle.haya_selectors.proofs.Tried.{ByRows, by_rows, piece_length, settled}
 use Rattle.haya_selectors.proofs.Pieces.{length_all_joined}
 use Rattle.haya_selectors.proofs.Paths.{bound_under, candidates_places, resolved_led}
 use Rattle.haya_selectors.proofs.NodeLists.{above_at, left_more}
@@ -97,77 +99,85 @@ each_takes_one-loop-member-preserved t c =
     let s = f (slice_index_or c.args.members.now c.loop-member.member-index 0) in
     let l = left_more f c.args.members.now c.loop-member.member-index (omega arith) in
     let inv = rw l at c.loop-member.invariant in
-    let k = c.in_ok-try_at_each.ensures in (
+    let k = c.in_ok-each_holds.ensures in (
       rw (k.held, append_assoc) inv.0,
       rw (k.lengths, append_assoc) inv.1,
       rw (k.bound, append_assoc) inv.2,
       omega (arith, inv.3, k.ticks),
+      rw (k.answer, ← any-map (λ holds. holds) (holds s) xs, and_assoc) inv.4,
     )
 
-pub each_takes_one-settle-requires-clause-width : goal.each_takes_one-settle-requires-clause-width
-each_takes_one-settle-requires-clause-width t c =
+pub each_takes_one-settle-requires-clause-count : goal.each_takes_one-settle-requires-clause-count
+each_takes_one-settle-requires-clause-count t c =
     let nodes = c.args.nodes.now in
-    let xs = map view c.args.parents.now in
-    let all = members_at nodes c.args.members.now in
-    let none_left : drop c.loop-member.member-index c.args.members.now ≡ [] = drop_of_length-le c.args.members.now (search rules) in
-    let inv = rw none_left at c.loop-member.invariant in
-    let held : held_rows c.loop-member.tries ≡ table_of all xs = sym (append-nil _) ∙ inv.0 in
-    rw held (λ k d l. table_width all xs k d l ∙ length-map c.args.parents.now view)
-
-pub each_takes_one-settle-requires-clause-shape : goal.each_takes_one-settle-requires-clause-shape
-each_takes_one-settle-requires-clause-shape t c =
-    let nodes = c.args.nodes.now in
-    let xs = map view c.args.parents.now in
-    let all = members_at nodes c.args.members.now in
-    let none_left : drop c.loop-member.member-index c.args.members.now ≡ [] = drop_of_length-le c.args.members.now (search rules) in
-    let inv = rw none_left at c.loop-member.invariant in
-    let held : held_rows c.loop-member.tries ≡ table_of all xs = sym (append-nil _) ∙ inv.0 in
-    let lens : length_rows c.loop-member.tries ≡ all_lengths (all_tried all xs) = sym (append-nil _) ∙ inv.1 in
     let names = slot_names nodes in
-    let olds = pairs_view names c.args.found.now in
-    let added : pairs_view names c.loop-member.found ≡ olds ++ all_joined (all_tried all xs) = sym (append-nil _) ∙ inv.2 in
-    rw (held, lens) (tried_shape all xs)
+    let xs = map view c.args.parents.now in
+    let all = members_at nodes c.args.members.now in
+    let none_left : drop c.loop-member.member-index c.args.members.now ≡ [] = drop_of_length-le c.args.members.now (search rules) in
+    let inv = rw none_left at c.loop-member.invariant in
+    let tries = c.loop-member.tries in
+    let rows : ByRows all xs (length c.args.parents.now) (length c.args.members.now) (all_held tries) (all_found tries) =
+    by_rows (syntax_at nodes) c.args.members.now xs (length c.args.parents.now) (all_held tries) (all_found tries) (length-map c.args.parents.now view) (sym (append-nil _) ∙ inv.0) (sym (append-nil _) ∙ inv.1) in
+    rows.count
+
+pub each_takes_one-settle-requires-clause-each : goal.each_takes_one-settle-requires-clause-each
+each_takes_one-settle-requires-clause-each t c =
+    let nodes = c.args.nodes.now in
+    let names = slot_names nodes in
+    let xs = map view c.args.parents.now in
+    let all = members_at nodes c.args.members.now in
+    let none_left : drop c.loop-member.member-index c.args.members.now ≡ [] = drop_of_length-le c.args.members.now (search rules) in
+    let inv = rw none_left at c.loop-member.invariant in
+    let tries = c.loop-member.tries in
+    let rows : ByRows all xs (length c.args.parents.now) (length c.args.members.now) (all_held tries) (all_found tries) =
+    by_rows (syntax_at nodes) c.args.members.now xs (length c.args.parents.now) (all_held tries) (all_found tries) (length-map c.args.parents.now view) (sym (append-nil _) ∙ inv.0) (sym (append-nil _) ∙ inv.1) in
+    rw rows.held_is (sym (and-true c.loop-member.each_holds) ∙ inv.4)
 
 pub each_takes_one-settle-requires-clause-within : goal.each_takes_one-settle-requires-clause-within
 each_takes_one-settle-requires-clause-within t c =
     let nodes = c.args.nodes.now in
+    let names = slot_names nodes in
     let xs = map view c.args.parents.now in
     let all = members_at nodes c.args.members.now in
     let none_left : drop c.loop-member.member-index c.args.members.now ≡ [] = drop_of_length-le c.args.members.now (search rules) in
     let inv = rw none_left at c.loop-member.invariant in
-    let held : held_rows c.loop-member.tries ≡ table_of all xs = sym (append-nil _) ∙ inv.0 in
-    let lens : length_rows c.loop-member.tries ≡ all_lengths (all_tried all xs) = sym (append-nil _) ∙ inv.1 in
-    let names = slot_names nodes in
+    let tries = c.loop-member.tries in
+    let rows : ByRows all xs (length c.args.parents.now) (length c.args.members.now) (all_held tries) (all_found tries) =
+    by_rows (syntax_at nodes) c.args.members.now xs (length c.args.parents.now) (all_held tries) (all_found tries) (length-map c.args.parents.now view) (sym (append-nil _) ∙ inv.0) (sym (append-nil _) ∙ inv.1) in
     let olds = pairs_view names c.args.found.now in
     let added : pairs_view names c.loop-member.found ≡ olds ++ all_joined (all_tried all xs) = sym (append-nil _) ∙ inv.2 in
     let n = piece_length names c.args.found.now c.loop-member.found (all_joined (all_tried all xs)) added in
-    omega (arith, n, length_all_joined (all_tried all xs), ap (sum_by sum) lens, c.len-before.ensures)
+    omega (arith, n, length_all_joined (all_tried all xs), ap (sum_by sum) rows.found_is, c.len-before.ensures)
 
 pub each_takes_one-returns-clause-answer : goal.each_takes_one-returns-clause-answer
 each_takes_one-returns-clause-answer t c =
     let nodes = c.args.nodes.now in
+    let names = slot_names nodes in
     let xs = map view c.args.parents.now in
     let all = members_at nodes c.args.members.now in
     let none_left : drop c.loop-member.member-index c.args.members.now ≡ [] = drop_of_length-le c.args.members.now (search rules) in
     let inv = rw none_left at c.loop-member.invariant in
-    let held : held_rows c.loop-member.tries ≡ table_of all xs = sym (append-nil _) ∙ inv.0 in
-    rw held at (c.in_ok-candidates.ensures.answer xs)
+    let tries = c.loop-member.tries in
+    let rows : ByRows all xs (length c.args.parents.now) (length c.args.members.now) (all_held tries) (all_found tries) =
+    by_rows (syntax_at nodes) c.args.members.now xs (length c.args.parents.now) (all_held tries) (all_found tries) (length-map c.args.parents.now view) (sym (append-nil _) ∙ inv.0) (sym (append-nil _) ∙ inv.1) in
+    rw rows.held_is at (c.in_ok-candidates.ensures.answer xs)
 
 pub each_takes_one-returns-clause-bound : goal.each_takes_one-returns-clause-bound
 each_takes_one-returns-clause-bound t c =
     let nodes = c.args.nodes.now in
+    let names = slot_names nodes in
     let xs = map view c.args.parents.now in
     let all = members_at nodes c.args.members.now in
     let none_left : drop c.loop-member.member-index c.args.members.now ≡ [] = drop_of_length-le c.args.members.now (search rules) in
     let inv = rw none_left at c.loop-member.invariant in
-    let held : held_rows c.loop-member.tries ≡ table_of all xs = sym (append-nil _) ∙ inv.0 in
-    let lens : length_rows c.loop-member.tries ≡ all_lengths (all_tried all xs) = sym (append-nil _) ∙ inv.1 in
-    let names = slot_names nodes in
+    let tries = c.loop-member.tries in
+    let rows : ByRows all xs (length c.args.parents.now) (length c.args.members.now) (all_held tries) (all_found tries) =
+    by_rows (syntax_at nodes) c.args.members.now xs (length c.args.parents.now) (all_held tries) (all_found tries) (length-map c.args.parents.now view) (sym (append-nil _) ∙ inv.0) (sym (append-nil _) ∙ inv.1) in
     let olds = pairs_view names c.args.found.now in
     let added : pairs_view names c.loop-member.found ≡ olds ++ all_joined (all_tried all xs) = sym (append-nil _) ∙ inv.2 in
     let before = length-map c.args.found.now _ ∙ sym c.len-before.ensures in
-    let left = rw held at (c.in_ok-candidates.ensures.left names olds (all_tried all xs) before (sym lens) added) in
-    rw c.give_back.ensures (settled {E = ℕ} all xs (Ok c.in_ok-candidates.candidates) olds (pairs_view names c.settle.new.found) (rw held at (c.in_ok-candidates.ensures.answer xs)) left)
+    let left = rw rows.held_is at (c.in_ok-candidates.ensures.left names olds (all_tried all xs) before (sym rows.found_is) added) in
+    rw c.give_back.ensures (settled {E = ℕ} all xs (Ok c.in_ok-candidates.candidates) olds (pairs_view names c.settle.new.self) (rw rows.held_is at (c.in_ok-candidates.ensures.answer xs)) left)
 
 pub each_takes_one-returns-in_err-candidates-clause-ticks : goal.each_takes_one-returns-in_err-candidates-clause-ticks
 each_takes_one-returns-in_err-candidates-clause-ticks t c =
@@ -188,14 +198,15 @@ try_at_each-loop-parent-preserved t c =
     let left = next_of_map view c.args.parents.now c.loop-parent.parent-index x (omega arith) (search rules) in
     let inv = rw left at c.loop-parent.invariant in
     let a = c.new-asked.ensures in
-    let answer = rw a at c.in_ok-holds_at.ensures.answer in
-    let bound : pairs_view (slot_names c.args.nodes.now) c.holds_at.new.found ≡ pairs_view (slot_names c.args.nodes.now) c.loop-parent.found ++ tried s (view x) = rw answer at (rw a at c.in_ok-holds_at.ensures.bound) in
-    let n = piece_length (slot_names c.args.nodes.now) c.loop-parent.found c.holds_at.new.found (tried s (view x)) bound in
+    let answer = rw a at c.in_ok-held.ensures.answer in
+    let bound : pairs_view (slot_names c.args.nodes.now) c.tried_at.new.found ≡ pairs_view (slot_names c.args.nodes.now) c.loop-parent.found ++ tried s (view x) = rw answer at (rw a at c.in_ok-held.ensures.bound) in
+    let n = piece_length (slot_names c.args.nodes.now) c.loop-parent.found c.tried_at.new.found (tried s (view x)) bound in
     let d : c.len.result - c.len-before.result ≡ length (tried s (view x)) = omega (arith, n, c.len.ensures, c.len-before.ensures) in (
-      rw (c.in_ok-push.ensures.items, append_assoc, answer) inv.0,
-      rw (c.in_ok-push-2.ensures.items, d, append_assoc) inv.1,
+      rw (c.in_ok-push.ensures.held, append_assoc, answer) inv.0,
+      rw (c.in_ok-push.ensures.found, d, append_assoc) inv.1,
       rw (bound, append_assoc) inv.2,
-      omega (arith, inv.3, sum_by-cons (calls s) (view x) (drop (c.loop-parent.parent-index + 1) (map view c.args.parents.now)), rw a at c.in_ok-holds_at.ensures.ticks),
+      omega (arith, inv.3, sum_by-cons (calls s) (view x) (drop (c.loop-parent.parent-index + 1) (map view c.args.parents.now)), rw a at c.in_ok-held.ensures.ticks),
+      rw (answer, or_assoc) inv.4,
     )
 
 pub try_at_each-overflow_sub-len : goal.try_at_each-overflow_sub-len
@@ -205,20 +216,20 @@ try_at_each-overflow_sub-len t c =
     let left = next_of_map view c.args.parents.now c.loop-parent.parent-index x (omega arith) (search rules) in
     let inv = rw left at c.loop-parent.invariant in
     let a = c.new-asked.ensures in
-    let answer = rw a at c.in_ok-holds_at.ensures.answer in
-    let bound : pairs_view (slot_names c.args.nodes.now) c.holds_at.new.found ≡ pairs_view (slot_names c.args.nodes.now) c.loop-parent.found ++ tried s (view x) = rw answer at (rw a at c.in_ok-holds_at.ensures.bound) in
-    let n = piece_length (slot_names c.args.nodes.now) c.loop-parent.found c.holds_at.new.found (tried s (view x)) bound in
+    let answer = rw a at c.in_ok-held.ensures.answer in
+    let bound : pairs_view (slot_names c.args.nodes.now) c.tried_at.new.found ≡ pairs_view (slot_names c.args.nodes.now) c.loop-parent.found ++ tried s (view x) = rw answer at (rw a at c.in_ok-held.ensures.bound) in
+    let n = piece_length (slot_names c.args.nodes.now) c.loop-parent.found c.tried_at.new.found (tried s (view x)) bound in
     omega (arith, n, c.len.ensures, c.len-before.ensures)
 
-pub try_at_each-returns-in_err-holds_at-clause-ticks : goal.try_at_each-returns-in_err-holds_at-clause-ticks
-try_at_each-returns-in_err-holds_at-clause-ticks t c =
+pub try_at_each-returns-in_err-held-clause-ticks : goal.try_at_each-returns-in_err-held-clause-ticks
+try_at_each-returns-in_err-held-clause-ticks t c =
     let s = syntax_at c.args.nodes.now c.args.number in
     let x = c.parent-item.result in
     let left = next_of_map view c.args.parents.now c.loop-parent.parent-index x (omega arith) (search rules) in
     let inv = rw left at c.loop-parent.invariant in
     let a = c.new-asked.ensures in
     let k = sum_by-cons (calls s) (view x) (drop (c.loop-parent.parent-index + 1) (map view c.args.parents.now)) in
-    MatchResult-from_err c.from_residual.result _ _ (search rules) (λ _. omega (arith, inv.3, k, rw a at c.in_err-holds_at.ensures.ticks))
+    MatchResult-from_err c.from_residual.result _ _ (search rules) (λ _. omega (arith, inv.3, k, rw a at c.in_err-held.ensures.ticks))
 
 pub try_at_each-returns-in_err-push-clause-ticks : goal.try_at_each-returns-in_err-push-clause-ticks
 try_at_each-returns-in_err-push-clause-ticks t c =
@@ -228,24 +239,14 @@ try_at_each-returns-in_err-push-clause-ticks t c =
     let inv = rw left at c.loop-parent.invariant in
     let a = c.new-asked.ensures in
     let k = sum_by-cons (calls s) (view x) (drop (c.loop-parent.parent-index + 1) (map view c.args.parents.now)) in
-    MatchResult-from_err c.from_residual-in_err-push.result _ _ (search rules) (λ _. omega (arith, inv.3, k, rw a at c.in_ok-holds_at.ensures.ticks))
+    MatchResult-from_err c.from_residual-in_err-push.result _ _ (search rules) (λ _. omega (arith, inv.3, k, rw a at c.in_ok-held.ensures.ticks))
 
-pub try_at_each-returns-in_err-push-2-clause-ticks : goal.try_at_each-returns-in_err-push-2-clause-ticks
-try_at_each-returns-in_err-push-2-clause-ticks t c =
-    let s = syntax_at c.args.nodes.now c.args.number in
-    let x = c.parent-item.result in
-    let left = next_of_map view c.args.parents.now c.loop-parent.parent-index x (omega arith) (search rules) in
-    let inv = rw left at c.loop-parent.invariant in
-    let a = c.new-asked.ensures in
-    let k = sum_by-cons (calls s) (view x) (drop (c.loop-parent.parent-index + 1) (map view c.args.parents.now)) in
-    MatchResult-from_err c.from_residual-in_err-push-2.result _ _ (search rules) (λ _. omega (arith, inv.3, k, rw a at c.in_ok-holds_at.ensures.ticks))
-
-pub each_takes_one-returns-in_err-try_at_each-clause-ticks : goal.each_takes_one-returns-in_err-try_at_each-clause-ticks
-each_takes_one-returns-in_err-try_at_each-clause-ticks t c =
+pub each_takes_one-returns-in_err-each_holds-clause-ticks : goal.each_takes_one-returns-in_err-each_holds-clause-ticks
+each_takes_one-returns-in_err-each_holds-clause-ticks t c =
     let f = syntax_at c.args.nodes.now in
     let l = left_more f c.args.members.now c.loop-member.member-index (omega arith) in
     let inv = rw l at c.loop-member.invariant in
-    MatchResult-from_err c.from_residual.result _ _ (search rules) (λ _. omega (arith, inv.3, c.in_err-try_at_each.ensures.ticks))
+    MatchResult-from_err c.from_residual.result _ _ (search rules) (λ _. omega (arith, inv.3, c.in_err-each_holds.ensures.ticks))
 
 pub form_candidates_on-bind_first-requires : goal.form_candidates_on-bind_first-requires
 form_candidates_on-bind_first-requires t c =

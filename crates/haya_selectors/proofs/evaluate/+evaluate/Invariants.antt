@@ -1,5 +1,6 @@
 use Rattle.std.proofs.Common.{◌≡◌, ◌+◌, ◌*◌, ◌++◌, drop, map}
-use Rattle.std.specs.Prelude.{position, sum_by}
+use Rattle.std.specs.Prelude.{◌&&◌, ◌||◌, position, sum_by}
+use Rattle.std.specs.List.{list_any}
 use Rattle.haya_entry.specs.Tree.{view}
 use Rattle.haya_selectors.specs.Binds.{first_binds, first_binds_on}
 use Rattle.haya_selectors.specs.Evaluation.{pairs_view}
@@ -8,7 +9,7 @@ use Rattle.haya_selectors.specs.Holds.{holds, some_holds, first_candidates, tabl
 use Rattle.haya_selectors.specs.Places.{items_up_to}
 use Rattle.haya_selectors.specs.Compiled.{above}
 use Rattle.haya_selectors.specs.Nodes.{members_at, slot_names, syntax_at}
-use Rattle.haya_selectors.specs.Tries.{all_joined, all_lengths, all_tried, held_rows, joined, length_rows, lengths, tried}
+use Rattle.haya_selectors.specs.Tries.{all_found, all_held, all_joined, all_lengths, all_tried, each_holds, joined, lengths, tried}
 use Rattle.haya_selectors.proofs.Walks.{to_find, to_sum}
 use Rattle.haya_selectors.proofs.evaluate.+evaluate.Given as goal
 
@@ -22,6 +23,9 @@ decreases-whole_holds_at l = 8 * l.number + 2
 
 abbrev pub decreases-holds_at : goal.decreases-holds_at
 decreases-holds_at l = 8 * l.number + 3
+
+abbrev pub decreases-tried_at : goal.decreases-tried_at
+decreases-tried_at l = 8 * l.number + 3
 
 abbrev pub decreases-try_at_each : goal.decreases-try_at_each
 decreases-try_at_each l = 8 * l.number + 4
@@ -72,10 +76,11 @@ invariant-each_takes_one-loop-member l =
     let all = members_at l.nodes l.members in
     let rest = members_at l.nodes (drop l.member-index l.members) in
     let xs = map view l.parents in
-    (held_rows l.tries ++ table_of rest xs ≡ table_of all xs)
-    × (length_rows l.tries ++ all_lengths (all_tried rest xs) ≡ all_lengths (all_tried all xs))
+    (all_held l.tries ++ joined (table_of rest xs) ≡ joined (table_of all xs))
+    × (all_found l.tries ++ joined (all_lengths (all_tried rest xs)) ≡ joined (all_lengths (all_tried all xs)))
     × (pairs_view (slot_names l.nodes) l.found ++ all_joined (all_tried rest xs) ≡ pairs_view (slot_names l.nodes) l.fn.found ++ all_joined (all_tried all xs))
     × (l.steps + all_calls rest xs ≡ l.fn.steps + all_calls all xs)
+    × ((l.each_holds && each_holds (table_of rest xs)) ≡ each_holds (table_of all xs))
 
 -- the same of the parents of one row
 abbrev pub invariant-try_at_each-loop-parent : goal.invariant-try_at_each-loop-parent
@@ -83,10 +88,11 @@ invariant-try_at_each-loop-parent l =
     let s = syntax_at l.nodes l.number in
     let all = map view l.parents in
     let rest = drop l.parent-index all in
-    (l.row.held.items ++ map (holds s) rest ≡ map (holds s) all)
-    × (l.row.lengths.items ++ lengths (map (tried s) rest) ≡ lengths (map (tried s) all))
+    (all_held l.tries ++ map (holds s) rest ≡ all_held l.fn.tries ++ map (holds s) all)
+    × (all_found l.tries ++ lengths (map (tried s) rest) ≡ all_found l.fn.tries ++ lengths (map (tried s) all))
     × (pairs_view (slot_names l.nodes) l.found ++ joined (map (tried s) rest) ≡ pairs_view (slot_names l.nodes) l.fn.found ++ joined (map (tried s) all))
     × (l.steps + sum_by (calls s) rest ≡ l.fn.steps + sum_by (calls s) all)
+    × ((l.somewhere || list_any (holds s) rest) ≡ list_any (holds s) all)
 
 -- the places that are left
 abbrev pub invariant-first_alone-loop-place : goal.invariant-first_alone-loop-place
