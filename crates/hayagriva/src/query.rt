@@ -75,8 +75,8 @@ impl Library {
         Ok(Query::new(prepared, self.iter()))
     }
 
-    // The entries where the selector holds.
-    fn hits<'s>(
+    /// The same hits, of a selector that was read before. The only error is out of memory.
+    pub fn hits<'s>(
         &'s self,
         alloc: Global,
         selector: &Selector,

@@ -1,6 +1,4 @@
 mod Faults
 mod Lines
-mod Names
-mod OutputRows
 mod Parts
 mod OneOutput

@@ -15,36 +15,11 @@ use Rattle.hayagriva.specs.Syntax.{Syntax}
 use Rattle.hayagriva.specs.Tree.{Tree, view}
 use Rattle.hayagriva.specs.declared.query.Hit.{Hit}
 use Rattle.hayagriva.proofs.Queries.{asks-none, asks-more}
-use Rattle.hayagriva_query.specs.Output.{AreLines, AreLinesAt, IsLineAt, IsLineOf, PrintsPart, binding_text}
+use Rattle.haya_hits.specs.Line.{AreLines, AreLinesAt, IsLineAt, IsLineOf, binding_text}
+use Rattle.hayagriva_query.specs.Output.{PrintsPart}
+use Rattle.haya_hits.proofs.Lines.{line_at, one_more_line}
 use Rattle.hayagriva_query.specs.declared.fault.Fault.{Fault}
 use Rattle.hayagriva_query.specs.declared.fault.Fault.TheVariants.{CannotWrite}
-
-mapped_twice : {A B C : Type 0} (f : B → C) (g : A → B) (o : Option A) → option_map (λ x. f (g x)) o ≡ option_map f (option_map g o)
-mapped_twice f g None = refl
-mapped_twice f g (Some x) = refl
-
--- the line of a hit is that of the entry
-line_at : (s : Syntax) (x : Tree) (hit : Hit) (line : List ℕ) → IsHit s x hit → IsLineOf hit line → IsLineAt s x line
-line_at s x hit line h l = record {
-  names = l.names;
-  all = λ name. l.all name ∙ mapped_twice key_of (λ e. view e.now) _ ∙ ap (option_map key_of) (h.bindings.entries name);
-  order = l.order;
-  text = l.text ∙ ap (λ t. key_of t ++ flat_map binding_text l.names ++ 10 ∷ []) h.entry;
-}
-
-zip_more : {A B : Type 0} (R : A → B → Type 0) (xs : List A) (ys : List B) (x : A) (y : B) → AllZip R xs ys → R x y → AllZip R (xs ++ x ∷ []) (ys ++ y ∷ [])
-zip_more R [] [] x y h r = (r, tt)
-zip_more R [] (b ∷ more) x y h r = absurd h
-zip_more R (a ∷ rest) [] x y h r = absurd h
-zip_more R (a ∷ rest) (b ∷ more) x y h r = (h.0, zip_more R rest more x y h.1 r)
-
-one_more_line : (s : Syntax) (xs : List Tree) (printed : List ℕ) (x : Tree) (line : List ℕ) → AreLines (IsLineAt s) xs printed → IsLineAt s x line
-    → AreLines (IsLineAt s) (xs ++ x ∷ []) (printed ++ line)
-one_more_line s xs printed x line h l = record {
-  lines = h.lines ++ line ∷ [];
-  each = zip_more (IsLineAt s) xs h.lines x line h.each l;
-  text = ap (λ b. b ++ line) h.text ∙ ap (λ b. concat h.lines ++ b) (sym (append-nil line)) ∙ sym (concat-append h.lines (line ∷ []));
-}
 
 -- the lines of the entries that were asked so far are printed
 pub record Printed (q r : QueryState) (before after : Option (List ℕ)) : Type 0 where
@@ -76,7 +51,7 @@ module _ (q r : QueryState) (before mid after : Option (List ℕ)) (p : Printed 
         asked = p.asked ++ taken;
         printed = p.printed ++ line;
         asks = asks-more q r t p.asked taken p.asks h.asks;
-        shows = rw (filter-append (holds s) p.asked taken, one) (one_more_line s (filter (holds s) p.asked) p.printed h.entry line p.shows at_entry);
+        shows = rw (filter-append (holds s) p.asked taken, one) (one_more_line (IsLineAt s) (filter (holds s) p.asked) p.printed h.entry line p.shows at_entry);
         prints = Appends-trans before mid after p.printed line p.prints w;
       }
 

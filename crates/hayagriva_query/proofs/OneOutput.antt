@@ -26,7 +26,7 @@ use Rattle.haya_input.specs.Input.{Describes}
 use Rattle.haya_input.specs.Parts.{AreWholeLines, DescribeApart}
 use Rattle.haya_input.proofs.OneLibrary.{Describes-same}
 use Rattle.haya_input.proofs.Parts.{Describes-append, Describes-many}
-use Rattle.hayagriva_query.specs.Output.{AreLinesAt, IsLineAt, binding_text}
+use Rattle.haya_hits.specs.Line.{AreLinesAt, IsLineAt, binding_text}
 use Rattle.hayagriva_query.specs.Parts.{Shows}
 use Rattle.hayagriva_query.proofs.Parts.{AreLinesAt-append, AreLinesAt-many}
 

@@ -8,7 +8,7 @@ use Rattle.hayagriva.specs.Holds.{holds}
 use Rattle.hayagriva.specs.Syntax.{Syntax}
 use Rattle.hayagriva.specs.Tree.{Tree}
 use Rattle.hayagriva.proofs.Parts.{AllZip-append}
-use Rattle.hayagriva_query.specs.Output.{AreLinesAt, IsLineAt}
+use Rattle.haya_hits.specs.Line.{AreLinesAt, IsLineAt}
 
 module _ (s : Syntax) where
   pub AreLinesAt-append : (a b : List Tree) (first second : List ℕ) → AreLinesAt s a first → AreLinesAt s b second → AreLinesAt s (a ++ b) (first ++ second)

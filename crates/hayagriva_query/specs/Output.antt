@@ -1,61 +1,18 @@
 -- The program's output: a line for each entry that a selector picks.
-use Rattle.std.specs.Prelude.{◌≡◌, ◌≢◌, ◌⊎◌, ℕ, List, [], ◌∷◌, ◌++◌, Option, Some, Err, option_map, filter}
-use Rattle.std.specs.Cmp.Lexicographic.{slice_cmp}
-use Rattle.std.specs.HashMap.{get_by_text}
+use Rattle.std.specs.Prelude.{◌≡◌, ◌≢◌, ◌⊎◌, ℕ, List, [], ◌∷◌, ◌++◌, Option, Some, Err, filter}
 use Rattle.std.specs.Io.KnownBytes.{Appends, Consumes, IsAtEnd, Keeps}
-use Rattle.std.specs.List.{AllZip, concat, flat_map}
-use Rattle.std.specs.List.Sorted.{IsStrictlySortedBy}
-use Rattle.std.specs.Map.{keys_of, lookup}
-use Rattle.std.specs.Ordering.{nat_cmp}
-use Rattle.std.specs.Str.{IsUtf8, bytes_eq, chars}
+use Rattle.std.specs.Str.{IsUtf8, chars}
 use Rattle.std.specs.Str.Lines.{lines}
-use Rattle.hayagriva.specs.Binds.{bound_to}
 use Rattle.hayagriva.specs.Fault.{Fault}
 use Rattle.hayagriva.specs.Holds.{holds}
-use Rattle.hayagriva.specs.Library.{key_of}
 use Rattle.hayagriva.specs.Reading.{TextReads, TextFails}
 use Rattle.hayagriva.specs.Syntax.{Syntax}
-use Rattle.hayagriva.specs.Tree.{Tree, view}
-use Rattle.hayagriva.specs.declared.query.Hit.{Hit}
+use Rattle.hayagriva.specs.Tree.{Tree}
+use Rattle.haya_hits.specs.Line.{AreLines, AreLinesAt, IsLineAt}
 use Rattle.haya_input.specs.Input.{Describes, rows_read}
-use Rattle.haya_lines.specs.Signs.{tab, equals_sign, line_feed}
 use Rattle.hayagriva_query.specs.declared.fault.Fault.{Fault as RunFault}
 use Rattle.hayagriva_query.specs.declared.fault.Fault.TheVariants.{CannotWrite}
 use Rattle.haya_lines.specs.declared.fault.LineFault.{LineFault}
-
--- a tab, a name, `=` and a key
-abbrev pub binding_text : List ℕ × List ℕ → List ℕ
-binding_text p = tab ∷ p.0 ++ equals_sign ∷ p.1
-
--- a key, then each name that stands for a key, in byte order, and a line feed
-pub record IsLine (key : List ℕ) (stands_for : List ℕ → Option (List ℕ)) (line : List ℕ)
-    : Type 0 where
-  pub names : List (List ℕ × List ℕ)
-  pub all : (name : List ℕ) → lookup (bytes_eq name) names ≡ stands_for name
-  pub order : IsStrictlySortedBy (slice_cmp nat_cmp) (keys_of names)
-  pub text : line ≡ key ++ flat_map binding_text names ++ line_feed ∷ []
-
--- the line of a hit
-abbrev pub IsLineOf : Hit → List ℕ → Type 0
-IsLineOf hit =
-    IsLine (key_of (view hit.entry.now))
-    (λ name. option_map (λ e. key_of (view e.now)) (get_by_text hit.bindings name))
-
--- the line of an entry where a selector holds: its key, and the keys of the entries that its names
--- are bound to
-abbrev pub IsLineAt : Syntax → Tree → List ℕ → Type 0
-IsLineAt s x = IsLine (key_of x) (λ name. option_map key_of (bound_to s x name))
-
--- a line for each, in order
-pub record AreLines {A : Type 0} (IsLineFor : A → List ℕ → Type 0) (xs : List A) (printed : List ℕ)
-    : Type 0 where
-  pub lines : List (List ℕ)
-  pub each : AllZip IsLineFor xs lines
-  pub text : printed ≡ concat lines
-
--- the lines of the entries of a library where a selector holds, in order
-abbrev pub AreLinesAt : Syntax → List Tree → List ℕ → Type 0
-AreLinesAt s library = AreLines (IsLineAt s) (filter (holds s) library)
 
 -- a run that ends well with one word: the word reads as a selector, all input that was left is
 -- UTF-8 and describes a library, and what is printed behind what was there are the lines of its

@@ -5,7 +5,7 @@ use Rattle.hayagriva.specs.Reading.{TextReads}
 use Rattle.hayagriva.specs.Syntax.{Syntax}
 use Rattle.hayagriva.specs.Tree.{Tree}
 use Rattle.haya_input.specs.Input.{Describes}
-use Rattle.hayagriva_query.specs.Output.{AreLinesAt}
+use Rattle.haya_hits.specs.Line.{AreLinesAt}
 
 -- what a run prints whose word reads as a selector and whose input is this text: the lines of the
 -- entries of its library where the selector holds

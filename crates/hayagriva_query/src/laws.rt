@@ -7,7 +7,8 @@ ghost use Rattle.hayagriva.specs.Reading.{TextReads};
 ghost use Rattle.hayagriva.specs.Syntax.{Syntax};
 ghost use Rattle.hayagriva.specs.Tree.{Tree};
 ghost use Rattle.haya_input.specs.Parts.{AreWholeLines, DescribeApart};
-ghost use Rattle.hayagriva_query.specs.Output.{Answers, AreLinesAt};
+ghost use Rattle.haya_hits.specs.Line.{AreLinesAt};
+ghost use Rattle.hayagriva_query.specs.Output.{Answers};
 ghost use Rattle.hayagriva_query.specs.Parts.{Shows};
 
 /// What is printed over the entries of two libraries is what is printed over those of the first,

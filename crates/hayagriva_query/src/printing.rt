@@ -1,14 +1,14 @@
 //! Prints hits, a line each.
 ghost use Rattle.std.specs.Prelude.{◌≡◌, ◌⊎◌, IfErr, IsOkUnless, List, ◌++◌, ℕ, OnErr, OnOk};
-ghost use Rattle.std.specs.Prelude.{string_bytes};
 ghost use Rattle.std.specs.Io.KnownBytes.{Appends};
 ghost use Rattle.hayagriva_query.specs.declared.fault.Fault.TheVariants.{CannotWrite, OutOfMemory};
-ghost use Rattle.hayagriva_query.specs.Output.{AreLinesAt, IsLineOf, PrintsPart};
+ghost use Rattle.haya_hits.specs.Line.{AreLinesAt};
+ghost use Rattle.hayagriva_query.specs.Output.{PrintsPart};
 
 use crate::fault::Fault;
-use hayagriva::{Hit, Query};
+use haya_hits::push_line;
+use hayagriva::Query;
 use std::alloc::Global;
-use std::collections::BTreeMap;
 use std::io;
 use std::io::Write;
 
@@ -25,32 +25,14 @@ pub fn print_hits<W: Write>(alloc: Global, hits: &mut Query, out: &mut W) -> Res
 {
     let mut line = String::new(alloc);
     'hits: for hit in hits {
-        compose(alloc, &hit?, &mut line)?;
+        line.clear();
+        push_line(alloc, &mut line, &hit?)?;
         write_line(out, line.as_bytes())?;
     }
     match out.flush() {
         Ok(()) => Ok(()),
         Err(_) => Err(Fault::CannotWrite),
     }
-}
-
-// Makes the line a hit's: the entry's key, then a tab and `name=key` for each binding, in byte
-// order of the names, and a line feed.
-fn compose(alloc: Global, hit: &Hit, line: &mut String) -> Result<(), Fault>
-    ensures line { OnOk result (IsLineOf hit.now (string_bytes line.new)) }
-    ensures fault { IsOkUnless result OutOfMemory }
-{
-    line.clear();
-    line.push_str(hit.entry.key())?;
-    let bindings = hit.bindings.iter().collect::<BTreeMap<_, _>>(alloc)?;
-    for (name, bound) in bindings {
-        line.push('\t')?;
-        line.push_str(name.as_str())?;
-        line.push('=')?;
-        line.push_str(bound.key())?;
-    }
-    line.push('\n')?;
-    Ok(())
 }
 
 // Hands a line on. It is one write, but where the writer takes less than the whole or is

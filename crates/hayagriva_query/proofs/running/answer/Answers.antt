@@ -1,7 +1,8 @@
 use Rattle.std.proofs.Common.{rules, ◌≡◌, length, refl, ap, subst, inr}
 use Rattle.std.proofs.lemmas.Option.{slice_get_read}
 use Rattle.std.proofs.lemmas.Result.{IfErr-weaker, on_ok_weaker}
-use Rattle.hayagriva_query.specs.Output.{AreLinesAt, PrintsPart}
+use Rattle.haya_hits.specs.Line.{AreLinesAt}
+use Rattle.hayagriva_query.specs.Output.{PrintsPart}
 use Rattle.hayagriva_query.proofs.Faults.{kept_where_read}
 use Rattle.hayagriva_query.proofs.running.answer.Goals as goal
 

@@ -4,7 +4,7 @@ use Rattle.std.specs.Prelude.{codes}
 use Rattle.std.specs.List.Sorted.{IsStrictlySortedBy}
 use Rattle.std.specs.Map.{lookup}
 use Rattle.std.specs.Str.{bytes_eq}
-use Rattle.hayagriva_query.specs.Output.{IsLine}
+use Rattle.haya_hits.specs.Line.{IsLine}
 
 abbrev names : List (List ℕ × List ℕ)
 names = (codes "W", codes "site") ∷ (codes "a", codes "journal") ∷ []

@@ -1,0 +1,3 @@
+mod Collected
+pub mod Lines
+mod Rows
