@@ -17,3 +17,4 @@ mod SerialsBack
 mod FieldsBack
 mod Sounds
 mod SoundEntries
+mod NoBad

@@ -7,7 +7,7 @@ use Rattle.haya_json.specs.Refusal.{StepView, to_member, to_item, step_view}
 use Rattle.haya_json.specs.declared.error.ReadError.{ReadError}
 use Rattle.haya_json.specs.declared.error.ReadError.TheVariants.{NotJson, NameTwice, Refused, OutOfMemory}
 use Rattle.haya_json.specs.declared.fault.Why.{Why}
-use Rattle.haya_json.specs.declared.fault.Why.TheVariants.{NotObject, NotEntries, NotText, NotTruth, NotWhole, Missing, Twice, UnknownType, UnknownRole, NotChunks, NotPerson, NotDate, NotNumber, NotDuration}
+use Rattle.haya_json.specs.declared.fault.Why.TheVariants.{NotObject, NotEntries, NotList, NotText, NotTruth, NotWhole, Missing, Twice, SameId, UnknownType, UnknownRole, NotChunks, NotPerson, NotDate, NotNumber, NotDuration}
 
 -- a character of a name in a pointer: `~0` for a tilde, and `~1` for a slash
 abbrev pub pointer_char : ℕ → List ℕ
@@ -29,11 +29,13 @@ pointer path = flat_map pointer_step path
 abbrev pub why_text : Why → List ℕ
 why_text NotObject = codes "expected an object"
 why_text NotEntries = codes "expected an entry or a list of entries"
+why_text NotList = codes "expected a list"
 why_text NotText = codes "expected a text"
 why_text NotTruth = codes "expected true or false"
 why_text NotWhole = codes "expected a whole number"
 why_text Missing = codes "missing"
 why_text Twice = codes "given twice"
+why_text SameId = codes "the same id twice"
 why_text UnknownType = codes "unknown type"
 why_text UnknownRole = codes "unknown role"
 why_text NotChunks = codes "a brace closes no group"

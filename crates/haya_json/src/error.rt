@@ -45,11 +45,13 @@ impl fmt::Display for Why {
         match self {
             Why::NotObject => f.write_str("expected an object"),
             Why::NotEntries => f.write_str("expected an entry or a list of entries"),
+            Why::NotList => f.write_str("expected a list"),
             Why::NotText => f.write_str("expected a text"),
             Why::NotTruth => f.write_str("expected true or false"),
             Why::NotWhole => f.write_str("expected a whole number"),
             Why::Missing => f.write_str("missing"),
             Why::Twice => f.write_str("given twice"),
+            Why::SameId => f.write_str("the same id twice"),
             Why::UnknownType => f.write_str("unknown type"),
             Why::UnknownRole => f.write_str("unknown role"),
             Why::NotChunks => f.write_str("a brace closes no group"),

@@ -13,6 +13,8 @@ pub enum Why {
     NotObject,
     /// The parents of an entry are neither an entry nor a list of entries.
     NotEntries,
+    /// A list of values is no array.
+    NotList,
     /// Neither a text nor a number, which stands for the text that it is written as.
     NotText,
     /// Neither true nor false.
@@ -23,6 +25,8 @@ pub enum Why {
     Missing,
     /// The same is said before, by another name.
     Twice,
+    /// The key of an entry that stands before.
+    SameId,
     /// A name of no type.
     UnknownType,
     /// A name of no role.
@@ -50,7 +54,7 @@ pub enum Step {
 
 /// Why nothing is read of a value.
 #[derive(Debug, Drop)]
-pub(crate) enum Fault {
+pub enum Fault {
     /// The value at the end of these steps is refused.
     Refused(Vec<Step>, Why),
     /// An allocation failed, which says nothing of the value.
@@ -61,14 +65,14 @@ impl std::error::Error for Why {}
 
 impl Fault {
     /// The value itself is refused.
-    pub(crate) fn refused(alloc: Global, why: Why) -> Fault
+    pub fn refused(alloc: Global, why: Why) -> Fault
         ensures { refusal_of result ≡ here why }
     {
         Fault::Refused(Vec::new(alloc), why)
     }
 
     /// The same fault, seen from the object that has the value under this name.
-    pub(crate) fn in_member(self, alloc: Global, name: &str) -> Fault
+    pub fn in_member(self, alloc: Global, name: &str) -> Fault
         ensures { IsOutside (to_member name.now) self result }
     {
         match String::from_str(alloc, name) {
@@ -78,7 +82,7 @@ impl Fault {
     }
 
     /// The same fault, seen from the array that has the value at this place.
-    pub(crate) fn in_item(self, place: usize) -> Fault
+    pub fn in_item(self, place: usize) -> Fault
         ensures { IsOutside (to_item place) self result }
     {
         self.behind(Step::Place(place))

@@ -11,7 +11,7 @@ use json::Value;
 use std::alloc::Global;
 
 /// A value that JSON says.
-pub(crate) trait FromJson: Sized {
+pub trait FromJson: Sized {
     ghost use Rattle.std.specs.Prelude.{◌≡◌, Result, Ok, IfOk, IfErr};
     ghost use Rattle.json.specs.Json.{Json};
     ghost use Rattle.json.specs.Value.{value_view};
@@ -32,7 +32,7 @@ pub(crate) trait FromJson: Sized {
 }
 
 /// The text of a value. A number stands for the text that it is written as.
-pub(crate) fn text_in<'a>(json: &Value<'a>) -> Option<&'a str>
+pub fn text_in<'a>(json: &Value<'a>) -> Option<&'a str>
     ensures { option_map (λ s. s.now) result ≡ text_in (value_view json.now) }
 {
     match json {
@@ -43,7 +43,7 @@ pub(crate) fn text_in<'a>(json: &Value<'a>) -> Option<&'a str>
 }
 
 /// The text of a value, where it has one.
-pub(crate) fn read_text<'a>(alloc: Global, json: &Value<'a>) -> Result<&'a str, Fault>
+pub fn read_text<'a>(alloc: Global, json: &Value<'a>) -> Result<&'a str, Fault>
     ensures ok { IfOk result (λ text. bytes_of (value_view json.now) ≡ Ok text.now) }
     ensures fault { IfErr result (IsFaultOf (bytes_of (value_view json.now))) }
 {
@@ -54,7 +54,7 @@ pub(crate) fn read_text<'a>(alloc: Global, json: &Value<'a>) -> Result<&'a str, 
 }
 
 /// What the text of the value reads as. A text that isn't read is refused for this reason.
-pub(crate) fn read_by<T: ReadText>(alloc: Global, json: &Value<'_>, why: Why) -> Result<T, Fault>
+pub fn read_by<T: ReadText>(alloc: Global, json: &Value<'_>, why: Why) -> Result<T, Fault>
     ensures ok { IfOk result (λ v. read_by why T.reads (value_view json.now) ≡ Ok (T.value v)) }
     ensures fault { IfErr result (IsFaultOf (read_by why T.reads (value_view json.now))) }
 {
@@ -106,7 +106,7 @@ impl FromJson for bool {
 }
 
 /// The member with this name, if there is one and it isn't null.
-pub(crate) fn member<'v, 'a>(json: &'v Value<'a>, name: &str) -> Option<&'v Value<'a>>
+pub fn member<'v, 'a>(json: &'v Value<'a>, name: &str) -> Option<&'v Value<'a>>
     ensures { option_map (λ v. value_view v.now) result ≡ member_of name.now (value_view json.now) }
 {
     let member = json.get(name)?;
@@ -114,7 +114,7 @@ pub(crate) fn member<'v, 'a>(json: &'v Value<'a>, name: &str) -> Option<&'v Valu
 }
 
 /// What a member that has to be there reads as.
-pub(crate) fn needed<T: FromJson>(alloc: Global, json: &Value<'_>, name: &str) -> Result<T, Fault>
+pub fn needed<T: FromJson>(alloc: Global, json: &Value<'_>, name: &str) -> Result<T, Fault>
     ensures ok { IfOk result
         (λ v. needed name.now T.reads (value_view json.now) ≡ Ok (T.view v)) }
     ensures fault { IfErr result (IsFaultOf (needed name.now T.reads (value_view json.now))) }
@@ -129,7 +129,7 @@ pub(crate) fn needed<T: FromJson>(alloc: Global, json: &Value<'_>, name: &str) -
 }
 
 /// What a member that may be left out reads as.
-pub(crate) fn optional<T: FromJson>(
+pub fn optional<T: FromJson>(
     alloc: Global,
     json: &Value<'_>,
     name: &str,
@@ -148,7 +148,7 @@ pub(crate) fn optional<T: FromJson>(
 }
 
 /// Whether the member with this name is true. One that is left out isn't.
-pub(crate) fn flag(alloc: Global, json: &Value<'_>, name: &str) -> Result<bool, Fault>
+pub fn flag(alloc: Global, json: &Value<'_>, name: &str) -> Result<bool, Fault>
     ensures ok { IfOk result (λ b. flag name.now (value_view json.now) ≡ Ok b) }
     ensures fault { IfErr result (IsFaultOf (flag name.now (value_view json.now))) }
 {
@@ -181,8 +181,11 @@ impl<T: FromJson + Drop> FromJson for Vec<T> {
     }
 }
 
-// Each item as a value, in order.
-fn read_items<T: FromJson + Drop>(alloc: Global, items: &Vec<Value<'_>>) -> Result<Vec<T>, Fault>
+/// Each item as a value, in order.
+pub fn read_items<T: FromJson + Drop>(
+    alloc: Global,
+    items: &Vec<Value<'_>>,
+) -> Result<Vec<T>, Fault>
     ensures ok { IfOk result (λ vs.
         items_of T.reads 0 (items_view items.now.items) ≡ Ok (map T.view vs.items)) }
     ensures fault { IfErr result (IsFaultOf (items_of T.reads 0 (items_view items.now.items))) }

@@ -6,3 +6,5 @@ mod people;
 mod serials;
 mod sources;
 mod texts;
+
+pub use numbers::{read_typed, whole_read};

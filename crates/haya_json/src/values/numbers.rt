@@ -14,8 +14,8 @@ use haya_values::MaybeTyped;
 use json::Value;
 use std::alloc::Global;
 
-// The number of digits, perhaps behind a sign, where 32 bits hold it.
-fn whole_read(text: &str) -> Option<i32>
+/// The number of digits, perhaps behind a sign, where 32 bits hold it.
+pub fn whole_read(text: &str) -> Option<i32>
     ensures { result ≡ whole_read text.now }
 {
     text.parse::<i32>().ok()
@@ -91,10 +91,7 @@ impl FromJson for Numeric {
 }
 
 /// What a reader of texts reads, or the text itself.
-pub(super) fn read_typed<T: ReadText>(
-    alloc: Global,
-    json: &Value<'_>,
-) -> Result<MaybeTyped<T>, Fault>
+pub fn read_typed<T: ReadText>(alloc: Global, json: &Value<'_>) -> Result<MaybeTyped<T>, Fault>
     ensures ok { IfOk result (λ v.
         typed_by T.reads (value_view json.now) ≡ Ok (maybe_typed_view T.value v)) }
     ensures fault { IfErr result (IsFaultOf (typed_by T.reads (value_view json.now))) }

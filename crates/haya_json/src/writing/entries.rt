@@ -15,9 +15,11 @@ use haya_text::OutOfMemory;
 use json::Writer;
 use std::alloc::Global;
 
-/// The entry as JSON, over an entry with this key, if there is one.
+/// Writes the entry as JSON in hayagriva's file format, as `to_json` does: behind what was written,
+/// in an object or an array that the caller opens. `below` is the key of the entry below it, whose
+/// parent it is, and none for an entry of a library. A call that fails may have written a part.
 #[cycle(printed)]
-pub(super) fn write_entry(
+pub fn write_entry(
     alloc: Global,
     out: &mut Writer,
     below: Option<&str>,

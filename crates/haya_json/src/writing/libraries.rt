@@ -2,6 +2,7 @@
 ghost use Rattle.std.specs.Prelude.{◌≡◌, ◌++◌, string_bytes, IfOk, OnOk};
 ghost use Rattle.std.specs.Str.{IsUtf8};
 ghost use Rattle.json.specs.Json.{no_members};
+ghost use Rattle.json.specs.Lex.{tokens};
 ghost use Rattle.json.specs.Print.{print};
 ghost use Rattle.json.specs.Tree.{json_tokens, members_tokens};
 ghost use Rattle.haya_json.specs.Printed.{library_json, library_members};
@@ -18,6 +19,8 @@ use std::alloc::Global;
 pub fn to_json(alloc: Global, library: &Library) -> Result<Vec<u8>, OutOfMemory>
     ensures bytes { IfOk result (λ bytes.
         bytes.items ≡ print (json_tokens (library_json library.now))) }
+    ensures tokens { IfOk result (λ bytes.
+        tokens bytes.items ≡ json_tokens (library_json library.now)) }
     ensures text { IfOk result (λ bytes. IsUtf8 bytes.items) }
 {
     let mut out = Writer::new(Vec::new(alloc));
