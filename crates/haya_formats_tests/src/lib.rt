@@ -1,6 +1,9 @@
-//! The tests of the calls of the crates of formats: libraries in JSON, and entries as lines.
+//! The tests of the calls of the crates of formats: libraries in JSON and CSL-JSON, and entries as
+//! lines.
 #![tactic(auto)]
 
+#[cfg(test)]
+mod csl;
 #[cfg(test)]
 mod json;
 #[cfg(test)]

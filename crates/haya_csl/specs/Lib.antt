@@ -1,0 +1,11 @@
+pub mod Markup
+pub mod Reader
+pub mod Names
+pub mod NameParts
+pub mod Dates
+pub mod Kinds
+pub mod Fields
+pub mod Members
+pub mod Items
+pub mod Draft
+pub mod Libraries

@@ -1,0 +1,14 @@
+//! Libraries in CSL-JSON, as reference managers export them.
+#![tactic(auto)]
+
+mod dates;
+mod draft;
+mod fields;
+mod items;
+mod kinds;
+mod libraries;
+mod markup;
+mod members;
+mod names;
+
+pub use libraries::read_csl_json;

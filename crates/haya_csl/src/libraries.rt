@@ -1,0 +1,91 @@
+//! Libraries from a text.
+ghost use Rattle.std.specs.Prelude.{◌≡◌, [], Ok, option_map, IfOk, IfErr};
+ghost use Rattle.json.specs.Value.{items_view, value_view};
+ghost use Rattle.haya_json.specs.Refusal.{IsFaultOf};
+ghost use Rattle.haya_csl.specs.Libraries.{DescribesAsCsl, IsCslErrorOf, csl_library_of};
+ghost use Rattle.haya_csl.specs.Libraries.{items_pushed, list_in, list_of};
+
+use crate::items::read_item;
+use haya_json::reading::{Fault, member};
+use haya_json::{ReadError, Why};
+use hayagriva::Library;
+use json::{Scratch, Value};
+use std::alloc::Global;
+
+/// The library that a text says in CSL-JSON: a list of items, or an object that has it as its
+/// `items`. The order is that of the list, and the key of an entry is the item's `id`. A member
+/// that has no place in an entry is passed over.
+///
+/// `NotJson`: the text is no JSON. `NameTwice`: it is, and an object has a member twice. `Refused`:
+/// a value is not what its place asks for, a type is none of CSL's, or an `id` is missing or comes
+/// a second time.
+pub fn read_csl_json(alloc: Global, text: &str) -> Result<Library, ReadError>
+    ensures library { IfOk result (DescribesAsCsl text.now) }
+    ensures error { IfErr result (IsCslErrorOf text.now) }
+{
+    let mut scratch = Scratch::new(alloc);
+    match Value::parse_strict(alloc, text, &mut scratch) {
+        Ok(json) => match library_of(alloc, &json) {
+            Ok(library) => Ok(library),
+            Err(Fault::Refused(path, why)) => Err(ReadError::Refused(path, why)),
+            Err(Fault::OutOfMemory) => Err(ReadError::OutOfMemory),
+        },
+        Err(json::Error::Invalid) => Err(ReadError::NotJson),
+        Err(json::Error::DuplicateKey) => Err(ReadError::NameTwice),
+        Err(_) => Err(ReadError::OutOfMemory),
+    }
+}
+
+// The library that a value says.
+fn library_of(alloc: Global, json: &Value<'_>) -> Result<Library, Fault>
+    ensures ok { IfOk result (λ library. csl_library_of (value_view json.now) ≡ Ok library) }
+    ensures fault { IfErr result (IsFaultOf (csl_library_of (value_view json.now))) }
+{
+    match json {
+        Value::Object(_) => read_in(alloc, member(json, "items")),
+        _ => read_list(alloc, json),
+    }
+}
+
+// The library of the list that an object has.
+fn read_in(alloc: Global, list: Option<&Value<'_>>) -> Result<Library, Fault>
+    ensures ok { IfOk result (λ library.
+        list_in (option_map (λ j. value_view j.now) list.entry) ≡ Ok library) }
+    ensures fault { IfErr result (IsFaultOf
+        (list_in (option_map (λ j. value_view j.now) list.entry))) }
+{
+    let Some(list) = list else {
+        return Err(Fault::refused(alloc, Why::NotList));
+    };
+    match read_list(alloc, list) {
+        Ok(library) => Ok(library),
+        Err(fault) => Err(fault.in_member(alloc, "items")),
+    }
+}
+
+// The library of a list of items.
+fn read_list(alloc: Global, json: &Value<'_>) -> Result<Library, Fault>
+    ensures ok { IfOk result (λ library. list_of (value_view json.now) ≡ Ok library) }
+    ensures fault { IfErr result (IsFaultOf (list_of (value_view json.now))) }
+{
+    match json {
+        Value::Array(items) => read_items(alloc, items),
+        _ => Err(Fault::refused(alloc, Why::NotList)),
+    }
+}
+
+// The entries of items, pushed in turn.
+fn read_items(alloc: Global, items: &Vec<Value<'_>>) -> Result<Library, Fault>
+    ensures ok { IfOk result (λ library.
+        items_pushed [] 0 (items_view items.now.items) ≡ Ok library) }
+    ensures fault { IfErr result (IsFaultOf (items_pushed [] 0 (items_view items.now.items))) }
+{
+    let mut library = Library::new(alloc);
+    'items: for place in 0..items.len() {
+        match read_item(alloc, &library, &items[place]) {
+            Ok(entry) => library.insert(entry)?,
+            Err(fault) => return Err(fault.in_item(place)),
+        }
+    }
+    Ok(library)
+}

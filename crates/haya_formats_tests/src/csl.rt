@@ -1,0 +1,7 @@
+//! Rows of the format: items, and the entries that they say or why they say none. An entry is shown
+//! as hayagriva's file format writes it in JSON.
+mod fields;
+mod kinds;
+mod refused;
+mod shown;
+mod values;
