@@ -5,6 +5,8 @@
 #[cfg(test)]
 mod csl;
 #[cfg(test)]
+mod hits;
+#[cfg(test)]
 mod json;
 #[cfg(test)]
 mod printing;

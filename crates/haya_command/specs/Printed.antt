@@ -1,0 +1,63 @@
+-- What is printed of hits.
+use Rattle.std.specs.Prelude.{◌≡◌, ℕ, List, [], ◌∷◌, ◌++◌, codes, map, None}
+use Rattle.std.specs.Cmp.Lexicographic.{slice_cmp}
+use Rattle.std.specs.List.{flat_map}
+use Rattle.std.specs.List.Sorted.{IsStrictlySortedBy}
+use Rattle.std.specs.Map.{keys_of, lookup}
+use Rattle.std.specs.Ordering.{nat_cmp}
+use Rattle.std.specs.Str.{bytes_eq}
+use Rattle.json.specs.Json as json
+use Rattle.json.specs.Json.{Json, Members}
+use Rattle.json.specs.Layout.{pretty}
+use Rattle.json.specs.Print.{print}
+use Rattle.json.specs.Tree.{json_tokens}
+use Rattle.hayagriva.specs.Library.{key_of}
+use Rattle.hayagriva.specs.Query.{hit_entry}
+use Rattle.hayagriva.specs.Tree.{Tree}
+use Rattle.hayagriva.specs.declared.query.Hit.{Hit}
+use Rattle.haya_hits.specs.Line.{AreLines, IsLineOf, bound_key}
+use Rattle.haya_json.specs.Printed.{json_of, library_json}
+use Rattle.haya_lines.specs.Signs.{line_feed}
+use Rattle.haya_printing.specs.Printed.{entry_text}
+use Rattle.haya_command.specs.declared.form.Form.{Form}
+use Rattle.haya_command.specs.declared.form.Form.TheVariants.{Keys, Lines, Hayagriva, JsonLines}
+
+-- ---- a line of JSON
+
+-- a member of each name's key, and then these members
+abbrev pub name_members : List (List ℕ × List ℕ) → Members → Members
+name_members [] ms = ms
+name_members (p ∷ ps) ms = json.member p.0 (json.string p.1) (name_members ps ms)
+
+-- the keys of what names are bound to
+abbrev pub names_json : List (List ℕ × List ℕ) → Json
+names_json names = json.object (name_members names json.no_members)
+
+abbrev pub hit_json : List ℕ → List (List ℕ × List ℕ) → Tree → Json
+hit_json key names t =
+    json.object
+    (json.member (codes "key") (json.string key)
+    (json.member (codes "bindings") (names_json names)
+    (json.member (codes "entry") (json_of None t) json.no_members)))
+
+-- the line of a hit: an object of its key, of each name that it binds, in byte order, and of its
+-- entry, and a line feed
+pub record IsJsonLineOf (hit : Hit) (line : List ℕ) : Type 0 where
+  pub names : List (List ℕ × List ℕ)
+  pub all : (name : List ℕ) → lookup (bytes_eq name) names ≡ bound_key hit name
+  pub order : IsStrictlySortedBy (slice_cmp nat_cmp) (keys_of names)
+  pub text : line
+      ≡ print (json_tokens (hit_json (key_of (hit_entry hit)) names (hit_entry hit))) ++ line_feed ∷ []
+
+-- ---- all hits
+
+-- a library in hayagriva's file format, laid out, and a line feed
+abbrev pub library_text : List Tree → List ℕ
+library_text library = pretty (json_tokens (library_json library)) ++ line_feed ∷ []
+
+-- the text of hits in a form
+abbrev pub IsTextOf : Form → List Hit → List ℕ → Type 0
+IsTextOf Keys hits text = AreLines IsLineOf hits text
+IsTextOf Lines hits text = text ≡ flat_map (λ hit. entry_text (hit_entry hit)) hits
+IsTextOf Hayagriva hits text = text ≡ library_text (map hit_entry hits)
+IsTextOf JsonLines hits text = AreLines IsJsonLineOf hits text
