@@ -1,0 +1,3 @@
+//! Calls that take no memory: with every request refused they give their normal answers.
+mod fields;
+mod others;

@@ -1,0 +1,167 @@
+//! Numbers, pages, and years: what is made and copied.
+use crate::calls::{asks, copies};
+use crate::marks::Memory::{NotTaken, Taken};
+use crate::marks::Row;
+use crate::shown::Told;
+use haya_numbers::{Numeric, NumericValue, PageNumberError, PageRanges, PageRangesPart};
+use haya_text::{OutOfMemory, ReadText};
+use haya_time::{Date, Duration, DurationRange};
+use std::alloc::Global;
+use std::process::Abort;
+
+fn number(rt: &(impl Abort + AllocGlobal), text: &str) -> Numeric {
+    Numeric::from_str(rt.alloc(), text).expect(rt, "a number")
+}
+
+fn row(call: &str) -> Row<'_> {
+    Row(call, "A1, 2x", Taken)
+}
+
+#[test]
+fn copied(rt: HostRuntime) {
+    copies(&rt, row("Numeric::try_clone"), number(&rt, "A1, 2x"));
+    let set = number(&rt, "1, 2, 3, 4, 5").value;
+    copies::<_, NumericValue>(&rt, row("NumericValue::try_clone"), set);
+    let pages = PageRanges::from_str(rt.alloc(), "A1-2x, 3 & B5");
+    copies(
+        &rt,
+        row("PageRanges::try_clone"),
+        pages.expect(&rt, "pages"),
+    );
+    let part = PageRangesPart::from_str(rt.alloc(), "A1-2x");
+    copies(
+        &rt,
+        row("PageRangesPart::try_clone"),
+        part.expect(&rt, "a part"),
+    );
+    let minute = Duration {
+        minutes: 1,
+        ..Duration::default()
+    };
+    copies(
+        &rt,
+        Row("Duration::try_clone", "a minute", NotTaken),
+        minute,
+    );
+    let range = DurationRange::new(minute, None);
+    copies(
+        &rt,
+        Row("DurationRange::try_clone", "a minute", NotTaken),
+        range,
+    );
+}
+
+fn is_page(
+    made: Result<PageRanges, PageNumberError>,
+    wanted: Option<&str>,
+) -> Result<bool, OutOfMemory> {
+    match (made, wanted) {
+        (Ok(pages), Some(wanted)) => Ok(pages.is_told(wanted)),
+        (Err(PageNumberError::OutOfMemory), _) => Err(OutOfMemory),
+        (Err(PageNumberError::OutOfRange), None) => Ok(true),
+        _ => Ok(false),
+    }
+}
+
+// A number, and the page that it is, if it is in range.
+type Page = (i64, Option<&'static str>);
+
+fn from_i32(alloc: Global, (number, wanted): (i32, &str)) -> Result<bool, OutOfMemory> {
+    is_page(PageRanges::from_i32(alloc, number), Some(wanted))
+}
+
+fn try_from_i64(alloc: Global, (number, wanted): Page) -> Result<bool, OutOfMemory> {
+    is_page(PageRanges::try_from_i64(alloc, number), wanted)
+}
+
+fn try_from_u32(alloc: Global, (number, wanted): (u32, Option<&str>)) -> Result<bool, OutOfMemory> {
+    is_page(PageRanges::try_from_u32(alloc, number), wanted)
+}
+
+fn try_from_u64(alloc: Global, (number, wanted): (u64, Option<&str>)) -> Result<bool, OutOfMemory> {
+    is_page(PageRanges::try_from_u64(alloc, number), wanted)
+}
+
+#[test]
+fn pages_of_a_number(rt: HostRuntime) {
+    asks(
+        &rt,
+        Row("PageRanges::from_i32", "-7", Taken),
+        (-7, "-7"),
+        from_i32,
+    );
+    let row = Row("PageRanges::try_from_u32", "7", Taken);
+    asks(&rt, row, (7, Some("7")), try_from_u32);
+    let row = Row("PageRanges::try_from_u64", "7", Taken);
+    asks(&rt, row, (7, Some("7")), try_from_u64);
+    let row = Row("PageRanges::try_from_i64", "-7", Taken);
+    asks(&rt, row, (-7, Some("-7")), try_from_i64);
+}
+
+#[test]
+fn pages_out_of_range(rt: HostRuntime) {
+    let row = Row("PageRanges::try_from_u32", "out of range", NotTaken);
+    asks(&rt, row, (2_147_483_648, None), try_from_u32);
+    let row = Row("PageRanges::try_from_u64", "out of range", NotTaken);
+    asks(&rt, row, (2_147_483_648, None), try_from_u64);
+    let row = Row("PageRanges::try_from_i64", "out of range", NotTaken);
+    asks(&rt, row, (-2_147_483_649, None), try_from_i64);
+}
+
+fn from_range(alloc: Global, _given: ()) -> Result<bool, OutOfMemory> {
+    Ok(Numeric::from_range(alloc, 1..4)?.is_told("1–4"))
+}
+
+#[test]
+fn a_range(rt: HostRuntime) {
+    asks(
+        &rt,
+        Row("Numeric::from_range", "1 to 4", Taken),
+        (),
+        from_range,
+    );
+}
+
+// A year, and what it is shown as.
+const YEARS: &[(i32, &str)] = &[(0, "1 BCE"), (-5, "6 BCE"), (2014, "2014")];
+
+// A year, the four options, and what it is shown as.
+const OPTIONS: &[(i32, (bool, bool, bool, bool), &str)] = &[
+    (-5, (true, true, false, false), "6 B.C.E."),
+    (7, (false, true, true, true), "A.D. 7"),
+    (7, (false, false, true, false), "7 CE"),
+];
+
+fn display_year(alloc: Global, (year, wanted): (i32, &str)) -> Result<bool, OutOfMemory> {
+    Ok(Date::from_year(year).display_year(alloc)?.as_str() == wanted)
+}
+
+fn display_year_opt(
+    alloc: Global,
+    (year, options, wanted): (i32, (bool, bool, bool, bool), &str),
+) -> Result<bool, OutOfMemory> {
+    let (secular, periods, designated, prefixed) = options;
+    let date = Date::from_year(year);
+    let shown = date.display_year_opt(alloc, secular, periods, designated, prefixed)?;
+    Ok(shown.as_str() == wanted)
+}
+
+#[test]
+fn years(rt: HostRuntime) {
+    for given in YEARS {
+        asks(
+            &rt,
+            Row("Date::display_year", given.1, Taken),
+            *given,
+            display_year,
+        );
+    }
+    for given in OPTIONS {
+        asks(
+            &rt,
+            Row("Date::display_year_opt", given.2, Taken),
+            *given,
+            display_year_opt,
+        );
+    }
+}

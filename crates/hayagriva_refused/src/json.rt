@@ -1,0 +1,169 @@
+//! Libraries in JSON: what is read and printed.
+use crate::calls::{Change, asks, changes, takes_none};
+use crate::marks::Memory::{Maybe, Optional, Taken};
+use crate::marks::Row;
+use crate::shown::is_shown;
+use haya_json::{Ignored, ReadError, read_library, reads_back, to_json};
+use haya_text::OutOfMemory;
+use hayagriva::Library;
+use std::alloc::Global;
+use std::process::Abort;
+
+// A library as it is printed, with values of every kind.
+const PRINTED: &str = concat!(
+    r#"{"k":{"type":"book","title":{"value":"A {B} of $x$","short":"B"},"#,
+    r#""author":["van Berg, Jan","B"],"affiliated":{"role":"translator","names":"A"},"#,
+    r#""date":"2014-05-01","publisher":{"name":"P","location":"L"},"#,
+    r#""url":{"value":"u","date":2020},"issue":"2–5","chapter":"some","page-range":"17","#,
+    r#""time-range":"01:00-02:00","runtime":"01:30:00","#,
+    r#""serial-number":{"a":"2","b":"1"},"language":"de","#,
+    r#""parent":[{"type":"misc"},{"type":"web","key":"own"}]},"l":{"type":"misc"}}"#,
+);
+
+// A text, and what its error shows.
+const FAULTY: &[(&str, &str)] = &[
+    ("{", "no JSON"),
+    (
+        r#"{"a": {"type": "misc"}, "a": {"type": "misc"}}"#,
+        "an object has a member twice",
+    ),
+    (r#"{"a/b~c": {}}"#, "/a~1b~0c/type: missing"),
+    (
+        r#"{"a": {"type": "misc", "parent": [{"date": "x"}]}}"#,
+        "/a/parent/0/date: not read as a date",
+    ),
+];
+
+fn is_read(alloc: Global, wanted: &Library) -> Result<bool, OutOfMemory> {
+    match read_library(alloc, PRINTED) {
+        Ok((read, ignored)) => {
+            let is_equal = read == *wanted && ignored.is_empty();
+            drop(read);
+            drop(ignored);
+            Ok(is_equal)
+        }
+        Err(ReadError::OutOfMemory) => Err(OutOfMemory),
+        Err(_) => Ok(false),
+    }
+}
+
+fn is_refused(alloc: Global, (text, wanted): (&str, &str)) -> Result<bool, OutOfMemory> {
+    match read_library(alloc, text) {
+        Ok((read, ignored)) => {
+            drop(read);
+            drop(ignored);
+            Ok(false)
+        }
+        Err(ReadError::OutOfMemory) => Err(OutOfMemory),
+        Err(fault) => Ok(is_shown(&fault, wanted)),
+    }
+}
+
+fn is_printed(alloc: Global, library: &Library) -> Result<bool, OutOfMemory> {
+    Ok(to_json(alloc, library)?.as_slice() == PRINTED.as_bytes())
+}
+
+fn is_read_back(alloc: Global, library: &Library) -> Result<bool, OutOfMemory> {
+    reads_back(alloc, library)
+}
+
+#[test]
+fn libraries(rt: HostRuntime) {
+    let (library, ignored) = read_library(rt.alloc(), PRINTED).expect(&rt, "a library");
+    drop(ignored);
+    asks(
+        &rt,
+        Row("read_library", "values of every kind", Optional),
+        &library,
+        is_read,
+    );
+    asks(
+        &rt,
+        Row("to_json", "values of every kind", Optional),
+        &library,
+        is_printed,
+    );
+    asks(
+        &rt,
+        Row("reads_back", "values of every kind", Optional),
+        &library,
+        is_read_back,
+    );
+    drop(library);
+    for (text, wanted) in FAULTY {
+        asks(
+            &rt,
+            Row("read_library", *text, Maybe),
+            (*text, *wanted),
+            is_refused,
+        );
+    }
+}
+
+fn is_shown_so(fault: &ReadError) -> bool {
+    is_shown(fault, "/a~1b~0c/type: missing")
+}
+
+#[test]
+fn errors(rt: HostRuntime) {
+    let fault = read_library(rt.alloc(), r#"{"a/b~c": {}}"#)
+        .err()
+        .expect(&rt, "a fault");
+    takes_none(
+        &rt,
+        "ReadError::fmt Step::fmt Why::fmt",
+        &fault,
+        is_shown_so,
+    );
+    drop(fault);
+}
+
+fn ignored_of(rt: &(impl Abort + AllocGlobal), names: &[&str]) -> Ignored {
+    let mut ignored = Ignored::new(rt.alloc());
+    for name in names {
+        ignored.add(*name).expect(rt, "memory");
+    }
+    ignored
+}
+
+fn adds(ignored: &mut Ignored, name: &str) -> Result<bool, OutOfMemory> {
+    ignored.add(name)?;
+    Ok(true)
+}
+
+fn counts(ignored: &Ignored) -> bool {
+    let mut names = ignored.iter();
+    names.next() == Some(("a", 2))
+        && names.next().is_none()
+        && ignored.count("a") == 2
+        && !ignored.is_empty()
+}
+
+fn is_new(alloc: Global) -> bool {
+    let ignored = Ignored::new(alloc);
+    let is_empty = ignored.is_empty();
+    drop(ignored);
+    is_empty
+}
+
+#[test]
+fn ignored(rt: HostRuntime) {
+    let given = Change {
+        value: ignored_of(&rt, &["a"]),
+        before: ignored_of(&rt, &["a"]),
+        after: ignored_of(&rt, &["a", "b"]),
+    };
+    changes(
+        &rt,
+        Row("Ignored::add", "a name", Taken),
+        given,
+        "b",
+        "b",
+        adds,
+    );
+    takes_none(&rt, "Ignored::new", rt.alloc(), is_new);
+    let twice = ignored_of(&rt, &["a", "a"]);
+    let calls = "Ignored::iter Ignored::count Ignored::is_empty IgnoredNames::next";
+    takes_none(&rt, calls, &twice, counts);
+    drop(twice);
+}

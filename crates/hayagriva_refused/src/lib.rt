@@ -1,0 +1,28 @@
+//! The calls of the library, the selectors, the assignment, the JSON form and the printed lines, of
+//! which each request for memory is refused in turn. Each test runs its calls once, where there is
+//! memory; `refused/run` at the top of the repository runs each call with each request refused, and
+//! says what it takes for a fault. A row's name is the call's, as `TYPE::CALL`.
+#![tactic(auto)]
+
+#[cfg(test)]
+mod assignment;
+#[cfg(test)]
+mod calls;
+#[cfg(test)]
+mod json;
+#[cfg(test)]
+mod large;
+#[cfg(test)]
+mod library;
+#[cfg(test)]
+mod lines;
+#[cfg(test)]
+mod marks;
+#[cfg(test)]
+mod query;
+#[cfg(test)]
+mod selectors;
+#[cfg(test)]
+mod shown;
+#[cfg(test)]
+mod works;

@@ -1,0 +1,48 @@
+//! An entry that is printed as lines, and a library that is read from them.
+use crate::calls::{asks, takes_none};
+use crate::marks::Memory::Taken;
+use crate::marks::Row;
+use crate::works::{below, english, entry};
+use haya_input::{InputFault, read_library};
+use haya_printing::{LinesError, entry_lines};
+use haya_text::OutOfMemory;
+use hayagriva::types::EntryType::{Blog, Book};
+use hayagriva::{Entry, HashKeys};
+use std::alloc::Global;
+
+const LINES: &str = "0\ta\tbook\tlanguage=en\n1\tb\tblog\n";
+
+fn are_lines(alloc: Global, work: &Entry) -> Result<bool, OutOfMemory> {
+    match entry_lines(alloc, work) {
+        Ok(lines) => Ok(lines.as_str() == LINES),
+        Err(LinesError::OutOfMemory) => Err(OutOfMemory),
+        Err(_) => Ok(false),
+    }
+}
+
+fn is_read(alloc: Global, work: &Entry) -> Result<bool, OutOfMemory> {
+    match read_library(alloc, HashKeys::new(1, 2), LINES) {
+        Ok(library) => {
+            let is_equal = library.len() == 1 && library.nth(0) == Some(work);
+            drop(library);
+            Ok(is_equal)
+        }
+        Err(InputFault::OutOfMemory) => Err(OutOfMemory),
+        Err(_) => Ok(false),
+    }
+}
+
+fn are_from(_given: ()) -> bool {
+    InputFault::from(OutOfMemory) == InputFault::OutOfMemory
+        && matches!(LinesError::from(OutOfMemory), LinesError::OutOfMemory)
+}
+
+#[test]
+fn lines(rt: HostRuntime) {
+    let work = below(&rt, english(&rt, "a", Book), entry(&rt, "b", Blog));
+    let about = "a work with a parent";
+    asks(&rt, Row("entry_lines", about, Taken), &work, are_lines);
+    asks(&rt, Row("read_library", about, Taken), &work, is_read);
+    takes_none(&rt, "InputFault::from LinesError::from", (), are_from);
+    drop(work);
+}
