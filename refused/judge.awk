@@ -19,7 +19,6 @@ function fault() {
     if (all == "") return "no run with all requests refused"
     if (all != (refused ? "out-of-memory" : "normal")) return "with all requests refused it answers " all
     if (kind == "not-taken" && refused) return "it asks for memory, " refused " times"
-    if (kind == "optional" && refused && !spared) return "it goes on after no refusal"
     if (kind ~ /^(taken|often|optional)$/ && !refused) return "it asks for no memory"
     return ""
 }
