@@ -10,7 +10,7 @@ use Rattle.std.proofs.lemmas.Fmt.{decimal_is_IsNumeral, first_decimal, decimal_d
 use Rattle.std.proofs.lemmas.Str.Parse.{digit_from_value}
 use Rattle.ucd_category.proofs.Computing.{ucd_category}
 use Rattle.haya_numbers.specs.Characters.{hyphen, zero_digit, is_numeric, is_delimiter, run, past_run, starts}
-use Rattle.haya_numbers.specs.NumericReading.{is_affix, magnitude, past_sign, number_front, prefix_run, past_prefix}
+use Rattle.haya_numbers.specs.NumericReading.{is_affix, magnitude, past_sign, number_front, spare_zeros, past_zeros, prefix_run, past_prefix}
 use Rattle.haya_numbers.specs.NumericBack.{is_readable}
 use Rattle.haya_numbers.proofs.Magnitudes.{own, hyphen_is_not, magnitude_some}
 
@@ -95,13 +95,14 @@ skip-signed (negsuc m) rest h = refl
 no_affix : (c : ℕ) → is_numeric c ≡ true → is_affix c ≡ false
 no_affix c h = rw h refl
 
-pub prefix-signed : (n : ℤ) (rest : List ℕ) → is_readable n ≡ true → starts is_numeric rest ≡ false → (prefix_run (signed_decimal n ++ rest) ≡ []) × (past_prefix (signed_decimal n ++ rest) ≡ signed_decimal n ++ rest)
-prefix-signed (negsuc m) rest h s = rw hyphen_is_not (refl, refl)
-prefix-signed (pos zero) rest h s =
+pub front-signed : (n : ℤ) (rest : List ℕ) → is_readable n ≡ true → starts is_numeric rest ≡ false
+    → (starts is_affix (signed_decimal n ++ rest) ≡ false) × (spare_zeros (signed_decimal n ++ rest) ≡ []) × (past_zeros (signed_decimal n ++ rest) ≡ signed_decimal n ++ rest)
+front-signed (negsuc m) rest h s = rw hyphen_is_not (refl, refl, refl)
+front-signed (pos zero) rest h s =
     let e : decimal 0 ++ rest ≡ 48 ∷ rest = ap (λ v. v ++ rest) (decimal_digit 0 (omega arith)) in
     let d = digits_numeric 0 (omega arith) in
-    rw (e, d, s) (refl, refl)
-prefix-signed (pos (suc m)) rest h s =
+    rw (e, d, s) (refl, refl, refl)
+front-signed (pos (suc m)) rest h s =
     let small : suc m < 2 ^ 31 = grind (arith, nat_tests) in
     let f = first_digit (decimal (suc m)) (decimal_is_IsNumeral (suc m) (omega arith)).0 in
     let e : decimal (suc m) ++ rest ≡ f.0 ∷ (f.1 ++ rest) = ap (λ v. v ++ rest) f.2 in
@@ -109,7 +110,24 @@ prefix-signed (pos (suc m)) rest h s =
     let above : 48 < f.0 = rw f.2 at k in
     let z : nat_eq f.0 zero_digit ≡ false = grind (arith, nat_tests) in
     let d = digit-numeric f.0 f.3 in
-    rw (e, no_affix f.0 d, z) (refl, refl)
+    rw (e, no_affix f.0 d, z) (refl, refl, refl)
+
+unprefixed : (cs : List ℕ) → starts is_affix cs ≡ false → (run is_affix cs ≡ []) × (past_run is_affix cs ≡ cs)
+unprefixed [] h = (refl, refl)
+unprefixed (c ∷ cs) h = rw h (refl, refl)
+
+pub prefix-signed : (n : ℤ) (rest : List ℕ) → is_readable n ≡ true → starts is_numeric rest ≡ false → (prefix_run (signed_decimal n ++ rest) ≡ []) × (past_prefix (signed_decimal n ++ rest) ≡ signed_decimal n ++ rest)
+prefix-signed n rest h s =
+    let f = front-signed n rest h s in
+    let u = unprefixed (signed_decimal n ++ rest) f.0 in
+    rw (u.0, u.1, f.1, f.2) (refl, refl)
+
+-- a printed number from 0 on begins with a digit
+pub pos-numeric : (m : ℕ) (rest : List ℕ) → m < 2 ^ 31 → starts is_numeric (decimal m ++ rest) ≡ true
+pos-numeric m rest small =
+    let f = first_digit (decimal m) (decimal_is_IsNumeral m (omega arith)).0 in
+    let e : decimal m ++ rest ≡ f.0 ∷ (f.1 ++ rest) = ap (λ v. v ++ rest) f.2 in
+    rw e (digit-numeric f.0 f.3)
 
 -- digits are no delimiters
 pub run-undelimited : (m : ℕ) (rest : List ℕ) → m < 2 ^ 31 → (run is_delimiter (decimal m ++ rest) ≡ []) × (past_run is_delimiter (decimal m ++ rest) ≡ decimal m ++ rest)

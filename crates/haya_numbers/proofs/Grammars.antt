@@ -21,7 +21,7 @@ use Rattle.haya_numbers.proofs.Magnitudes.{hyphen_is_not, magnitude_some}
 use Rattle.haya_numbers.proofs.Runs.{skip-past_run}
 
 -- the longest run is one
-runs-front : (p : ℕ → Bool) (front rest : List ℕ) → list_all p front ≡ true → starts p rest ≡ false → (run p (front ++ rest) ≡ front) × (past_run p (front ++ rest) ≡ rest)
+pub runs-front : (p : ℕ → Bool) (front rest : List ℕ) → list_all p front ≡ true → starts p rest ≡ false → (run p (front ++ rest) ≡ front) × (past_run p (front ++ rest) ≡ rest)
 runs-front p [] [] m s = (refl, refl)
 runs-front p [] (c ∷ rest) m s = rw s (refl, refl)
 runs-front p (c ∷ front) rest m s =
@@ -241,10 +241,10 @@ lacks-value n text e = go (first_delimiter text) refl e
 abbrev pub is_zero : ℕ → Bool
 is_zero c = nat_eq c 48
 
-zero_numeric : (z : ℕ) → nat_eq z 48 ≡ true → is_numeric z ≡ true
+pub zero_numeric : (z : ℕ) → nat_eq z 48 ≡ true → is_numeric z ≡ true
 zero_numeric z h = let same : z ≡ 48 = grind (arith, nat_tests) in rw same (digits_numeric 0 (omega arith))
 
-next_numeric : (zs r : List ℕ) → list_all is_zero zs ≡ true → starts is_numeric r ≡ true → starts is_numeric (zs ++ r) ≡ true
+pub next_numeric : (zs r : List ℕ) → list_all is_zero zs ≡ true → starts is_numeric r ≡ true → starts is_numeric (zs ++ r) ≡ true
 next_numeric [] r m s = s
 next_numeric (z ∷ zs) r m s = zero_numeric z (and-both (nat_eq z 48) (list_all is_zero zs) m).0
 

@@ -6,6 +6,9 @@ mod EnumsEqual
 mod Grammars
 mod HalfLaws
 mod Items
+mod KeptNumbers
+mod KeptPages
+mod KeptParts
 mod Magnitudes
 pub mod PagesEqual
 mod PagesRows

@@ -4,11 +4,11 @@ use Rattle.std.specs.Prelude.{codes}
 use Rattle.std.specs.Char.{encode_utf8}
 use Rattle.std.specs.Str.{chars}
 use Rattle.ucd_category.proofs.Computing.{ucd_category}
-use Rattle.haya_numbers.specs.declared.numeric.NumericDelimiter.TheVariants.{Comma, Hyphen}
+use Rattle.haya_numbers.specs.declared.numeric.NumericDelimiter.TheVariants.{Ampersand, Comma, Hyphen}
 use Rattle.haya_numbers.specs.declared.numeric.NumericError.TheVariants.{NoNumber, UnexpectedCharactersAfterPostfix}
 use Rattle.haya_numbers.specs.Characters.{is_numeric}
-use Rattle.haya_numbers.specs.Numeric.{Single, SetOf, without_affixes}
-use Rattle.haya_numbers.specs.NumericBack.{value_reads_back}
+use Rattle.haya_numbers.specs.Numeric.{NumericView, Single, SetOf, without_affixes}
+use Rattle.haya_numbers.specs.NumericBack.{is_kept, value_reads_back}
 use Rattle.haya_numbers.specs.NumericForms.{roman_text}
 use Rattle.haya_numbers.specs.NumericReading.{numeric_read}
 
@@ -126,3 +126,31 @@ negative_not_back = refl
 
 negative_back : value_reads_back (SetOf ((pos 1, Some Comma) ∷ (negsuc 3, None) ∷ [])) ≡ true
 negative_back = refl
+
+-- the print of a set may move what a text says: the blank before an ampersand stands behind the first
+-- number, where a suffix keeps it
+ampersand_set : NumericView
+ampersand_set = record { value = SetOf ((pos 1, Some Ampersand) ∷ (pos 2, None) ∷ []); prefix = None; suffix = Some (120 ∷ []) }
+
+ampersand_read : numeric_read (codes "1&2x") ≡ Ok ampersand_set
+unfolding ucd_category chars encode_utf8 ampersand_set
+ampersand_read = refl
+
+ampersand_moved : numeric_read (codes "1 & 2x") ≡ Ok (record { value = SetOf ((pos 1, Some Ampersand) ∷ (pos 2, None) ∷ []); prefix = None; suffix = Some (32 ∷ 120 ∷ []) })
+unfolding ucd_category chars encode_utf8
+ampersand_moved = refl
+
+ampersand_not_kept : is_kept ampersand_set ≡ false
+unfolding chars ampersand_set
+ampersand_not_kept = refl
+
+affixes_kept : is_kept (record { value = SetOf ((pos 1, Some Comma) ∷ (pos 2, None) ∷ []); prefix = Some (65 ∷ []); suffix = Some (120 ∷ []) }) ≡ true
+unfolding chars
+affixes_kept = refl
+
+negative_behind_hyphen : numeric_read (codes "1- -2") ≡ Ok (without_affixes (SetOf ((pos 1, Some Hyphen) ∷ (negsuc 1, None) ∷ [])))
+unfolding ucd_category chars encode_utf8
+negative_behind_hyphen = refl
+
+negative_not_kept : is_kept (without_affixes (SetOf ((pos 1, Some Hyphen) ∷ (negsuc 1, None) ∷ []))) ≡ false
+negative_not_kept = refl

@@ -1,11 +1,11 @@
 //! Laws of the definitions. A call of one, as `equal_by_value();`, gives its statement to the
 //! caller's proof.
-ghost use Rattle.std.specs.Prelude.{◌≡◌, ◌↔◌, ◌<◌, ℕ, List, true, Ok, Err};
-ghost use Rattle.std.specs.Str.{chars};
+ghost use Rattle.std.specs.Prelude.{◌≡◌, ◌↔◌, ◌<◌, ℕ, ℤ, List, true, Ok, Err};
+ghost use Rattle.std.specs.Str.{IsUtf8, chars};
 ghost use Rattle.std.specs.Cmp.{IsTotalOrder};
 ghost use Rattle.haya_text.specs.Equality.{EqualsByValue, EqualsByView, HashesAlike};
-ghost use Rattle.haya_numbers.specs.Numeric.{NumericView, value_view, numeric_view, csl_order};
-ghost use Rattle.haya_numbers.specs.NumericBack.{reads_back as is_back};
+ghost use Rattle.haya_numbers.specs.Numeric.{NumericView, Single, value_view, numeric_view, csl_order};
+ghost use Rattle.haya_numbers.specs.NumericBack.{is_kept, is_readable, reads_back as is_back};
 ghost use Rattle.haya_numbers.specs.NumericForms.{roman_text};
 ghost use Rattle.haya_numbers.specs.NumericGrammar.{IsFault, ReadsAs};
 ghost use Rattle.haya_numbers.specs.NumericPrinted.{shown_numeric};
@@ -54,6 +54,18 @@ pub fn order()
 /// number behind a hyphen.
 pub fn reads_back()
     ensures { (n : NumericView) → is_back n ≡ true → numeric_read (shown_numeric n) ≡ Ok n }
+{}
+
+/// A number that was read from a text, with affixes or without, is read again from its print, where
+/// it is one number, or a set with no negative number behind a hyphen, and with no suffix or one
+/// that begins as its print lets it: with the white space that is shown behind the first number,
+/// and then with neither white space nor a delimiter. One number that was read is above the least
+/// `i32`.
+pub fn read_numbers_read_back()
+    ensures kept { (text : List ℕ) (n : NumericView) → IsUtf8 text → numeric_read text ≡ Ok n
+        → is_kept n ≡ true → numeric_read (shown_numeric n) ≡ Ok n }
+    ensures bounds { (text : List ℕ) (n : NumericView) (z : ℤ) → numeric_read text ≡ Ok n
+        → n.value ≡ Single z → is_readable z ≡ true }
 {}
 
 /// A text reads as a number exactly where its parts are those of one, and has a fault exactly where

@@ -102,7 +102,7 @@ read-utf8 : (text : List ℕ) (cs : List Chunk) → IsUtf8 text → chunks_read 
 read-utf8 text cs u h = let r = reads-as text cs h in subst AllUtf8 (sym r.runs) (AllUtf8-runs r.xs (read-scalars text cs u r))
 
 -- what is read is read back from its serialized text
-read-back : (text : List ℕ) (cs : List Chunk) → IsUtf8 text → chunks_read text ≡ Some cs → chunks_read (to_serialized cs) ≡ Some cs
+pub read-back : (text : List ℕ) (cs : List Chunk) → IsUtf8 text → chunks_read text ≡ Some cs → chunks_read (to_serialized cs) ≡ Some cs
 read-back text cs u h = reads-to_serialized cs (read-utf8 text cs u h) ∙ ap (λ ds. Some ds) (read-norm text cs u h)
 
 pub alike-to_serialized : (s t : List ℕ) (cs ds : List Chunk) → IsUtf8 s → IsUtf8 t → chunks_read s ≡ Some cs → chunks_read t ≡ Some ds → to_serialized cs ≡ to_serialized ds → cs ≡ ds
@@ -194,3 +194,9 @@ norm-normal (c ∷ cs) u n = by_text (chars c.0) refl (norm-normal cs u.1 (rest 
         let same : encode_utf8_all (d ∷ ds) ≡ c.0 = sym (ap encode_utf8_all e) ∙ encodes-chars c.0 u.0 in
         ap (λ t. runs (characters_of_kind c.1 t ++ characters cs)) e ∙ runs-characters_of_kind c.1 d ds (characters cs) (subst (BeginsNot c.1) (sym more) (begins c cs n))
         ∙ ap (λ (p : Chunk × List Chunk). p.0 ∷ p.1) (λ i. ((same i, c.1), more i))
+
+-- one chunk that isn't empty
+pub chunk-back : (bytes : List ℕ) (kind : ChunkKind) → IsUtf8 bytes → bytes ≢ [] → chunks_read (to_serialized ((bytes, kind) ∷ [])) ≡ Some ((bytes, kind) ∷ [])
+chunk-back bytes kind u some =
+    let one : List Chunk = (bytes, kind) ∷ [] in
+    reads-to_serialized one (u, tt) ∙ ap (λ ds. Some ds) (norm-normal one (u, tt) some)

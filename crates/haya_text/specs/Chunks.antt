@@ -55,6 +55,6 @@ grow_last [] text = []
 grow_last (last ∷ []) text = (last.0 ++ text, last.1) ∷ []
 grow_last (c ∷ next ∷ rest) text = c ∷ grow_last (next ∷ rest) text
 
--- the chunks after a push: the last one grows where it is of that kind, else a new one follows it
+-- the chunks after a push: the last one grows where it is of that kind, or a new one follows it
 abbrev pub push_str : List Chunk → List ℕ → ChunkKind → List Chunk
 push_str cs text kind = if ends_in kind cs then grow_last cs text else cs ++ (text, kind) ∷ []

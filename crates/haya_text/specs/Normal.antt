@@ -5,7 +5,7 @@ use denote.Enum.Bare.{sameb}
 use Rattle.haya_text.specs.contracts.strings.kind.ChunkKind.{the_type}
 use Rattle.haya_text.specs.Chunks.{Chunk, Character, characters}
 
--- a character before chunks: in the first where it is of that kind, else as a chunk of its own
+-- a character before chunks: in the first where it is of that kind, otherwise as a chunk of its own
 abbrev pub with_first : Character → List Chunk → List Chunk
 with_first x [] = (encode_utf8 x.0, x.1) ∷ []
 with_first x (c ∷ cs) =

@@ -33,7 +33,7 @@ with_short value short = record { value = plain_text value; short = Some (plain_
 abbrev pub text_read : List ℕ → Option TextView
 text_read text = option_map without_short (chunks_read text)
 
--- the form that is wanted; the long one stands in for a missing short one
+-- the form that is wanted; the long one takes the place of a missing short one
 abbrev pub select : LongShortForm → TextView → List Chunk
 select Long text = text.value
 select Short text = unwrap_or text.short text.value

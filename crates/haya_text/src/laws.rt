@@ -1,6 +1,6 @@
 //! Laws of the definitions. A call of one, as `equal_by_value();`, gives its statement to the
 //! caller's proof.
-ghost use Rattle.std.specs.Prelude.{◌≡◌, ◌↔◌, ℕ, List, true, Some, None};
+ghost use Rattle.std.specs.Prelude.{◌≡◌, ◌≢◌, ◌↔◌, ℕ, List, [], ◌∷◌, true, Some, None};
 ghost use Rattle.std.specs.Str.{IsUtf8};
 ghost use Rattle.haya_text.specs.Chunks.{Chunk, chunk_view, chunks, characters};
 ghost use Rattle.haya_text.specs.Equality.{EqualsByValue, EqualsByView, HashesAlike};
@@ -105,4 +105,13 @@ pub fn canonical()
         → (cs ≡ ds) ↔ (to_serialized cs ≡ to_serialized ds) }
     ensures equal { (a b : Text) → ⟦<ChunkedString as PartialEq>⟧.eq a b ≡ true
         → to_serialized (chunks a) ≡ to_serialized (chunks b) }
+{}
+
+/// What was read of a text is read again from its serialized form, and so is a chunk of any kind
+/// that isn't empty.
+pub fn read_texts_read_back()
+    ensures read { (text : List ℕ) (cs : List Chunk) → IsUtf8 text → chunks_read text ≡ Some cs
+        → chunks_read (to_serialized cs) ≡ Some cs }
+    ensures chunk { (bytes : List ℕ) (kind : ChunkKindData) → IsUtf8 bytes → bytes ≢ []
+        → chunks_read (to_serialized ((bytes, kind) ∷ [])) ≡ Some ((bytes, kind) ∷ []) }
 {}

@@ -14,4 +14,5 @@ pub mod DurationNumbers
 pub mod DurationOrders
 pub mod DurationPrints
 mod DurationRows
+mod DurationsKept
 pub mod DurationScans

@@ -47,7 +47,7 @@ abbrev pub era_behind : Bool → List ℕ
 era_behind false = codes "CE"
 era_behind true = codes "C.E."
 
--- what stands in front of another year
+-- what comes in front of another year
 abbrev pub era_in_front : Bool → List ℕ
 era_in_front false = codes "AD"
 era_in_front true = codes "A.D."

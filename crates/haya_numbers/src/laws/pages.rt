@@ -1,12 +1,13 @@
 //! Laws of the definitions of pages.
-ghost use Rattle.std.specs.Prelude.{◌≡◌, ◌↔◌, ℕ, List, true, map, Ok, Err};
+ghost use Rattle.std.specs.Prelude.{◌≡◌, ◌↔◌, ℕ, ℤ, List, [], ◌∷◌, true, map, Ok, Err};
 ghost use Rattle.std.specs.Cmp.{IsTotalOrder};
-ghost use Rattle.std.specs.Str.{chars};
+ghost use Rattle.std.specs.Str.{IsUtf8, chars};
 ghost use Rattle.haya_text.specs.Equality.{EqualsByValue, EqualsByView, HashesAlike};
 ghost use Rattle.haya_numbers.specs.Cuts.{dash_split, escaped_split};
 ghost use Rattle.haya_numbers.specs.Halves.{AreHalves, IsDash, IsEscapedHyphen};
-ghost use Rattle.haya_numbers.specs.Pages.{PartView, part_view, parts};
-ghost use Rattle.haya_numbers.specs.PagesBack.{are_readable};
+ghost use Rattle.haya_numbers.specs.NumericBack.{is_readable};
+ghost use Rattle.haya_numbers.specs.Pages.{PartView, page_of, part_view, parts};
+ghost use Rattle.haya_numbers.specs.PagesBack.{are_kept, are_readable};
 ghost use Rattle.haya_numbers.specs.PagesOrder.{pages_order, part_order};
 ghost use Rattle.haya_numbers.specs.PagesPrinted.{shown_pages};
 ghost use Rattle.haya_numbers.specs.PagesReading.{pages_read, part_read, IsFirstFault};
@@ -71,4 +72,15 @@ pub fn order()
 pub fn reads_back()
     ensures { (ps : List PartView) → are_readable ps ≡ true
         → pages_read (chars (shown_pages ps)) ≡ Ok ps }
+{}
+
+/// Pages that were read from a text, with affixes or without, are read again from their print,
+/// where no hyphen is escaped in them or by what is shown before it, and a page or a range comes
+/// behind each comma. So is the page of a number from 0 on.
+pub fn read_pages_read_back()
+    ensures kept { (text : List ℕ) (ps : List PartView) → IsUtf8 text
+        → pages_read (chars text) ≡ Ok ps → are_kept ps ≡ true
+        → pages_read (chars (shown_pages ps)) ≡ Ok ps }
+    ensures page { (n : ℤ) → is_readable n ≡ true → are_kept (page_of n ∷ []) ≡ true
+        → pages_read (chars (shown_pages (page_of n ∷ []))) ≡ Ok (page_of n ∷ []) }
 {}

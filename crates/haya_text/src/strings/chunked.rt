@@ -41,7 +41,7 @@ impl ChunkedString {
         Ok(text)
     }
 
-    /// Appends a text: to the last chunk where that is of this kind, else as a new chunk, which may
+    /// Appends a text: to the last chunk where that is of this kind, or as a new chunk, which may
     /// be empty. Where an allocation fails nothing changes.
     pub fn push_str(&mut self, text: &str, kind: ChunkKind) -> Result<(), OutOfMemory>
         ensures ok { OnOk result (chunks self.new ≡ push_str (chunks self.old) text.now kind) }

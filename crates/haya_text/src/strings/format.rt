@@ -83,7 +83,7 @@ impl FormatString {
         })
     }
 
-    /// The form that is wanted. The long one stands in for a missing short one.
+    /// The form that is wanted. The long one takes the place of a missing short one.
     pub fn select(&self, form: LongShortForm) -> &ChunkedString
         ensures { chunks result.now ≡ select form (text_view self.now) }
     {
@@ -93,8 +93,8 @@ impl FormatString {
         }
     }
 
-    /// Writes the short form as Display writes the long one. The long one stands in for a missing
-    /// short one, and the writer's fault ends the call.
+    /// Writes the short form as Display writes the long one. The long one takes the place of a
+    /// missing short one, and the writer's fault ends the call.
     pub fn fmt_short<W: fmt::Write>(&self, f: &mut fmt::Formatter<W>) -> fmt::Result
         ensures { DisplaysOnOk W.write_str_gives
             f.old result (Some (short_display (text_view self.now))) f.new }

@@ -63,7 +63,7 @@ impl Date {
 
     /// The year as readers count it, with its era: `BCE` or `BC` behind a year before 1. Another
     /// year has one where `designate_positive` asks for it: `AD` in front where `ad_prefix` asks
-    /// for that, else `CE` behind. `secular` chooses `BCE`, and `periods` writes each era with
+    /// for that, or `CE` behind. `secular` chooses `BCE`, and `periods` writes each era with
     /// periods, as `B.C.E.`.
     pub fn display_year_opt(
         &self,

@@ -82,3 +82,15 @@ pub fn reads_back()
     ensures range { (r : range.DurationRange) → r.start.days < 2 ^ 32 → r.end.days < 2 ^ 32 →
         range_reads_back r ≡ true → range_read (chars (range_text r)) ≡ Ok r }
 {}
+
+/// A duration that was read from a text is read again from its print, and so is a range, whether
+/// it was read as one or made of two durations that were.
+pub fn read_durations_read_back()
+    ensures duration { (text : List ℕ) (d : duration.Duration) → duration_read text ≡ Ok d →
+        duration_read (chars (duration_text d)) ≡ Ok d }
+    ensures range { (text : List ℕ) (r : range.DurationRange) → range_read text ≡ Ok r →
+        range_read (chars (range_text r)) ≡ Ok r }
+    ensures ends { (first second : List ℕ) (r : range.DurationRange) →
+        duration_read first ≡ Ok r.start → duration_read second ≡ Ok r.end →
+        range_read (chars (range_text r)) ≡ Ok r }
+{}
