@@ -1,6 +1,7 @@
 pub mod EntryType
 pub mod SerialNumber
 pub mod Tree
+pub mod FieldName
 pub mod Names
 pub mod Levels
 pub mod Walks

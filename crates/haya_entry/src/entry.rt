@@ -1,6 +1,6 @@
 //! Entries: works with their fields and parents.
 ghost use Rattle.std.specs.Prelude.{◌≡◌, IfOk, map};
-ghost use Rattle.haya_entry.specs.Names.{has_name};
+ghost use Rattle.haya_entry.specs.Names.{has_field, has_name};
 ghost use Rattle.haya_entry.specs.Tree.{view, fields, parents, with_parents, new_entry};
 
 mod ancestors;
@@ -9,7 +9,7 @@ mod fields;
 mod lookups;
 mod serials;
 
-use crate::{EntryType, SerialNumber};
+use crate::{EntryType, FieldName, SerialNumber};
 use haya_numbers::{Numeric, PageRanges};
 use haya_people::{Person, PersonsWithRoles};
 use haya_text::{FormatString, OutOfMemory};
@@ -148,49 +148,55 @@ impl Entry {
         self.parents = parents;
     }
 
-    /// Whether the entry has a name. It has the name of each field that is set: `title`,
-    /// `location`, `organization`, `archive`, `archive-location`, `call-number`, `note`,
-    /// `abstract`, `genre`, `author`, `editor`, `affiliated`, `date`, `publisher`, `url`, `issue`,
-    /// `chapter`, `volume`, `edition`, `volume-total`, `page-total`, `page-range`, `time-range`,
-    /// `runtime`, `serial-number`, `language`; and, of `doi`, `isbn`, `issn`, `pmid`, `pmcid` and
-    /// `arxiv`, those under which a serial number is kept. It has no other name.
+    /// Whether the entry has a name. It has the names of the fields that it has, as `has_field`
+    /// says, written as `FieldName` writes them, and no other name.
     pub fn has(&self, name: &str) -> bool
         ensures { result ≡ has_name (view self.now) name.now }
     {
-        match name {
-            "title" => self.title.is_some(),
-            "location" => self.location.is_some(),
-            "organization" => self.organization.is_some(),
-            "archive" => self.archive.is_some(),
-            "archive-location" => self.archive_location.is_some(),
-            "call-number" => self.call_number.is_some(),
-            "note" => self.note.is_some(),
-            "abstract" => self.abstract_.is_some(),
-            "genre" => self.genre.is_some(),
-            "author" => self.authors.is_some(),
-            "editor" => self.editors.is_some(),
-            "affiliated" => self.affiliated.is_some(),
-            "date" => self.date.is_some(),
-            "publisher" => self.publisher.is_some(),
-            "url" => self.url.is_some(),
-            "issue" => self.issue.is_some(),
-            "chapter" => self.chapter.is_some(),
-            "volume" => self.volume.is_some(),
-            "edition" => self.edition.is_some(),
-            "volume-total" => self.volume_total.is_some(),
-            "page-total" => self.page_total.is_some(),
-            "page-range" => self.page_range.is_some(),
-            "time-range" => self.time_range.is_some(),
-            "runtime" => self.runtime.is_some(),
-            "serial-number" => self.serial_number.is_some(),
-            "language" => self.language.is_some(),
-            "doi" => self.doi().is_some(),
-            "isbn" => self.isbn().is_some(),
-            "issn" => self.issn().is_some(),
-            "pmid" => self.pmid().is_some(),
-            "pmcid" => self.pmcid().is_some(),
-            "arxiv" => self.arxiv().is_some(),
-            _ => false,
+        match name.parse::<FieldName>() {
+            Ok(field) => self.has_field(field),
+            Err(_) => false,
+        }
+    }
+
+    /// Whether the entry has a field: it is set or, of `doi`, `isbn`, `issn`, `pmid`, `pmcid` and
+    /// `arxiv`, a serial number is kept under this name.
+    pub fn has_field(&self, field: FieldName) -> bool
+        ensures { result ≡ has_field (view self.now) field }
+    {
+        match field {
+            FieldName::Title => self.title.is_some(),
+            FieldName::Location => self.location.is_some(),
+            FieldName::Organization => self.organization.is_some(),
+            FieldName::Archive => self.archive.is_some(),
+            FieldName::ArchiveLocation => self.archive_location.is_some(),
+            FieldName::CallNumber => self.call_number.is_some(),
+            FieldName::Note => self.note.is_some(),
+            FieldName::Abstract => self.abstract_.is_some(),
+            FieldName::Genre => self.genre.is_some(),
+            FieldName::Author => self.authors.is_some(),
+            FieldName::Editor => self.editors.is_some(),
+            FieldName::Affiliated => self.affiliated.is_some(),
+            FieldName::Date => self.date.is_some(),
+            FieldName::Publisher => self.publisher.is_some(),
+            FieldName::Url => self.url.is_some(),
+            FieldName::Issue => self.issue.is_some(),
+            FieldName::Chapter => self.chapter.is_some(),
+            FieldName::Volume => self.volume.is_some(),
+            FieldName::Edition => self.edition.is_some(),
+            FieldName::VolumeTotal => self.volume_total.is_some(),
+            FieldName::PageTotal => self.page_total.is_some(),
+            FieldName::PageRange => self.page_range.is_some(),
+            FieldName::TimeRange => self.time_range.is_some(),
+            FieldName::Runtime => self.runtime.is_some(),
+            FieldName::SerialNumber => self.serial_number.is_some(),
+            FieldName::Language => self.language.is_some(),
+            FieldName::Doi
+            | FieldName::Isbn
+            | FieldName::Issn
+            | FieldName::Pmid
+            | FieldName::Pmcid
+            | FieldName::Arxiv => self.keyed_serial_number(field.as_str()).is_some(),
         }
     }
 }

@@ -82,7 +82,8 @@ pub enum EntryType {
 pub struct UnknownType;
 
 impl EntryType {
-    const ALL: [EntryType; 30] = [
+    /// Each type once, in the order of the variants.
+    pub const ALL: [EntryType; 30] = [
         EntryType::Article,
         EntryType::Chapter,
         EntryType::Entry,
@@ -145,42 +146,79 @@ impl EntryType {
         }
     }
 
-    // The name as it is written here, and the same in lower case.
-    fn names(self) -> (&'static str, &'static str)
-        ensures written { result.0.now ≡ type_name self }
-        ensures lower { result.1.now ≡ in_lower_case (type_name self) }
+    // The name as it is written here.
+    fn written(self) -> &'static str
+        ensures { result.now ≡ type_name self }
     {
         match self {
-            EntryType::Article => ("Article", "article"),
-            EntryType::Chapter => ("Chapter", "chapter"),
-            EntryType::Entry => ("Entry", "entry"),
-            EntryType::Anthos => ("Anthos", "anthos"),
-            EntryType::Report => ("Report", "report"),
-            EntryType::Thesis => ("Thesis", "thesis"),
-            EntryType::Web => ("Web", "web"),
-            EntryType::Scene => ("Scene", "scene"),
-            EntryType::Artwork => ("Artwork", "artwork"),
-            EntryType::Patent => ("Patent", "patent"),
-            EntryType::Case => ("Case", "case"),
-            EntryType::Newspaper => ("Newspaper", "newspaper"),
-            EntryType::Legislation => ("Legislation", "legislation"),
-            EntryType::Manuscript => ("Manuscript", "manuscript"),
-            EntryType::Post => ("Post", "post"),
-            EntryType::Misc => ("Misc", "misc"),
-            EntryType::Performance => ("Performance", "performance"),
-            EntryType::Periodical => ("Periodical", "periodical"),
-            EntryType::Proceedings => ("Proceedings", "proceedings"),
-            EntryType::Book => ("Book", "book"),
-            EntryType::Blog => ("Blog", "blog"),
-            EntryType::Reference => ("Reference", "reference"),
-            EntryType::Conference => ("Conference", "conference"),
-            EntryType::Anthology => ("Anthology", "anthology"),
-            EntryType::Repository => ("Repository", "repository"),
-            EntryType::Thread => ("Thread", "thread"),
-            EntryType::Video => ("Video", "video"),
-            EntryType::Audio => ("Audio", "audio"),
-            EntryType::Exhibition => ("Exhibition", "exhibition"),
-            EntryType::Original => ("Original", "original"),
+            EntryType::Article => "Article",
+            EntryType::Chapter => "Chapter",
+            EntryType::Entry => "Entry",
+            EntryType::Anthos => "Anthos",
+            EntryType::Report => "Report",
+            EntryType::Thesis => "Thesis",
+            EntryType::Web => "Web",
+            EntryType::Scene => "Scene",
+            EntryType::Artwork => "Artwork",
+            EntryType::Patent => "Patent",
+            EntryType::Case => "Case",
+            EntryType::Newspaper => "Newspaper",
+            EntryType::Legislation => "Legislation",
+            EntryType::Manuscript => "Manuscript",
+            EntryType::Post => "Post",
+            EntryType::Misc => "Misc",
+            EntryType::Performance => "Performance",
+            EntryType::Periodical => "Periodical",
+            EntryType::Proceedings => "Proceedings",
+            EntryType::Book => "Book",
+            EntryType::Blog => "Blog",
+            EntryType::Reference => "Reference",
+            EntryType::Conference => "Conference",
+            EntryType::Anthology => "Anthology",
+            EntryType::Repository => "Repository",
+            EntryType::Thread => "Thread",
+            EntryType::Video => "Video",
+            EntryType::Audio => "Audio",
+            EntryType::Exhibition => "Exhibition",
+            EntryType::Original => "Original",
+        }
+    }
+
+    /// The name in lower case, as it is written in lines and in files.
+    pub fn lower_name(self) -> &'static str
+        ensures { result.now ≡ in_lower_case (type_name self) }
+    {
+        match self {
+            EntryType::Article => "article",
+            EntryType::Chapter => "chapter",
+            EntryType::Entry => "entry",
+            EntryType::Anthos => "anthos",
+            EntryType::Report => "report",
+            EntryType::Thesis => "thesis",
+            EntryType::Web => "web",
+            EntryType::Scene => "scene",
+            EntryType::Artwork => "artwork",
+            EntryType::Patent => "patent",
+            EntryType::Case => "case",
+            EntryType::Newspaper => "newspaper",
+            EntryType::Legislation => "legislation",
+            EntryType::Manuscript => "manuscript",
+            EntryType::Post => "post",
+            EntryType::Misc => "misc",
+            EntryType::Performance => "performance",
+            EntryType::Periodical => "periodical",
+            EntryType::Proceedings => "proceedings",
+            EntryType::Book => "book",
+            EntryType::Blog => "blog",
+            EntryType::Reference => "reference",
+            EntryType::Conference => "conference",
+            EntryType::Anthology => "anthology",
+            EntryType::Repository => "repository",
+            EntryType::Thread => "thread",
+            EntryType::Video => "video",
+            EntryType::Audio => "audio",
+            EntryType::Exhibition => "exhibition",
+            EntryType::Original => "original",
         }
     }
 
@@ -188,12 +226,7 @@ impl EntryType {
     fn is_named(self, text: &str) -> bool
         ensures { result ≡ is_named text.now self }
     {
-        let (written, lower) = self.names();
-        // Both names are as long, and most types' names aren't as long as the text.
-        if text.len() != written.len() {
-            return false;
-        }
-        text == written || text == lower
+        text == self.written() || text == self.lower_name()
     }
 }
 

@@ -1,9 +1,8 @@
--- The fields of a line: each name, what its values read as, and what they change.
+-- The fields of a line: what the values of each read as, and what they change.
 use Rattle.std.specs.Prelude.{ℕ, ◌+◌, ◌==◌, List, [], ◌∷◌, ◌++◌, take, drop, position, codes}
 use Rattle.std.specs.Prelude.{Option, Some, option_map, ok_or, unwrap_or, Result, Ok, Err}
-use Rattle.std.specs.Map.{lookup}
 use Rattle.std.specs.Result.{result_ok}
-use Rattle.std.specs.Str.{bytes_eq, chars}
+use Rattle.std.specs.Str.{chars}
 use Rattle.haya_text.specs.Texts.{TextView, text_read}
 use Rattle.haya_numbers.specs.Numeric.{NumericView}
 use Rattle.haya_numbers.specs.NumericReading.{numeric_read}
@@ -20,6 +19,9 @@ use Rattle.haya_people.specs.Roles.{RoleView, RolesView, role_read, role_view}
 use Rattle.haya_values.specs.MaybeTyped.{TypedOrText, typed_or_text}
 use Rattle.haya_values.specs.Publisher.{PublisherView, publisher_read}
 use Rattle.haya_values.specs.Url.{UrlView, undated}
+use Rattle.haya_entry.specs.declared.field_name.FieldName.{FieldName}
+use Rattle.haya_entry.specs.declared.field_name.FieldName.TheVariants as field
+use Rattle.haya_entry.specs.FieldName.{field_name, field_named}
 use Rattle.haya_entry.specs.SerialNumber.{with_serial}
 use Rattle.haya_entry.specs.Tree.{Fields}
 use Rattle.haya_lines.specs.Signs.{colon}
@@ -105,68 +107,43 @@ with_last vs v = Some (unwrap_or vs [] ++ v ∷ [])
 abbrev pub with_number : List ℕ → List ℕ → Fields → Fields
 with_number key value f = record f { serial_number = Some (with_serial key value f.serial_number) }
 
--- each name of a number, a time or a serial number, with what its values read as and what they
--- change
-abbrev pub number_table : List (List ℕ × Setter)
-number_table =
-    (codes "issue", field_setter number_or_text_of (λ v f. record f { issue = Some v }))
-    ∷ (codes "chapter", field_setter number_or_text_of (λ v f. record f { chapter = Some v }))
-    ∷ (codes "volume", field_setter number_or_text_of (λ v f. record f { volume = Some v }))
-    ∷ (codes "edition", field_setter number_or_text_of (λ v f. record f { edition = Some v }))
-    ∷ (codes "volume-total", field_setter number_of (λ v f. record f { volume_total = Some v }))
-    ∷ (codes "page-total", field_setter number_of (λ v f. record f { page_total = Some v }))
-    ∷ (codes "page-range", field_setter pages_or_text_of (λ v f. record f { page_range = Some v }))
-    ∷ (codes "time-range", field_setter range_or_text_of (λ v f. record f { time_range = Some v }))
-    ∷ (codes "runtime", field_setter duration_or_text_of (λ v f. record f { runtime = Some v }))
-    ∷ (codes "serial-number", field_setter bytes_of (with_number (codes "serial")))
-    ∷ (codes "doi", field_setter bytes_of (with_number (codes "doi")))
-    ∷ (codes "isbn", field_setter bytes_of (with_number (codes "isbn")))
-    ∷ (codes "issn", field_setter bytes_of (with_number (codes "issn")))
-    ∷ (codes "pmid", field_setter bytes_of (with_number (codes "pmid")))
-    ∷ (codes "pmcid", field_setter bytes_of (with_number (codes "pmcid")))
-    ∷ (codes "arxiv", field_setter bytes_of (with_number (codes "arxiv")))
-    ∷ []
+-- for each field what its values read as, and what they change
+abbrev pub setter : FieldName → Setter
+setter field.Title = field_setter text_of (λ v f. record f { title = Some v })
+setter field.Location = field_setter text_of (λ v f. record f { location = Some v })
+setter field.Organization = field_setter text_of (λ v f. record f { organization = Some v })
+setter field.Archive = field_setter text_of (λ v f. record f { archive = Some v })
+setter field.ArchiveLocation = field_setter text_of (λ v f. record f { archive_location = Some v })
+setter field.CallNumber = field_setter text_of (λ v f. record f { call_number = Some v })
+setter field.Note = field_setter text_of (λ v f. record f { note = Some v })
+setter field.Abstract = field_setter text_of (λ v f. record f { abstract_ = Some v })
+setter field.Genre = field_setter text_of (λ v f. record f { genre = Some v })
+setter field.Author = field_setter person_of (λ v f. record f { authors = with_last f.authors v })
+setter field.Editor = field_setter person_of (λ v f. record f { editors = with_last f.editors v })
+setter field.Affiliated =
+    field_setter affiliated_of (λ v f. record f { affiliated = with_last f.affiliated v })
+setter field.Date = field_setter date_of (λ v f. record f { date = Some v })
+setter field.Publisher = field_setter publisher_of (λ v f. record f { publisher = Some v })
+setter field.Url = field_setter url_of (λ v f. record f { url = Some v })
+setter field.Issue = field_setter number_or_text_of (λ v f. record f { issue = Some v })
+setter field.Chapter = field_setter number_or_text_of (λ v f. record f { chapter = Some v })
+setter field.Volume = field_setter number_or_text_of (λ v f. record f { volume = Some v })
+setter field.Edition = field_setter number_or_text_of (λ v f. record f { edition = Some v })
+setter field.VolumeTotal = field_setter number_of (λ v f. record f { volume_total = Some v })
+setter field.PageTotal = field_setter number_of (λ v f. record f { page_total = Some v })
+setter field.PageRange = field_setter pages_or_text_of (λ v f. record f { page_range = Some v })
+setter field.TimeRange = field_setter range_or_text_of (λ v f. record f { time_range = Some v })
+setter field.Runtime = field_setter duration_or_text_of (λ v f. record f { runtime = Some v })
+setter field.SerialNumber = field_setter bytes_of (with_number (codes "serial"))
+setter field.Language = field_setter bytes_of (λ v f. record f { language = Some v })
+setter field.Doi = field_setter bytes_of (with_number (field_name field.Doi))
+setter field.Isbn = field_setter bytes_of (with_number (field_name field.Isbn))
+setter field.Issn = field_setter bytes_of (with_number (field_name field.Issn))
+setter field.Pmid = field_setter bytes_of (with_number (field_name field.Pmid))
+setter field.Pmcid = field_setter bytes_of (with_number (field_name field.Pmcid))
+setter field.Arxiv = field_setter bytes_of (with_number (field_name field.Arxiv))
 
--- the same of each name
-abbrev pub field_table : List (List ℕ × Setter)
-field_table =
-    (codes "title", field_setter text_of (λ v f. record f { title = Some v }))
-    ∷ (codes "location", field_setter text_of (λ v f. record f { location = Some v }))
-    ∷ (codes "organization", field_setter text_of (λ v f. record f { organization = Some v }))
-    ∷ (codes "archive", field_setter text_of (λ v f. record f { archive = Some v }))
-    ∷ (
-      codes "archive-location",
-      field_setter text_of (λ v f. record f { archive_location = Some v }),
-    )
-    ∷ (codes "call-number", field_setter text_of (λ v f. record f { call_number = Some v }))
-    ∷ (codes "note", field_setter text_of (λ v f. record f { note = Some v }))
-    ∷ (codes "abstract", field_setter text_of (λ v f. record f { abstract_ = Some v }))
-    ∷ (codes "genre", field_setter text_of (λ v f. record f { genre = Some v }))
-    ∷ (
-      codes "author",
-      field_setter person_of (λ v f. record f { authors = with_last f.authors v }),
-    )
-    ∷ (
-      codes "editor",
-      field_setter person_of (λ v f. record f { editors = with_last f.editors v }),
-    )
-    ∷ (
-      codes "affiliated",
-      field_setter affiliated_of (λ v f. record f { affiliated = with_last f.affiliated v }),
-    )
-    ∷ (codes "date", field_setter date_of (λ v f. record f { date = Some v }))
-    ∷ (codes "publisher", field_setter publisher_of (λ v f. record f { publisher = Some v }))
-    ∷ (codes "url", field_setter url_of (λ v f. record f { url = Some v }))
-    ∷ (codes "language", field_setter bytes_of (λ v f. record f { language = Some v }))
-    ∷ number_table
-
--- the fields after the value is set under this name of a table, or why it can't be
-abbrev pub with_field_of : List (List ℕ × Setter) → List ℕ → Setter
-with_field_of table name value f =
-    and_then (ok_or (lookup (bytes_eq name) table) UnknownField) (λ set. set value f)
-
+-- the fields after the value is set under this name, or why it can't be
 abbrev pub with_field : List ℕ → Setter
-with_field = with_field_of field_table
-
-abbrev pub with_number_field : List ℕ → Setter
-with_number_field = with_field_of number_table
+with_field name value f =
+    and_then (ok_or (field_named name) UnknownField) (λ named. setter named value f)

@@ -4,14 +4,13 @@ ghost use Rattle.haya_people.specs.Person.{person_view};
 ghost use Rattle.haya_people.specs.Roles.{role_view, roles_view};
 ghost use Rattle.haya_entry.specs.Tree.{Sets, view, fields};
 ghost use Rattle.haya_lines.specs.FieldTable.{affiliated_of, date_of, ok_or_refused, role_of};
-ghost use Rattle.haya_lines.specs.FieldTable.{with_field, with_last, with_number};
-ghost use Rattle.haya_lines.specs.FieldTable.{with_number_field};
+ghost use Rattle.haya_lines.specs.FieldTable.{setter, with_field, with_last, with_number};
 ghost use Rattle.haya_lines.specs.Line.{field_read, fields_read};
 ghost use Rattle.haya_lines.specs.LineReading.{IsFaultOf, SetsFields};
 
 use crate::fault::LineFault;
 use crate::items::Items;
-use haya_entry::Entry;
+use haya_entry::{Entry, FieldName};
 use haya_people::{Person, PersonRole, PersonsWithRoles};
 use haya_text::{ReadFault, ReadText};
 use haya_time::Date;
@@ -43,63 +42,55 @@ fn read_field(alloc: Global, entry: &mut Entry, item: &str) -> Result<(), LineFa
     }
 }
 
-// Sets the field with this name to what the value reads as. Authors, editors and affiliated people
-// are appended; any other value takes the place of what was there.
+// Sets the field with this name to what the value reads as.
 fn set_field(alloc: Global, entry: &mut Entry, name: &str, value: &str) -> Result<(), LineFault>
     ensures ok { OnOk result (SetsFields
         (with_field name.now value.now (fields (view entry.old))) entry.old entry.new) }
     ensures fault { IfErr result
         (IsFaultOf (with_field name.now value.now (fields (view entry.old)))) }
 {
-    match name {
-        "title" => entry.set_title(read_value(alloc, value)?),
-        "location" => entry.set_location(read_value(alloc, value)?),
-        "organization" => entry.set_organization(read_value(alloc, value)?),
-        "archive" => entry.set_archive(read_value(alloc, value)?),
-        "archive-location" => entry.set_archive_location(read_value(alloc, value)?),
-        "call-number" => entry.set_call_number(read_value(alloc, value)?),
-        "note" => entry.set_note(read_value(alloc, value)?),
-        "abstract" => entry.set_abstract_(read_value(alloc, value)?),
-        "genre" => entry.set_genre(read_value(alloc, value)?),
-        "author" => add_author(alloc, entry, read_value(alloc, value)?)?,
-        "editor" => add_editor(alloc, entry, read_value(alloc, value)?)?,
-        "affiliated" => add_affiliated(alloc, entry, read_affiliated(alloc, value)?)?,
-        "date" => entry.set_date(read_date(value)?),
-        "publisher" => entry.set_publisher(read_value(alloc, value)?),
-        "url" => entry.set_url(read_value(alloc, value)?),
-        "language" => entry.set_language(String::from_str(alloc, value)?),
-        _ => set_number_field(alloc, entry, name, value)?,
-    }
-    Ok(())
+    let Ok(field) = name.parse::<FieldName>() else {
+        return Err(LineFault::UnknownField);
+    };
+    set(alloc, entry, field, value)
 }
 
-// The same of a number, a time or a serial number.
-fn set_number_field(
-    alloc: Global,
-    entry: &mut Entry,
-    name: &str,
-    value: &str,
-) -> Result<(), LineFault>
+// Sets a field to what the value reads as. Authors, editors and affiliated people are appended; any
+// other value takes the place of what was there.
+fn set(alloc: Global, entry: &mut Entry, field: FieldName, value: &str) -> Result<(), LineFault>
     ensures ok { OnOk result (SetsFields
-        (with_number_field name.now value.now (fields (view entry.old))) entry.old entry.new) }
-    ensures fault { IfErr result
-        (IsFaultOf (with_number_field name.now value.now (fields (view entry.old)))) }
+        (setter field value.now (fields (view entry.old))) entry.old entry.new) }
+    ensures fault { IfErr result (IsFaultOf (setter field value.now (fields (view entry.old)))) }
 {
-    match name {
-        "issue" => entry.set_issue(read_value(alloc, value)?),
-        "chapter" => entry.set_chapter(read_value(alloc, value)?),
-        "volume" => entry.set_volume(read_value(alloc, value)?),
-        "edition" => entry.set_edition(read_value(alloc, value)?),
-        "volume-total" => entry.set_volume_total(read_value(alloc, value)?),
-        "page-total" => entry.set_page_total(read_value(alloc, value)?),
-        "page-range" => entry.set_page_range(read_value(alloc, value)?),
-        "time-range" => entry.set_time_range(read_value(alloc, value)?),
-        "runtime" => entry.set_runtime(read_value(alloc, value)?),
-        "serial-number" => set_number(alloc, entry, "serial", value)?,
-        "doi" | "isbn" | "issn" | "pmid" | "pmcid" | "arxiv" => {
-            set_number(alloc, entry, name, value)?
-        }
-        _ => return Err(LineFault::UnknownField),
+    match field {
+        FieldName::Title => entry.set_title(read_value(alloc, value)?),
+        FieldName::Location => entry.set_location(read_value(alloc, value)?),
+        FieldName::Organization => entry.set_organization(read_value(alloc, value)?),
+        FieldName::Archive => entry.set_archive(read_value(alloc, value)?),
+        FieldName::ArchiveLocation => entry.set_archive_location(read_value(alloc, value)?),
+        FieldName::CallNumber => entry.set_call_number(read_value(alloc, value)?),
+        FieldName::Note => entry.set_note(read_value(alloc, value)?),
+        FieldName::Abstract => entry.set_abstract_(read_value(alloc, value)?),
+        FieldName::Genre => entry.set_genre(read_value(alloc, value)?),
+        FieldName::Author => add_author(alloc, entry, read_value(alloc, value)?)?,
+        FieldName::Editor => add_editor(alloc, entry, read_value(alloc, value)?)?,
+        FieldName::Affiliated => add_affiliated(alloc, entry, read_affiliated(alloc, value)?)?,
+        FieldName::Date => entry.set_date(read_date(value)?),
+        FieldName::Publisher => entry.set_publisher(read_value(alloc, value)?),
+        FieldName::Url => entry.set_url(read_value(alloc, value)?),
+        FieldName::Issue => entry.set_issue(read_value(alloc, value)?),
+        FieldName::Chapter => entry.set_chapter(read_value(alloc, value)?),
+        FieldName::Volume => entry.set_volume(read_value(alloc, value)?),
+        FieldName::Edition => entry.set_edition(read_value(alloc, value)?),
+        FieldName::VolumeTotal => entry.set_volume_total(read_value(alloc, value)?),
+        FieldName::PageTotal => entry.set_page_total(read_value(alloc, value)?),
+        FieldName::PageRange => entry.set_page_range(read_value(alloc, value)?),
+        FieldName::TimeRange => entry.set_time_range(read_value(alloc, value)?),
+        FieldName::Runtime => entry.set_runtime(read_value(alloc, value)?),
+        FieldName::SerialNumber => set_number(alloc, entry, "serial", value)?,
+        FieldName::Language => entry.set_language(String::from_str(alloc, value)?),
+        // Each of the others is a serial number.
+        _ => set_number(alloc, entry, field.as_str(), value)?,
     }
     Ok(())
 }

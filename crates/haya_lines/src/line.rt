@@ -51,7 +51,7 @@ pub fn read_line(alloc: Global, line: &str, deepest: usize) -> Result<(usize, En
 }
 
 /// Takes the head of a line, of which these are the items: what is left are its fields. Fails with
-/// the first fault that stands in it.
+/// the first fault in it.
 pub fn read_head<'a>(items: &mut Items<'a>, deepest: usize) -> Result<Head<'a>, LineFault>
     ensures head { IfOk result (IsHead deepest items.old items.new) }
     ensures fault { IfErr result (λ e. row_read deepest items.old ≡ Err e) }

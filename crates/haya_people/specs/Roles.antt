@@ -11,6 +11,11 @@ pub data RoleView : Type 0 where
   role_named : List ℕ → RoleView
   role_in_words : List ℕ → RoleView
 
+-- its name, or its words
+abbrev pub role_name : RoleView → List ℕ
+role_name (role_named name) = name
+role_name (role_in_words words) = words
+
 abbrev pub role_view : PersonRole → RoleView
 role_view role.Translator = role_named (codes "translator")
 role_view role.Afterword = role_named (codes "afterword")

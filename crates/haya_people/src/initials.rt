@@ -48,7 +48,7 @@ pub(crate) struct Initials<'a> {
     pub(crate) with_hyphen: bool,
 }
 
-// Where a grapheme stands in a given name.
+// Where a grapheme appears in a given name.
 #[derive(Clone, Copy, PartialEq, Eq)]
 enum Place {
     // Before the first word, or among separators behind a word with an initial.

@@ -1,7 +1,8 @@
 //! What persons did for a work.
 ghost use Rattle.std.specs.Prelude.{◌≡◌, IfOk, map, ok_or};
 ghost use Rattle.haya_people.specs.Person.{person_view};
-ghost use Rattle.haya_people.specs.Roles.{RoleView, RolesView, role_view, roles_view, role_read};
+ghost use Rattle.haya_people.specs.Roles.{RoleView, RolesView, role_name, role_read, role_view};
+ghost use Rattle.haya_people.specs.Roles.{roles_view};
 ghost use Rattle.haya_people.specs.declared.person.PersonError.TheVariants.{UnknownRole};
 
 use crate::{Person, PersonError};
@@ -57,6 +58,35 @@ pub enum PersonRole {
 }
 
 impl PersonRole {
+    /// The role's name, as `from_str` reads it, or, where it has none, its words.
+    pub fn name(&self) -> &str
+        ensures { result.now ≡ role_name (role_view self.now) }
+    {
+        match self {
+            PersonRole::Translator => "translator",
+            PersonRole::Afterword => "afterword",
+            PersonRole::Foreword => "foreword",
+            PersonRole::Introduction => "introduction",
+            PersonRole::Annotator => "annotator",
+            PersonRole::Commentator => "commentator",
+            PersonRole::Holder => "holder",
+            PersonRole::Compiler => "compiler",
+            PersonRole::Founder => "founder",
+            PersonRole::Collaborator => "collaborator",
+            PersonRole::Organizer => "organizer",
+            PersonRole::CastMember => "cast-member",
+            PersonRole::Composer => "composer",
+            PersonRole::Producer => "producer",
+            PersonRole::ExecutiveProducer => "executive-producer",
+            PersonRole::Writer => "writer",
+            PersonRole::Cinematography => "cinematography",
+            PersonRole::Director => "director",
+            PersonRole::Illustrator => "illustrator",
+            PersonRole::Narrator => "narrator",
+            PersonRole::Unknown(words) => words.as_str(),
+        }
+    }
+
     /// A copy, equal to this role.
     pub fn try_clone(&self, alloc: Global) -> Result<PersonRole, OutOfMemory>
         ensures { IfOk result (λ copy. role_view copy ≡ role_view self.now) }

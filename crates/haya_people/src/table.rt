@@ -2,7 +2,7 @@
 ghost use Rattle.std.specs.Prelude.{◌≡◌, IsTrue};
 ghost use Rattle.haya_people.specs.Tables.{texts, is_sorted_table, is_listed};
 
-/// Whether the texts stand in ascending order of their bytes. Neighbours may be equal, and the
+/// Whether the texts are in ascending order of their bytes. Neighbours may be equal, and the
 /// table may be empty. The calls that look a word up in a table ask for this of it.
 pub fn is_sorted_table(table: &[&str]) -> bool
     ensures { result ≡ is_sorted_table (texts table.now) }

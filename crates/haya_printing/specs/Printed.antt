@@ -8,7 +8,7 @@ use Rattle.haya_numbers.specs.NumericPrinted.{shown_numeric}
 use Rattle.haya_numbers.specs.Pages.{PartView}
 use Rattle.haya_numbers.specs.PagesPrinted.{shown_pages}
 use Rattle.haya_people.specs.Person.{PersonView}
-use Rattle.haya_people.specs.Roles.{RoleView, RolesView, role_named, role_in_words}
+use Rattle.haya_people.specs.Roles.{RoleView, RolesView, role_name}
 use Rattle.haya_time.specs.DatePrinted.{date_text}
 use Rattle.haya_time.specs.DurationPrint.{duration_text, range_text}
 use Rattle.haya_values.specs.MaybeTyped.{TypedOrText, Typed, Text}
@@ -58,10 +58,6 @@ behind_comma (Some part) = codes ", " ++ part
 abbrev pub person_text : PersonView → List ℕ
 person_text p =
     family_text p.prefix p.name ++ (behind_comma p.suffix ++ behind_comma p.given_name)
-
-abbrev pub role_name : RoleView → List ℕ
-role_name (role_named name) = name
-role_name (role_in_words words) = words
 
 -- a typed value as it is shown, or the text
 abbrev pub typed_text : {V : Type 0} → (V → List ℕ) → TypedOrText V → List ℕ

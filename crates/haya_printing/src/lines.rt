@@ -10,7 +10,6 @@ ghost use Rattle.haya_printing.specs.Pushed.{Appends, Pushes};
 
 use crate::error::LinesError;
 use crate::fields::{push_last, push_numbers, push_people, push_texts};
-use crate::texts::lower_name;
 use crate::unsaid::unsaid;
 use haya_entry::Entry;
 use haya_input::{InputFault, read_library};
@@ -135,6 +134,6 @@ fn push_head(lines: &mut String, depth: usize, entry: &Entry) -> Result<(), OutO
     write!(lines, "{depth}\t")?;
     lines.push_str(entry.key())?;
     lines.push('\t')?;
-    lines.push_str(lower_name(entry.entry_type()))?;
+    lines.push_str(entry.entry_type().lower_name())?;
     Ok(())
 }

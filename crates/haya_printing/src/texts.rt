@@ -1,15 +1,13 @@
 //! The texts of values.
 ghost use Rattle.std.specs.Prelude.{◌≡◌, ◌∷◌, ◌++◌, map, option_map, string_bytes, OnOk};
-ghost use Rattle.haya_entry.specs.EntryType.{in_lower_case, type_name};
 ghost use Rattle.haya_lines.specs.Signs.{colon};
 ghost use Rattle.haya_people.specs.Person.{person_view};
-ghost use Rattle.haya_people.specs.Roles.{role_view, roles_view};
+ghost use Rattle.haya_people.specs.Roles.{role_name, role_view, roles_view};
 ghost use Rattle.haya_printing.specs.Printed.{affiliated_item, also_roles, behind_comma};
-ghost use Rattle.haya_printing.specs.Printed.{family_text, role_items, role_name, roles_items};
+ghost use Rattle.haya_printing.specs.Printed.{family_text, role_items, roles_items};
 ghost use Rattle.haya_printing.specs.Pushed.{Pushes};
 
 use crate::items::{ToItem, push_name};
-use haya_entry::EntryType;
 use haya_numbers::{Numeric, PageRanges};
 use haya_people::{Person, PersonRole, PersonsWithRoles};
 use haya_text::{FormatString, OutOfMemory};
@@ -79,35 +77,6 @@ fn push_behind_comma(line: &mut String, part: &Option<String>) -> Result<(), Out
     Ok(())
 }
 
-// The name of a role, or its words.
-fn role_name(role: &PersonRole) -> &str
-    ensures { result.now ≡ role_name (role_view role.now) }
-{
-    match role {
-        PersonRole::Translator => "translator",
-        PersonRole::Afterword => "afterword",
-        PersonRole::Foreword => "foreword",
-        PersonRole::Introduction => "introduction",
-        PersonRole::Annotator => "annotator",
-        PersonRole::Commentator => "commentator",
-        PersonRole::Holder => "holder",
-        PersonRole::Compiler => "compiler",
-        PersonRole::Founder => "founder",
-        PersonRole::Collaborator => "collaborator",
-        PersonRole::Organizer => "organizer",
-        PersonRole::CastMember => "cast-member",
-        PersonRole::Composer => "composer",
-        PersonRole::Producer => "producer",
-        PersonRole::ExecutiveProducer => "executive-producer",
-        PersonRole::Writer => "writer",
-        PersonRole::Cinematography => "cinematography",
-        PersonRole::Director => "director",
-        PersonRole::Illustrator => "illustrator",
-        PersonRole::Narrator => "narrator",
-        PersonRole::Unknown(words) => words.as_str(),
-    }
-}
-
 /// An item of each person in each role, where there are any.
 pub(crate) fn also_roles(
     alloc: Global,
@@ -175,7 +144,7 @@ fn push_role(line: &mut String, role: &PersonRole) -> Result<(), OutOfMemory>
     ensures { OnOk result (Pushes line.old line.new
         (λ rest. role_name (role_view role.now) ++ (colon ∷ rest))) }
 {
-    line.push_str(role_name(role))?;
+    line.push_str(role.name())?;
     line.push(':')?;
     Ok(())
 }
@@ -293,43 +262,5 @@ impl<T: ToItem> ToItem for MaybeTyped<T> {
             MaybeTyped::Typed(value) => value.push_text(alloc, line),
             MaybeTyped::String(text) => Ok(line.push_str(text.as_str())?),
         }
-    }
-}
-
-/// The name of a type in lower case.
-pub(crate) fn lower_name(kind: EntryType) -> &'static str
-    ensures { result.now ≡ in_lower_case (type_name kind) }
-{
-    match kind {
-        EntryType::Article => "article",
-        EntryType::Chapter => "chapter",
-        EntryType::Entry => "entry",
-        EntryType::Anthos => "anthos",
-        EntryType::Report => "report",
-        EntryType::Thesis => "thesis",
-        EntryType::Web => "web",
-        EntryType::Scene => "scene",
-        EntryType::Artwork => "artwork",
-        EntryType::Patent => "patent",
-        EntryType::Case => "case",
-        EntryType::Newspaper => "newspaper",
-        EntryType::Legislation => "legislation",
-        EntryType::Manuscript => "manuscript",
-        EntryType::Post => "post",
-        EntryType::Misc => "misc",
-        EntryType::Performance => "performance",
-        EntryType::Periodical => "periodical",
-        EntryType::Proceedings => "proceedings",
-        EntryType::Book => "book",
-        EntryType::Blog => "blog",
-        EntryType::Reference => "reference",
-        EntryType::Conference => "conference",
-        EntryType::Anthology => "anthology",
-        EntryType::Repository => "repository",
-        EntryType::Thread => "thread",
-        EntryType::Video => "video",
-        EntryType::Audio => "audio",
-        EntryType::Exhibition => "exhibition",
-        EntryType::Original => "original",
     }
 }

@@ -107,7 +107,7 @@ abbrev pub StaysEnded : Type 0
 StaysEnded = (q r : QueryState) (next : Option (Result Hit SelectorError)) → q.left ≡ []
     → NextGives q next r → (next ≡ None) × (r ≡ q)
 
--- ---- the same in words of entries, for a selector that stands in the code
+-- ---- the same in words of entries, for a selector that is written in the code
 
 -- a hit is that of the first entry left that is picked, and names stand there for what the selector
 -- says

@@ -16,7 +16,7 @@ pub use query::{Hit, Query};
 
 /// The values that entries are made of.
 pub mod types {
-    pub use haya_entry::{EntryType, SerialNumber, UnknownType};
+    pub use haya_entry::{EntryType, FieldName, SerialNumber, UnknownField, UnknownType};
     pub use haya_numbers::{
         GrammarGender, NumIterator, NumberForm, Numeric, NumericDelimiter, NumericError,
         NumericValue, Ordinals, PageNumberError, PagePieces, PageRanges, PageRangesPart,
