@@ -11,6 +11,7 @@ mod Growth
 mod CutBack
 mod Kept
 mod Simples
+mod Chains
 pub mod Cuts
 pub mod OneCut
 pub mod Parsing

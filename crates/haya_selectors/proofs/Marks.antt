@@ -1,13 +1,14 @@
 -- Nodes that are marked.
 use Rattle.std.proofs.Common.{◌≡◌, ◌<◌, ◌≤◌, ℕ, zero, suc, ◌+◌, Bool, true, false, List, [], ◌∷◌, ◌++◌, length, map, get_or, take, refl, sym, ap, ◌∙◌, arith}
-use Rattle.std.specs.Prelude.{if◌then◌else◌}
+use Rattle.std.specs.Prelude.{◌&&◌, if◌then◌else◌}
 use Rattle.std.specs.List.{list_all}
 use Rattle.std.proofs.lemmas.List.{get_or_append_left, length-append, length-map, length-take, map-append, take-append-le, take_more}
 use Rattle.haya_selectors.specs.declared.node.Node.{Node}
 use Rattle.haya_selectors.specs.Compiled.{above, all_fit, name_of, node_syntaxes, syntax_in}
 use Rattle.haya_selectors.specs.Marks.{AreMarked}
 use Rattle.haya_selectors.specs.Simple.{all_simple, is_simple}
-use Rattle.haya_selectors.specs.Syntax.{Syntax, Wildcard, syntaxes}
+use Rattle.haya_selectors.specs.Syntax.{Syntax, Wildcard, Ancestrage, chained, syntaxes}
+use Rattle.haya_selectors.proofs.Chains.{is_simple-chained}
 use Rattle.haya_selectors.proofs.NodeLists.{length-node_syntaxes, names_keep, push_is}
 
 at_map_take : (f : Syntax → Bool) (all : List Syntax) (n i : ℕ) → i < length (map f (take n all)) → get_or (map f (take n all)) i false ≡ f (get_or all i Wildcard)
@@ -43,6 +44,11 @@ module _ (names : List (List ℕ)) (nodes : List Node) (marks : List Bool) (h : 
   pub marked_members : (numbers : List ℕ) → above numbers ≤ length marks → list_all (λ n. get_or marks n false) numbers ≡ all_simple (syntaxes (map (syntax_in all) numbers))
   marked_members [] l = refl
   marked_members (n ∷ ns) l = rw (marked_at n (omega arith), marked_members ns (omega arith)) refl
+
+  -- a chain, by the marks of its parts
+  pub marked_chain : (l r : ℕ) (rs : List ℕ) → l < length marks → above rs ≤ length marks → r < length marks
+      → is_simple (Ancestrage (chained (syntax_in all l) (map (syntax_in all) rs)) (syntax_in all r)) ≡ ((get_or marks l false && list_all (λ n. get_or marks n false) rs) && get_or marks r false)
+  marked_chain l r rs h k i = rw (is_simple-chained (syntax_in all l) (map (syntax_in all) rs), marked_at l h, marked_members rs k, marked_at r i) refl
 
 -- a name more changes no mark
 pub marked_names_if : {X : Type 0} (name : X → List ℕ) (xs : List X) (x : X) (b : Bool) (nodes : List Node) (marks : List Bool) → all_fit (length xs) 0 nodes ≡ true

@@ -1,6 +1,6 @@
 -- Lists of nodes, and what their nodes stand for.
 use Rattle.std.proofs.Common.{◌≡◌, ◌<◌, ◌≤◌, ℕ, zero, suc, ◌+◌, Bool, true, false, List, [], ◌∷◌, ◌++◌, length, map, get_or, take, drop, drop-cons, add-one, refl, sym, ap, ◌∙◌, arith}
-use Rattle.std.specs.Prelude.{if◌then◌else◌, nat_lt}
+use Rattle.std.specs.Prelude.{◌&&◌, if◌then◌else◌, nat_le, nat_lt}
 use Rattle.std.specs.List.{fold}
 use Rattle.haya_text.proofs.Tells.{and-both}
 use Rattle.std.proofs.lemmas.Bool.Decides.{nat_tests}
@@ -10,7 +10,7 @@ use Rattle.std.proofs.Math.Seq.{get_or-append_seam}
 use Rattle.haya_selectors.specs.declared.node.Node.{Node}
 use Rattle.haya_selectors.specs.declared.node.Node.TheVariants as variant
 use Rattle.haya_selectors.specs.Compiled.{node_syntax, name_of, syntax_in, with_node, node_syntaxes, above, fits, all_fit}
-use Rattle.haya_selectors.specs.Syntax.{Syntax, Wildcard, Neg, Binding, Attr, Alt, Multi, Ancestrage, more, syntaxes}
+use Rattle.haya_selectors.specs.Syntax.{Syntax, Wildcard, Neg, Binding, Attr, Alt, Multi, Ancestrage, chained, more, negations, syntaxes}
 
 -- one item more
 pub map_more : {X Y : Type 0} (f : X → Y) (xs : List X) (i : ℕ) (x : X) → i < length xs → x ≡ get_or xs i x → map f (take (i + 1) xs) ≡ map f (take i xs) ++ f x ∷ []
@@ -30,6 +30,10 @@ pub above_push : (ns : List ℕ) (n most : ℕ) → above ns ≤ most → n < mo
 above_push [] n most h k = omega arith
 above_push (m ∷ ns) n most h k = let later = above_push ns n most (omega arith) k in omega (arith, later)
 
+pub above_pop : (ns : List ℕ) (n most : ℕ) → above (ns ++ n ∷ []) ≤ most → (above ns ≤ most) × (n < most)
+above_pop [] n most h = (omega arith, omega arith)
+above_pop (m ∷ ns) n most h = let later = above_pop ns n most (omega arith) in (omega (arith, later.0), later.1)
+
 pub map_same : {X : Type 0} (f g : ℕ → X) (ns : List ℕ) (most : ℕ) → above ns ≤ most → ((n : ℕ) → n < most → f n ≡ g n) → map f ns ≡ map g ns
 map_same f g [] most h each = refl
 map_same f g (n ∷ ns) most h each = let here = each n (omega arith) in let later = map_same f g ns most (omega arith) each in λ i. here i ∷ later i
@@ -40,7 +44,7 @@ module _ (name other : ℕ → List ℕ) (f g : ℕ → Syntax) (slots number : 
   pub same_syntax : (node : Node) → fits slots number node ≡ true → node_syntax name f node ≡ node_syntax other g node
   same_syntax variant.Wildcard h = refl
   same_syntax (variant.Entry t) h = refl
-  same_syntax (variant.Neg s) h = ap Neg (each s (grind (arith, nat_tests)))
+  same_syntax (variant.Neg s others) h = ap (λ t. Neg (negations others t)) (each s (grind (arith, nat_tests)))
   same_syntax (variant.Binding n s) h =
       let two = and-both (nat_lt n slots) (nat_lt s number) h in
       let a = names n (grind (arith, nat_tests, two.0)) in
@@ -49,11 +53,13 @@ module _ (name other : ℕ → List ℕ) (f g : ℕ → Syntax) (slots number : 
   same_syntax (variant.Attr s ns) h = ap (λ t. Attr t ns) (each s (grind (arith, nat_tests)))
   same_syntax (variant.Alt ss) h = ap (λ ts. Alt (syntaxes ts)) (map_same f g ss.items number (grind (arith, nat_tests)) each)
   same_syntax (variant.Multi ss) h = ap (λ ts. Multi (syntaxes ts)) (map_same f g ss.items number (grind (arith, nat_tests)) each)
-  same_syntax (variant.Ancestrage l r) h =
-      let two = and-both (nat_lt l number) (nat_lt r number) h in
-      let a = each l (grind (arith, nat_tests, two.0)) in
-      let b = each r (grind (arith, nat_tests, two.1)) in
-      λ i. Ancestrage (a i) (b i)
+  same_syntax (variant.Ancestrage l rs r) h =
+      let two = and-both (nat_le (above rs.items) number) (nat_lt l number && nat_lt r number) h in
+      let ends = and-both (nat_lt l number) (nat_lt r number) two.1 in
+      let a = each l (grind (arith, nat_tests, ends.0)) in
+      let b = each r (grind (arith, nat_tests, ends.1)) in
+      let c = map_same f g rs.items number (grind (arith, nat_tests, two.0)) each in
+      λ i. Ancestrage (chained (a i) (c i)) (b i)
 
 -- ---- nodes that fit
 pub fits_at : (slots start : ℕ) (nodes : List Node) (i : ℕ) (node : Node) → all_fit slots start nodes ≡ true → i < length nodes → node ≡ get_or nodes i node
@@ -85,11 +91,11 @@ more_slots slots others number (variant.Binding n s) l h =
     rw (here, two.1) refl
 more_slots slots others number variant.Wildcard l h = h
 more_slots slots others number (variant.Entry t) l h = h
-more_slots slots others number (variant.Neg s) l h = h
+more_slots slots others number (variant.Neg s n) l h = h
 more_slots slots others number (variant.Attr s ns) l h = h
 more_slots slots others number (variant.Alt ss) l h = h
 more_slots slots others number (variant.Multi ss) l h = h
-more_slots slots others number (variant.Ancestrage m r) l h = h
+more_slots slots others number (variant.Ancestrage m rs r) l h = h
 
 pub all_more_slots : (slots others start : ℕ) (nodes : List Node) → slots ≤ others → all_fit slots start nodes ≡ true → all_fit others start nodes ≡ true
 all_more_slots slots others start [] l h = refl

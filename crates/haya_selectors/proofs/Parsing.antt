@@ -1,5 +1,5 @@
 -- What the loops of the parser keep.
-use Rattle.std.proofs.Common.{◌≡◌, ◌≤◌, ◌∷◌, ◌++◌, [], List, ℕ, length, Option, Some, None, Result, Ok, Err, IfOk, IfErr, suc, Vec, Global, ◌≢◌, map, fold, sym, subst, refl, ap, ◌∙◌, arith, append_assoc, append-nil}
+use Rattle.std.proofs.Common.{◌≡◌, ◌≤◌, ◌∷◌, ◌++◌, [], List, ℕ, length, Option, Some, None, Result, Ok, Err, IfOk, IfErr, zero, suc, Vec, Global, ◌≢◌, map, fold, sym, subst, refl, ap, ◌∙◌, arith, append_assoc, append-nil}
 use Rattle.std.specs.Option.{IfSome}
 use Rattle.haya_entry.specs.declared.types.EntryType.{EntryType}
 use Rattle.haya_entry.specs.EntryType.{in_lower_case, type_read}
@@ -9,9 +9,9 @@ use Rattle.haya_selectors.specs.declared.selector.Selector.{Selector}
 use Rattle.haya_selectors.specs.declared.selector.Selector.TheVariants as variant
 use Rattle.haya_selectors.specs.declared.selector.SelectorError.{SelectorError}
 use Rattle.haya_selectors.specs.Fault.{Fault, fault, MalformedAttribute, MissingComma, UnknownEntryType}
-use Rattle.haya_selectors.specs.Grammar.{type_of, ReadsNames, closed, last_name, next_name, FailsNames, no_name, no_comma, later_name, Joint, Or, And, sign, run_syntax, before_runs, runs, in_runs, ValueForm, FactorForm, AttributesForm, BindingForm, TermForm, ExprForm, Reads, of_type, negated, plain, unnamed, term, chain, ReadsPairs, no_pair, next_pair, ReadsTerms, next_term, Fails, unknown, in_parens, in_negated, in_plain, in_named, in_unnamed, in_pairs, in_terms, FailsPairs, in_pair, past_pair, FailsTerms, past_next}
-use Rattle.haya_selectors.specs.Parser.{Gives, negations, ReadsRun, run_end, run_on, FailsRun, in_member, past_member}
-use Rattle.haya_selectors.specs.Syntax.{Syntax, Neg, Ancestrage, Alt, Multi, syntax, syntaxes}
+use Rattle.haya_selectors.specs.Grammar.{type_of, ReadsNames, closed, last_name, next_name, FailsNames, no_name, no_comma, later_name, Joint, Or, And, sign, run_syntax, before_runs, runs, in_runs, ValueForm, FactorForm, AttributesForm, BindingForm, TermForm, ExprForm, Reads, of_type, negated, plain, unnamed, term, chain, ReadsPairs, no_pair, next_pair, ReadsTerms, next_term, Fails, unknown, in_negated, in_plain, in_unnamed, in_pairs, in_terms, FailsPairs, in_pair, past_pair, FailsTerms, past_next}
+use Rattle.haya_selectors.specs.Parser.{Gives, after_signs, ReadsRun, run_end, run_on, FailsRun, in_member, past_member}
+use Rattle.haya_selectors.specs.Syntax.{Syntax, Neg, Ancestrage, Alt, Multi, negations, syntax, syntaxes}
 use Rattle.haya_selectors.specs.Token.{Token, SignToken, Word, BeginsNot, BeginsNoWord, BeginsNoName}
 use Rattle.haya_selectors.proofs.Syntaxes.{syntax-entry, syntax-alt, syntax-multi}
 
@@ -21,20 +21,13 @@ pub record NamesSoFar (start now : List Token) (names : List (List ℕ)) : Type 
   pub fails : (f : Fault) → FailsNames now f → FailsNames start f
   pub shorter : length now ≤ length start
 
-pub record SignsSoFar (start now : List Token) (signs : ℕ) : Type 0 where
-  pub reads : (s : Syntax) (rest : List Token) → Reads FactorForm now s rest → Reads FactorForm start (negations signs s) rest
-  pub fails : (f : Fault) → Fails FactorForm now f → Fails FactorForm start f
-  pub shorter : length now ≤ length start
-
 pub record TermsSoFar (start now : List Token) (left : Syntax) : Type 0 where
   pub reads : (terms : List Syntax) (rest : List Token) → ReadsTerms now terms rest → Reads ExprForm start (fold Ancestrage left terms) rest
   pub fails : (f : Fault) → FailsTerms now f → Fails ExprForm start f
-  pub shorter : length now ≤ length start
 
 pub record PairsSoFar (start now : List Token) (left : Syntax) : Type 0 where
   pub reads : (pairs : List (Joint × Syntax)) (rest : List Token) → ReadsPairs now pairs rest → Reads TermForm start (in_runs left pairs) rest
   pub fails : (f : Fault) → FailsPairs now f → Fails TermForm start f
-  pub shorter : length now ≤ length start
 
 pub record RunSoFar (between : Sign) (first : Syntax) (start now : List Token) (members : List Syntax) : Type 0 where
   pub others : List Syntax
@@ -68,26 +61,21 @@ module _ {start now : List Token} {names : List (List ℕ)} (h : NamesSoFar star
     shorter = omega (arith, h.shorter, ap length (sym e ∙ f), ap length (sym g ∙ k));
   }
 
-pub terms_from : {start now : List Token} {left : Syntax} → Reads TermForm start left now → length now ≤ length start → TermsSoFar start now left
-terms_from r s = record { reads = λ terms rest m. chain r m; fails = λ f m. in_terms r m; shorter = s }
+pub terms_from : {start now : List Token} {left : Syntax} → Reads TermForm start left now → TermsSoFar start now left
+terms_from r = record { reads = λ terms rest m. chain r m; fails = λ f m. in_terms r m }
 
-pub terms_next : {start now mid after : List Token} {left right : Syntax} → TermsSoFar start now left → now ≡ SignToken Chevron ∷ mid → Reads TermForm mid right after → length after ≤ length mid → TermsSoFar start after (Ancestrage left right)
-terms_next {right = right} h e r s = record {
+pub terms_next : {start now mid after : List Token} {left right : Syntax} → TermsSoFar start now left → now ≡ SignToken Chevron ∷ mid → Reads TermForm mid right after → TermsSoFar start after (Ancestrage left right)
+terms_next {right = right} h e r = record {
   reads = λ terms rest m. h.reads (right ∷ terms) rest (rw e (next_term r m));
   fails = λ f m. h.fails f (rw e (past_next r m));
-  shorter = omega (arith, h.shorter, s, ap length e);
 }
 
--- readings of tokens that are known by equations
-pub in_parens_at : {ts mid : List Token} {f : Fault} → ts ≡ SignToken LeftParen ∷ mid → Fails ExprForm mid f → Fails ValueForm ts f
-in_parens_at e r = rw e (in_parens r)
-
-pub in_named_at : {ts mid : List Token} {w : List ℕ} {f : Fault} → ts ≡ Word w ∷ SignToken Colon ∷ mid → Fails AttributesForm mid f → Fails BindingForm ts f
-in_named_at e r = rw e (in_named r)
-
 -- results of a part, as results of the whole
-pub word_value : {ts ts' ts'' : List Token} {w : List ℕ} (rest : List Token) (r : Result Selector SelectorError) → ts' ≡ ts → ts'' ≡ ts' → ts'' ≡ Word w ∷ rest → Gives ValueForm (Word w ∷ rest) rest r → Gives ValueForm ts rest r
-word_value rest r d e f h = rw (sym d ∙ sym e ∙ f) h
+pub word_value : {ts ts' : List Token} {w : List ℕ} (rest : List Token) (r : Result Selector SelectorError) → ts' ≡ ts → ts' ≡ Word w ∷ rest → Gives ValueForm (Word w ∷ rest) rest r → Gives ValueForm ts rest r
+word_value rest r e f h = rw (sym e ∙ f) h
+
+pub leaf_value : {ts ts' : List Token} (rest : List Token) (r : Result Selector SelectorError) → BeginsNot LeftParen ts → ts' ≡ ts → (BeginsNot LeftParen ts' → Gives ValueForm ts' rest r) → Gives ValueForm ts rest r
+leaf_value rest r b e h = rw e at (h (rw e b))
 
 pub type_read_at : (w name low : List ℕ) (t : EntryType) (rest : List Token) → name ≡ low → low ≡ in_lower_case w → Some t ≡ type_read name → Reads ValueForm (Word w ∷ rest) (syntax (variant.Entry t)) rest
 unfolding type_of
@@ -97,25 +85,32 @@ pub type_unknown_at : (w name low : List ℕ) (rest : List Token) → name ≡ l
 unfolding type_of
 type_unknown_at w name low rest e l r = rw l (unknown (ap type_read (sym l ∙ sym e) ∙ sym r))
 
--- the signs before a value
-pub signs_none : (start : List Token) → SignsSoFar start start 0
-signs_none start = record { reads = λ s rest r. r; fails = λ f r. r; shorter = omega arith }
+-- a value behind signs
+signs_read : (n : ℕ) (ts after : List Token) (s : Syntax) → Reads FactorForm ts s after → Reads FactorForm (after_signs n ts) (negations n s) after
+signs_read zero ts after s r = r
+signs_read (suc n) ts after s r = signs_read n (SignToken ExclamationMark ∷ ts) after (Neg s) (negated r)
 
-module _ {start now : List Token} {signs : ℕ} (h : SignsSoFar start now signs) where
-  pub signs_next : {mid : List Token} → now ≡ SignToken ExclamationMark ∷ mid → SignsSoFar start mid (suc signs)
-  signs_next e = record {
-    reads = λ s rest r. h.reads (Neg s) rest (rw e (negated r));
-    fails = λ f r. h.fails f (rw e (in_negated r));
-    shorter = omega (arith, h.shorter, ap length e);
-  }
+signs_fail : (n : ℕ) (ts : List Token) (f : Fault) → Fails FactorForm ts f → Fails FactorForm (after_signs n ts) f
+signs_fail zero ts f r = r
+signs_fail (suc n) ts f r = signs_fail n (SignToken ExclamationMark ∷ ts) f (in_negated r)
 
-  pub value_fails : {now' : List Token} (o : Option Fault) → BeginsNot ExclamationMark now → now' ≡ now → IfSome o (Fails ValueForm now') → IfSome o (Fails FactorForm start)
-  value_fails o b e r = of_part (λ f q. h.fails f (in_plain b (rw e at q))) o r
+pub value_fails : (n : ℕ) (ts : List Token) (o : Option Fault) → BeginsNot ExclamationMark ts → IfSome o (Fails ValueForm ts) → IfSome o (Fails FactorForm (after_signs n ts))
+value_fails n ts o b r = of_part (λ f q. signs_fail n ts f (in_plain b q)) o r
 
-  pub value_negated : {now' : List Token} (after : List Token) (s : Syntax) (r : Result Selector SelectorError) → BeginsNot ExclamationMark now → now' ≡ now → Reads ValueForm now' s after
-      → IfOk r (λ t. syntax t ≡ negations signs s) → IfErr r (λ e. fault e ≡ None) → Gives FactorForm start after r
-  value_negated after s (Ok t) b e q is none = rw is (h.reads s after (plain b (rw e at q)))
-  value_negated after s (Err x) b e q is none = rw none tt
+pub value_negated : (n : ℕ) (ts after : List Token) (s : Syntax) (r : Result Selector SelectorError) → BeginsNot ExclamationMark ts → Reads ValueForm ts s after
+    → IfOk r (λ t. syntax t ≡ negations n s) → IfErr r (λ e. fault e ≡ None) → Gives FactorForm (after_signs n ts) after r
+value_negated n ts after s (Ok t) b q is none = rw is (signs_read n ts after s (plain b q))
+value_negated n ts after s (Err x) b q is none = rw none tt
+
+-- tokens that are known by equations
+pub factor_at : {start now now' : List Token} (n : ℕ) (after : List Token) (r : Result Selector SelectorError) → start ≡ after_signs n now → now' ≡ now → Gives FactorForm (after_signs n now') after r → Gives FactorForm start after r
+factor_at n after r d e h = rw (d, ← e) h
+
+pub value_at : {start mid : List Token} (after : List Token) (r : Result Selector SelectorError) → start ≡ SignToken LeftParen ∷ mid → Gives ValueForm (SignToken LeftParen ∷ mid) after r → Gives ValueForm start after r
+value_at after r e h = rw e h
+
+pub binding_at : {start mid : List Token} {w : List ℕ} (after : List Token) (r : Result Selector SelectorError) → start ≡ Word w ∷ SignToken Colon ∷ mid → Gives BindingForm (Word w ∷ SignToken Colon ∷ mid) after r → Gives BindingForm start after r
+binding_at after r e h = rw e h
 
 pub binding_attributes : {ts ts' : List Token} (after : List Token) (r : Result Selector SelectorError) → BeginsNoName ts → ts' ≡ ts → Gives AttributesForm ts' after r → Gives BindingForm ts after r
 binding_attributes after (Ok s) b e h = unnamed b (rw e at h)
@@ -134,8 +129,8 @@ module _ {between : Sign} {first : Syntax} {start now : List Token} {members : L
     shorter = omega (arith, h.shorter, l, ap length e);
   }
 
-pub pairs_from : {start now : List Token} {left : Syntax} → Reads BindingForm start left now → length now ≤ length start → PairsSoFar start now left
-pairs_from r s = record { reads = λ pairs rest p. term r p; fails = λ f p. in_pairs r p; shorter = s }
+pub pairs_from : {start now : List Token} {left : Syntax} → Reads BindingForm start left now → PairsSoFar start now left
+pairs_from r = record { reads = λ pairs rest p. term r p; fails = λ f p. in_pairs r p }
 
 -- a run of one sign, as pairs
 abbrev pub pairs_of : Joint → List Syntax → List (Joint × Syntax)
@@ -198,11 +193,10 @@ one_run j (run_end {s = s} r b) left pairs n = ap (fold (λ so_far run. run_synt
 one_run j (run_on {s = s} {members = ss} r m) left pairs n = ap (fold (λ so_far run. run_syntax run.0 (so_far ∷ run.1)) left) (runs_run j s ss pairs n)
 
 module _ (j : Joint) {start now ts : List Token} {left : Syntax} (h : PairsSoFar start now left) (e : now ≡ SignToken (sign j) ∷ ts) where
-  pub pairs_next : {mid : List Token} {ss : List Syntax} → ReadsRun (sign j) ts ss mid → length mid ≤ length ts → PairsSoFar start mid (run_syntax j (left ∷ ss))
-  pairs_next {ss = ss} r l = record {
+  pub pairs_next : {mid : List Token} {ss : List Syntax} → ReadsRun (sign j) ts ss mid → PairsSoFar start mid (run_syntax j (left ∷ ss))
+  pairs_next {ss = ss} r = record {
     reads = λ pairs rest p. rw (← one_run j r left pairs (pairs_first j p (run_stops r))) (h.reads (pairs_of j ss ++ pairs) rest (rw e (run_pairs j r p)));
     fails = λ f p. h.fails f (rw e (past_run j r p));
-    shorter = omega (arith, h.shorter, l, ap length e);
   }
 
   pub run_fails : {f : Fault} → FailsRun (sign j) ts f → Fails TermForm start f

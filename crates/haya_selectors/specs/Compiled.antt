@@ -3,19 +3,20 @@ use Rattle.std.specs.Prelude.{ℕ, suc, max, Bool, true, ◌&&◌, nat_lt, nat_l
 use Rattle.std.specs.List.{fold}
 use Rattle.haya_selectors.specs.declared.node.Node.{Node}
 use Rattle.haya_selectors.specs.declared.node.Node.TheVariants as variant
-use Rattle.haya_selectors.specs.Syntax.{Syntax, Wildcard, Entry, Neg, Binding, Attr, Alt, Multi, Ancestrage, syntaxes}
+use Rattle.haya_selectors.specs.Syntax.{Syntax, Wildcard, Entry, Neg, Binding, Attr, Alt, Multi, Ancestrage, chained, negations, syntaxes}
 
 -- the selector that a node stands for, where the numbers of its children and the slots of names
 -- stand for these
 abbrev pub node_syntax : (ℕ → List ℕ) → (ℕ → Syntax) → Node → Syntax
 node_syntax name child variant.Wildcard = Wildcard
 node_syntax name child (variant.Entry t) = Entry t
-node_syntax name child (variant.Neg s) = Neg (child s)
+node_syntax name child (variant.Neg s others) = Neg (negations others (child s))
 node_syntax name child (variant.Binding n s) = Binding (name n) (child s)
 node_syntax name child (variant.Attr s names) = Attr (child s) names
 node_syntax name child (variant.Alt ss) = Alt (syntaxes (map child ss.items))
 node_syntax name child (variant.Multi ss) = Multi (syntaxes (map child ss.items))
-node_syntax name child (variant.Ancestrage l r) = Ancestrage (child l) (child r)
+node_syntax name child (variant.Ancestrage l rs r) =
+    Ancestrage (chained (child l) (map child rs.items)) (child r)
 
 -- the name of a slot, and the selector of a node
 abbrev pub name_of : List (List ℕ) → ℕ → List ℕ
@@ -40,12 +41,13 @@ above (n ∷ ns) = max (suc n) (above ns)
 abbrev pub fits : ℕ → ℕ → Node → Bool
 fits slots number variant.Wildcard = true
 fits slots number (variant.Entry t) = true
-fits slots number (variant.Neg s) = nat_lt s number
+fits slots number (variant.Neg s others) = nat_lt s number
 fits slots number (variant.Binding n s) = nat_lt n slots && nat_lt s number
 fits slots number (variant.Attr s names) = nat_lt s number
 fits slots number (variant.Alt ss) = nat_le (above ss.items) number
 fits slots number (variant.Multi ss) = nat_le (above ss.items) number
-fits slots number (variant.Ancestrage l r) = nat_lt l number && nat_lt r number
+fits slots number (variant.Ancestrage l rs r) =
+    nat_le (above rs.items) number && (nat_lt l number && nat_lt r number)
 
 abbrev pub all_fit : ℕ → ℕ → List Node → Bool
 all_fit slots number [] = true

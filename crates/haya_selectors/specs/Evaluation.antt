@@ -1,5 +1,5 @@
 -- What the evaluator's own contracts say: what a call has found, and how often it has ticked.
-use Rattle.std.specs.Prelude.{◌≡◌, ◌≤◌, ℕ, ◌+◌, Bool, if◌then◌else◌, List, [], ◌++◌, Option, Some, is_some, Result, MatchResult, length, map, take}
+use Rattle.std.specs.Prelude.{◌≡◌, ◌≤◌, ℕ, zero, suc, ◌+◌, Bool, not, if◌then◌else◌, List, [], ◌++◌, Option, Some, is_some, Result, MatchResult, length, map, take}
 use Rattle.std.specs.Option.{option_map_or}
 use Rattle.haya_entry.specs.declared.entry.Entry.{Entry}
 use Rattle.haya_entry.specs.Tree.{Tree, view, at, at_list}
@@ -62,3 +62,8 @@ Ticks result old new n = MatchResult result (λ _. new ≡ old + n) (λ _. new �
 -- entries by value, in order
 abbrev pub views : List Entry → List Tree
 views es = map view es
+
+-- a truth value behind so many `!`
+abbrev pub turned : ℕ → Bool → Bool
+turned zero b = b
+turned (suc n) b = turned n (not b)

@@ -7,7 +7,7 @@ use Rattle.std.specs.Ordering.{nat_cmp}
 use Rattle.std.specs.Str.{bytes_eq}
 use Rattle.indexmap.specs.IndexSet.{insert_all}
 use Rattle.haya_selectors.specs.Compiled.{name_of, node_syntaxes, syntax_in}
-use Rattle.haya_selectors.specs.Syntax.{Syntax, Syntaxes, syntaxes}
+use Rattle.haya_selectors.specs.Syntax.{Syntax, Syntaxes, chained, syntaxes}
 use Rattle.haya_selectors.specs.declared.nodes.Nodes.{Nodes}
 
 -- how many nodes there are, and the names of the slots
@@ -24,6 +24,10 @@ syntax_at nodes number = syntax_in (node_syntaxes (slot_names nodes) nodes.nodes
 -- those of numbers, as members of one
 abbrev pub members_at : Nodes → List ℕ → Syntaxes
 members_at nodes numbers = syntaxes (map (syntax_at nodes) numbers)
+
+-- a node with others behind it, each after a `>`
+abbrev pub chain_at : Nodes → ℕ → List ℕ → Syntax
+chain_at nodes first others = chained (syntax_at nodes first) (map (syntax_at nodes) others)
 
 -- what was there stays
 pub record Keeps (old new : Nodes) : Type 0 where

@@ -4,20 +4,16 @@ use Rattle.std.specs.declared.alloc.Global.{Global}
 use Rattle.haya_selectors.specs.declared.selector.Selector.{Selector}
 use Rattle.haya_selectors.specs.declared.selector.SelectorError.{SelectorError}
 use Rattle.haya_selectors.specs.declared.token.Sign.{Sign}
+use Rattle.haya_selectors.specs.declared.token.Sign.TheVariants.{ExclamationMark}
 use Rattle.haya_selectors.specs.Fault.{Fault, fault}
 use Rattle.haya_selectors.specs.Grammar.{Form, BindingForm, Reads, Fails, ReadsNames, FailsNames}
-use Rattle.haya_selectors.specs.Syntax.{Syntax, Neg, syntax}
+use Rattle.haya_selectors.specs.Syntax.{Syntax, syntax}
 use Rattle.haya_selectors.specs.Token.{Token, SignToken, BeginsNot}
 
 -- for a form, between two lists of tokens
 abbrev pub Gives : Form → List Token → List Token → Result Selector SelectorError → Type 0
 Gives form before after (Ok s) = Reads form before (syntax s) after
 Gives form before after (Err e) = IfSome (fault e) (Fails form before)
-
--- a selector behind so many `!`
-abbrev pub negations : ℕ → Syntax → Syntax
-negations zero s = s
-negations (suc n) s = negations n (Neg s)
 
 -- for a bracket list
 abbrev pub GivesNames : List Token → List Token →
@@ -45,3 +41,8 @@ GivesRun sign first before after (Ok members) =
     (others : List Syntax) × (map syntax members.items ≡ first ∷ others) ×
     ReadsRun sign before others after
 GivesRun sign first before after (Err e) = IfSome (fault e) (FailsRun sign before)
+
+-- tokens behind so many `!`
+abbrev pub after_signs : ℕ → List Token → List Token
+after_signs zero ts = ts
+after_signs (suc n) ts = after_signs n (SignToken ExclamationMark ∷ ts)

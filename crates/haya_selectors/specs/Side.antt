@@ -33,6 +33,15 @@ is_end (Alt none) = true
 is_end (Multi none) = true
 is_end _ = false
 
+-- whether it has one, and is no `>`
+abbrev pub is_over : Syntax → Bool
+is_over (Neg s) = true
+is_over (Binding n s) = true
+is_over (Attr s names) = true
+is_over (Alt (more s ss)) = true
+is_over (Multi (more s ss)) = true
+is_over _ = false
+
 abbrev pub AllNoDeeper : ℕ → List (Bor Selector) → Type 0
 AllNoDeeper n ss = All (λ s. size-Selector s.now ≤ n) ss
 

@@ -1,5 +1,6 @@
 -- A selector by value: the tree of its forms, with names as their bytes.
-use Rattle.std.specs.Prelude.{ℕ, ◌+◌, List, [], ◌∷◌, map, string_bytes}
+use Rattle.std.specs.Prelude.{ℕ, zero, suc, ◌+◌, List, [], ◌∷◌, map, string_bytes}
+use Rattle.std.specs.List.{fold}
 use Rattle.haya_entry.specs.declared.types.EntryType.{EntryType}
 use Rattle.haya_selectors.specs.declared.selector.Selector.{Selector}
 use Rattle.haya_selectors.specs.declared.selector.Selector.TheOpen as open'
@@ -41,6 +42,15 @@ syntax = fold-Selector Syntax syntax_step
 -- the values of selectors, as members of one
 abbrev pub members_of : List Selector → Syntaxes
 members_of ss = syntaxes (map syntax ss)
+
+-- a selector behind so many `!`
+abbrev pub negations : ℕ → Syntax → Syntax
+negations zero s = s
+negations (suc n) s = negations n (Neg s)
+
+-- a selector with others behind it, each after a `>`
+abbrev pub chained : Syntax → List Syntax → Syntax
+chained s rs = fold Ancestrage s rs
 
 -- how many forms the selector has
 abbrev mutual

@@ -1,6 +1,5 @@
 //! Equality of selectors: along the first side by a loop.
-ghost use Rattle.std.specs.Prelude.{◌≡◌, ◌≤◌, ◌&&◌, ◌==◌, IfNone, IfSome, length, map};
-ghost use Rattle.std.specs.Prelude.{string_bytes};
+ghost use Rattle.std.specs.Prelude.{◌≡◌, ◌<◌, ◌≤◌, IfErr, IfOk, map, string_bytes};
 ghost use Rattle.std.specs.Str.{bytes_eq};
 ghost use denote.Param.Weighed.{most};
 ghost use lib.Pointwise.{pointwise};
@@ -23,49 +22,12 @@ impl PartialEq for Selector {
         let mut left = self;
         let mut right = other;
         'down: loop {
-            match (left, right) {
-                (Selector::Wildcard, Selector::Wildcard) => return true,
-                (Selector::Entry(a), Selector::Entry(b)) => return a == b,
-                (Selector::Neg(a), Selector::Neg(b)) => {
-                    left = a;
-                    right = b;
+            match next_pair(left, right) {
+                Ok((first, other)) => {
+                    left = first;
+                    right = other;
                 }
-                (Selector::Binding(n, a), Selector::Binding(m, b)) => {
-                    if n != m {
-                        return false;
-                    }
-                    left = a;
-                    right = b;
-                }
-                (Selector::Attr(a, ns), Selector::Attr(b, ms)) => {
-                    if !same_names(ns, ms) {
-                        return false;
-                    }
-                    left = a;
-                    right = b;
-                }
-                (Selector::Alt(a), Selector::Alt(b)) => match first_pair(a, b) {
-                    Some((first, other)) => {
-                        left = first;
-                        right = other;
-                    }
-                    None => return a.is_empty() && b.is_empty(),
-                },
-                (Selector::Multi(a), Selector::Multi(b)) => match first_pair(a, b) {
-                    Some((first, other)) => {
-                        left = first;
-                        right = other;
-                    }
-                    None => return a.is_empty() && b.is_empty(),
-                },
-                (Selector::Ancestrage(a, c), Selector::Ancestrage(b, d)) => {
-                    if !(**c).eq(d) {
-                        return false;
-                    }
-                    left = a;
-                    right = b;
-                }
-                _ => return false,
+                Err(equal) => return equal,
             }
         }
     }
@@ -77,26 +39,69 @@ impl Eq for Selector {
     ghost laws = { selector_equiv };
 }
 
-// The first of each list, where the others are equal one by one, so that these two decide. `None`
-// where the lists are equal only if both are empty.
+// The first parts, where the rest is equal, so that these two decide; otherwise whether the
+// selectors are equal.
+#[cycle(equal)]
+fn next_pair<'a, 'b>(
+    left: &'a Selector,
+    right: &'b Selector,
+) -> Result<(&'a Selector, &'b Selector), bool>
+    ensures pair { IfOk result (λ pair.
+        selector_eq left.now right.now ≡ selector_eq pair.0.now pair.1.now) }
+    ensures deep { IfOk result (λ pair. size-Selector pair.0.now < size-Selector left.now) }
+    ensures told { IfErr result (λ equal. equal ≡ selector_eq left.now right.now) }
+{
+    match (left, right) {
+        (Selector::Wildcard, Selector::Wildcard) => Err(true),
+        (Selector::Entry(a), Selector::Entry(b)) => Err(a == b),
+        (Selector::Neg(a), Selector::Neg(b)) => Ok((a, b)),
+        (Selector::Binding(n, a), Selector::Binding(m, b)) => {
+            if n != m {
+                return Err(false);
+            }
+            Ok((a, b))
+        }
+        (Selector::Attr(a, ns), Selector::Attr(b, ms)) => {
+            if !same_names(ns, ms) {
+                return Err(false);
+            }
+            Ok((a, b))
+        }
+        (Selector::Alt(a), Selector::Alt(b)) => first_pair(a, b),
+        (Selector::Multi(a), Selector::Multi(b)) => first_pair(a, b),
+        (Selector::Ancestrage(a, c), Selector::Ancestrage(b, d)) => {
+            if !(**c).eq(d) {
+                return Err(false);
+            }
+            Ok((a, b))
+        }
+        _ => Err(false),
+    }
+}
+
+// The same of the members of two.
 #[cycle(equal)]
 fn first_pair<'a, 'b>(
     left: &'a [Selector],
     right: &'b [Selector],
-) -> Option<(&'a Selector, &'b Selector)>
-    ensures pair { IfSome result (λ pair. syntaxes_eq (members_of left.now) (members_of right.now) ≡
+) -> Result<(&'a Selector, &'b Selector), bool>
+    ensures pair { IfOk result (λ pair. syntaxes_eq (members_of left.now) (members_of right.now) ≡
         selector_eq pair.0.now pair.1.now) }
-    ensures deep { IfSome result (λ pair.
+    ensures deep { IfOk result (λ pair.
         size-Selector pair.0.now ≤ most size-Selector left.now) }
-    ensures none { IfNone result (syntaxes_eq (members_of left.now) (members_of right.now) ≡
-        (length left.now == 0 && length right.now == 0)) }
+    ensures told { IfErr result (λ equal.
+        equal ≡ syntaxes_eq (members_of left.now) (members_of right.now)) }
 {
-    let (first, above) = left.split_first()?;
-    let (other, below) = right.split_first()?;
+    let Some((first, above)) = left.split_first() else {
+        return Err(right.is_empty());
+    };
+    let Some((other, below)) = right.split_first() else {
+        return Err(false);
+    };
     if !all_equal(above, below) {
-        return None;
+        return Err(false);
     }
-    Some((first, other))
+    Ok((first, other))
 }
 
 // Whether the names are equal one by one.

@@ -1,10 +1,11 @@
 //! The evaluator: one function at an entry, one on a list of parents, and what they share. Each
 //! goes by the number of a node, and from a node to its children alone, whose numbers are smaller.
-ghost use Rattle.std.specs.Prelude.{◌≡◌, ◌<◌, ◌≤◌, [], ◌∷◌, ◌++◌, IfOk, OnSome, map, sum_by};
+ghost use Rattle.std.specs.Prelude.{◌≡◌, ◌<◌, ◌≤◌, [], ◌∷◌, ◌++◌, IfOk, OnSome, is_some, map};
+ghost use Rattle.std.specs.Prelude.{if◌then◌else◌, sum_by};
 ghost use Rattle.std.specs.Bool.{OnTrue};
 ghost use Rattle.std.specs.List.{list_any};
-ghost use Rattle.haya_entry.specs.Tree.{view};
-ghost use Rattle.haya_selectors.specs.Compiled.{above};
+ghost use Rattle.haya_entry.specs.Tree.{parents, view};
+ghost use Rattle.haya_selectors.specs.Compiled.{above, name_of};
 ghost use Rattle.haya_selectors.specs.Binds.{binds, binds_on, each_binds, first_binds};
 ghost use Rattle.haya_selectors.specs.Binds.{first_binds_on, pairs_at_first};
 ghost use Rattle.haya_selectors.specs.Calls.{all_calls, calls, calls_on, first_calls};
@@ -15,7 +16,9 @@ ghost use Rattle.haya_selectors.specs.Evaluation.{KeepsFound, Ticks, pairs_view,
 ghost use Rattle.haya_selectors.specs.Holds.{holds, some_holds, candidates, first_candidates};
 ghost use Rattle.haya_selectors.specs.Holds.{first_place as alone, table_of};
 ghost use Rattle.haya_selectors.specs.Places.{items_up_to};
-ghost use Rattle.haya_selectors.specs.Nodes.{members_at, node_count, slot_names, syntax_at};
+ghost use Rattle.haya_selectors.specs.Nodes.{chain_at, members_at, node_count, slot_names};
+ghost use Rattle.haya_selectors.specs.Nodes.{syntax_at};
+ghost use Rattle.haya_selectors.specs.Syntax.{Binding, Neg, negations};
 ghost use Rattle.haya_selectors.specs.Tries.{all_found, all_held, joined, lengths, tried};
 ghost use Rattle.haya_assignment.specs.Assignment.{least};
 
@@ -25,7 +28,7 @@ use crate::names::Asked;
 use crate::node::Node;
 use crate::nodes::Nodes;
 use crate::places::{Candidates, all_places, kept_places};
-use crate::simple::{simple_holds_at, simple_holds_on};
+use crate::simple::{simple_holds_at, simple_holds_on, turned};
 use crate::tries::Tries;
 use haya_entry::{Entry, Steps};
 use haya_text::OutOfMemory;
@@ -106,30 +109,134 @@ fn form_holds_at<'e>(
     match nodes.at(number) {
         Node::Wildcard => Ok(true),
         Node::Entry(entry_type) => Ok(asked.entry().entry_type() == *entry_type),
-        Node::Neg(inner) => Ok(!holds_at(nodes, *inner, alloc, asked, found, steps)?),
+        Node::Neg(inner, others) => {
+            Ok(!negated_holds_at(nodes, *inner, *others, alloc, asked, found, steps)?)
+        }
         Node::Binding(slot, inner) => {
-            if !holds_at(nodes, *inner, alloc, asked, found, steps)? {
-                return Ok(false);
-            }
-            found.bind(*slot, asked.entry())?;
-            Ok(true)
+            named_holds_at(nodes, *slot, *inner, alloc, asked, found, steps)
         }
         Node::Attr(inner, names) => {
             Ok(holds_at(nodes, *inner, alloc, asked, found, steps)? && asked.has(names))
         }
         Node::Alt(members) => any_holds(nodes, members, alloc, asked, found, steps),
         Node::Multi(_) => Ok(false),
-        Node::Ancestrage(child, parent) => {
-            if !holds_at(nodes, *child, alloc, asked, found, steps)? {
-                return Ok(false);
-            }
-            let parents = asked.entry().parents();
-            if nodes.is_simple(*parent) {
-                return Ok(simple_holds_on(nodes, *parent, parents, steps));
-            }
-            Ok(candidates_on(nodes, *parent, alloc, parents, found, steps)?.is_some())
+        Node::Ancestrage(child, between, parent) => {
+            let holds = chain_holds_at(nodes, *child, between, alloc, asked, found, steps)?;
+            Ok(holds && holds_above(nodes, *parent, alloc, asked, found, steps)?)
         }
     }
+}
+
+// Whether the selector, called by the name of a slot, holds at an entry. Where it does, its
+// bindings and its own are added to `found`.
+#[cycle(evaluate)]
+fn named_holds_at<'e>(
+    nodes: &Nodes,
+    slot: usize,
+    number: usize,
+    alloc: Global,
+    asked: &Asked<'e>,
+    found: &mut Bindings<'e>,
+    steps: &mut Steps,
+) -> Result<bool, OutOfMemory>
+    requires { number < node_count nodes.now }
+    ensures answer { IfOk result (λ b. b ≡ holds (syntax_at nodes.now number) (view asked.now)) }
+    ensures bound { IfOk result (λ b. AddsAtIf nodes.now (view asked.now) found.old found.new
+        (binds (Binding (name_of (slot_names nodes.now) slot) (syntax_at nodes.now number))) b) }
+    ensures ticks { Ticks result steps.old steps.new
+        (calls (syntax_at nodes.now number) (view asked.now)) }
+{
+    if !holds_at(nodes, number, alloc, asked, found, steps)? {
+        return Ok(false);
+    }
+    found.bind(slot, asked.entry())?;
+    Ok(true)
+}
+
+// Whether the selector behind so many `!` holds at an entry. Nothing is added to `found`.
+#[cycle(evaluate)]
+fn negated_holds_at<'e>(
+    nodes: &Nodes,
+    number: usize,
+    others: usize,
+    alloc: Global,
+    asked: &Asked<'e>,
+    found: &mut Bindings<'e>,
+    steps: &mut Steps,
+) -> Result<bool, OutOfMemory>
+    requires { number < node_count nodes.now }
+    ensures answer { IfOk result (λ b. b ≡
+        holds (negations others (syntax_at nodes.now number)) (view asked.now)) }
+    ensures bound { IfOk result (λ _. AddsAt (slot_names nodes.now) (view asked.now)
+        found.old found.new []) }
+    ensures ticks { Ticks result steps.old steps.new
+        (calls (negations others (syntax_at nodes.now number)) (view asked.now)) }
+{
+    let before = found.len();
+    let holds = holds_at(nodes, number, alloc, asked, found, steps)?;
+    found.truncate(before);
+    Ok(turned(holds, others, steps))
+}
+
+// Whether the selector holds on the parents of an entry. Where it does, its bindings are added to
+// `found`.
+#[cycle(evaluate)]
+#[inline(always)]
+fn holds_above<'e>(
+    nodes: &Nodes,
+    number: usize,
+    alloc: Global,
+    asked: &Asked<'e>,
+    found: &mut Bindings<'e>,
+    steps: &mut Steps,
+) -> Result<bool, OutOfMemory>
+    requires { number < node_count nodes.now }
+    ensures answer { IfOk result
+        (λ b. b ≡ is_some (candidates (syntax_at nodes.now number) (parents (view asked.now)))) }
+    ensures bound { IfOk result (λ b. AddsOn (slot_names nodes.now) (parents (view asked.now))
+        found.old found.new
+        (if b then binds_on (syntax_at nodes.now number) (parents (view asked.now)) else [])) }
+    ensures ticks { Ticks result steps.old steps.new
+        (calls_on (syntax_at nodes.now number) (parents (view asked.now))) }
+{
+    let parents = asked.entry().parents();
+    if nodes.is_simple(number) {
+        return Ok(simple_holds_on(nodes, number, parents, steps));
+    }
+    Ok(candidates_on(nodes, number, alloc, parents, found, steps)?.is_some())
+}
+
+// Whether the selector with others behind it, each after a `>`, holds at an entry. Where it
+// doesn't, what its parts have bound may be left in `found`.
+#[cycle(evaluate)]
+fn chain_holds_at<'e>(
+    nodes: &Nodes,
+    first: usize,
+    others: &[usize],
+    alloc: Global,
+    asked: &Asked<'e>,
+    found: &mut Bindings<'e>,
+    steps: &mut Steps,
+) -> Result<bool, OutOfMemory>
+    requires first { first < node_count nodes.now }
+    requires others { above others.now ≤ node_count nodes.now }
+    ensures answer { IfOk result
+        (λ b. b ≡ holds (chain_at nodes.now first others.now) (view asked.now)) }
+    ensures bound { IfOk result (λ b. OnTrue b (AddsAt (slot_names nodes.now) (view asked.now)
+        found.old found.new (binds (chain_at nodes.now first others.now) (view asked.now)))) }
+    ensures kept { IfOk result (λ _. KeepsFound nodes.now found.old found.new) }
+    ensures ticks { Ticks result steps.old steps.new
+        (calls (chain_at nodes.now first others.now) (view asked.now)) }
+{
+    let mut holds = holds_at(nodes, first, alloc, asked, found, steps)?;
+    'others: for other in others {
+        steps.tick();
+        if !holds {
+            continue;
+        }
+        holds = holds_above(nodes, *other, alloc, asked, found, steps)?;
+    }
+    Ok(holds)
 }
 
 // Whether a member holds at an entry. The bindings of the first that does are added to `found`.
@@ -210,18 +317,12 @@ fn form_candidates_on<'e>(
     match nodes.at(number) {
         Node::Wildcard => Ok(all_places(parents)),
         Node::Entry(entry_type) => Ok(first_of_type(*entry_type, parents, steps)),
-        Node::Ancestrage(_, _) => first_alone(nodes, number, alloc, parents, found, steps),
-        Node::Neg(inner) => match candidates_on(nodes, *inner, alloc, parents, found, steps)? {
-            Some(_) => Ok(None),
-            None => Ok(Some(Candidates::Nothing)),
-        },
+        Node::Ancestrage(_, _, _) => first_alone(nodes, number, alloc, parents, found, steps),
+        Node::Neg(inner, others) => {
+            negated_on(nodes, *inner, *others, alloc, parents, found, steps)
+        }
         Node::Binding(slot, inner) => {
-            let Some(candidates) = candidates_on(nodes, *inner, alloc, parents, found, steps)?
-            else {
-                return Ok(None);
-            };
-            found.bind_first(*slot, parents, &candidates)?;
-            Ok(Some(Candidates::Nothing))
+            named_on(nodes, *slot, *inner, alloc, parents, found, steps)
         }
         Node::Attr(inner, names) => {
             let Some(candidates) = candidates_on(nodes, *inner, alloc, parents, found, steps)?
@@ -233,6 +334,64 @@ fn form_candidates_on<'e>(
         Node::Alt(members) => first_candidates_on(nodes, members, alloc, parents, found, steps),
         Node::Multi(members) => each_takes_one(nodes, members, alloc, parents, found, steps),
     }
+}
+
+// The places of the selector, called by the name of a slot, where it holds on the parents: none.
+// Its bindings and its own are added to `found` then.
+#[cycle(evaluate)]
+fn named_on<'e>(
+    nodes: &Nodes,
+    slot: usize,
+    number: usize,
+    alloc: Global,
+    parents: &'e [Entry],
+    found: &mut Bindings<'e>,
+    steps: &mut Steps,
+) -> Result<Option<Candidates>, OutOfMemory>
+    requires { number < node_count nodes.now }
+    ensures answer { GivesCandidates (views parents.now) result (candidates
+        (Binding (name_of (slot_names nodes.now) slot) (syntax_at nodes.now number))
+        (views parents.now)) }
+    ensures bound { IfOk result (AddsOnIf nodes.now (views parents.now) found.old found.new
+        (binds_on (Binding (name_of (slot_names nodes.now) slot)
+        (syntax_at nodes.now number)))) }
+    ensures ticks { Ticks result steps.old steps.new
+        (calls_on (syntax_at nodes.now number) (views parents.now)) }
+{
+    let Some(candidates) = candidates_on(nodes, number, alloc, parents, found, steps)? else {
+        return Ok(None);
+    };
+    found.bind_first(slot, parents, &candidates)?;
+    Ok(Some(Candidates::Nothing))
+}
+
+// The places of the selector behind so many `!` and one more, where it holds on the parents: none.
+// Nothing is added to `found`.
+#[cycle(evaluate)]
+fn negated_on<'e>(
+    nodes: &Nodes,
+    number: usize,
+    others: usize,
+    alloc: Global,
+    parents: &'e [Entry],
+    found: &mut Bindings<'e>,
+    steps: &mut Steps,
+) -> Result<Option<Candidates>, OutOfMemory>
+    requires { number < node_count nodes.now }
+    ensures answer { GivesCandidates (views parents.now) result (candidates
+        (Neg (negations others (syntax_at nodes.now number))) (views parents.now)) }
+    ensures bound { IfOk result (λ _. AddsOn (slot_names nodes.now) (views parents.now)
+        found.old found.new []) }
+    ensures ticks { Ticks result steps.old steps.new
+        (calls_on (negations others (syntax_at nodes.now number)) (views parents.now)) }
+{
+    let before = found.len();
+    let candidates = candidates_on(nodes, number, alloc, parents, found, steps)?;
+    found.truncate(before);
+    if !turned(candidates.is_some(), others, steps) {
+        return Ok(Some(Candidates::Nothing));
+    }
+    Ok(None)
 }
 
 // The places of the first member that holds on the parents, whose bindings are added to `found`.

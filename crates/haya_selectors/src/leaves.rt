@@ -72,29 +72,27 @@ pub(crate) fn leaf_holds_at(
     ensures ticks { MatchOption result (steps.new ≡ steps.old) (λ _.
         steps.new ≡ steps.old + calls (syntax_at nodes.now number) (view asked.now)) }
 {
+    if let Some(holds) = plain_holds_at(nodes, number, asked) {
+        steps.tick();
+        return Some(holds);
+    }
     match nodes.at(number) {
-        Node::Wildcard => {
-            steps.tick();
-            Some(true)
-        }
-        Node::Entry(entry_type) => {
-            steps.tick();
-            Some(asked.entry().entry_type() == *entry_type)
-        }
         Node::Attr(inner, names) => {
             let holds = plain_holds_at(nodes, *inner, asked)?;
             steps.tick();
             steps.tick();
             Some(holds && asked.has(names))
         }
-        Node::Neg(inner) => {
+        Node::Neg(inner, 0) => {
             let holds = plain_holds_at(nodes, *inner, asked)?;
             steps.tick();
             steps.tick();
             Some(!holds)
         }
         Node::Binding(_, inner) => fails_with(nodes, *inner, asked, steps),
-        Node::Ancestrage(child, _) => fails_with(nodes, *child, asked, steps),
+        Node::Ancestrage(child, between, _) if between.is_empty() => {
+            fails_with(nodes, *child, asked, steps)
+        }
         _ => None,
     }
 }

@@ -5,6 +5,7 @@ mod apply;
 mod bindings;
 mod bound_select;
 mod compiled;
+mod debug;
 mod equal;
 mod evaluate;
 pub mod laws;

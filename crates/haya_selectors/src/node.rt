@@ -8,10 +8,13 @@ use haya_entry::EntryType;
 pub(crate) enum Node {
     Wildcard,
     Entry(EntryType),
-    Neg(usize),
+    // As many `!` as stand on each other: what they stand before, and how many there are but one.
+    Neg(usize, usize),
     Binding(usize, usize),
     Attr(usize, NameSet),
     Alt(Vec<usize>),
     Multi(Vec<usize>),
-    Ancestrage(usize, usize),
+    // As many `>` as stand on the left side of each other: what stands before the first, between
+    // them, and behind the last.
+    Ancestrage(usize, Vec<usize>, usize),
 }

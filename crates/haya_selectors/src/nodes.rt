@@ -5,9 +5,9 @@ ghost use Rattle.std.specs.List.{list_all};
 ghost use Rattle.haya_selectors.specs.BoundNames.{bound_names, later_names, later_of};
 ghost use Rattle.haya_selectors.specs.Compiled.{above, all_fit, fits, name_of, node_syntax};
 ghost use Rattle.haya_selectors.specs.Marks.{AreMarked};
-ghost use Rattle.haya_selectors.specs.Side.{is_end, with_first, with_first_of};
+ghost use Rattle.haya_selectors.specs.Side.{is_end, is_over, with_first, with_first_of};
 ghost use Rattle.haya_selectors.specs.Simple.{has_plain_candidates, is_simple};
-ghost use Rattle.haya_selectors.specs.Syntax.{members_of, syntax, syntaxes};
+ghost use Rattle.haya_selectors.specs.Syntax.{Attr, Neg, members_of, syntax, syntaxes};
 
 use crate::Selector;
 use crate::names::NameSet;
@@ -35,7 +35,7 @@ pub(crate) struct Nodes {
 
 impl Nodes {
     ghost use Rattle.haya_selectors.specs.Nodes.{Adds, AddsNames, AreSlots, Keeps, NamesSlot};
-    ghost use Rattle.haya_selectors.specs.Nodes.{node_count, slot_names, syntax_at};
+    ghost use Rattle.haya_selectors.specs.Nodes.{chain_at, node_count, slot_names, syntax_at};
 
     // No nodes.
     pub(crate) fn new(alloc: Global) -> Nodes
@@ -103,11 +103,13 @@ impl Nodes {
     {
         match self.at(number) {
             Node::Wildcard | Node::Entry(_) => true,
-            Node::Neg(inner) => is_marked(known, *inner),
+            Node::Neg(inner, _) => is_marked(known, *inner),
             Node::Attr(inner, _) => self.has_plain_candidates(*inner) && is_marked(known, *inner),
             Node::Alt(members) => all_marked(known, members),
-            Node::Ancestrage(child, parent) => is_marked(known, *child)
-                && is_marked(known, *parent),
+            Node::Ancestrage(child, between, parent) => {
+                is_marked(known, *child)
+                    && (all_marked(known, between) && is_marked(known, *parent))
+            }
             Node::Binding(_, _) | Node::Multi(_) => false,
         }
     }
@@ -118,8 +120,8 @@ impl Nodes {
         ensures { result ≡ has_plain_candidates (syntax_at self.now number) }
     {
         match self.at(number) {
-            Node::Wildcard | Node::Entry(_) | Node::Neg(_) | Node::Ancestrage(_, _) => true,
-            _ => false,
+            Node::Binding(_, _) | Node::Attr(_, _) | Node::Alt(_) | Node::Multi(_) => false,
+            _ => true,
         }
     }
 
@@ -176,11 +178,49 @@ impl Nodes {
         ensures slots { OnOk result (AreSlots slots.new (slot_names self.new)) }
     {
         let (mut above, end) = selector.first_side(alloc)?;
-        let mut root = self.add_end(alloc, end)?;
+        let mut first = self.add_end(alloc, end)?;
+        let mut others = Vec::new(alloc);
         'up: while let Some(form) = above.pop() {
-            root = self.add_over(alloc, slots, form, root)?;
+            if let Selector::Ancestrage(_, parent) = form {
+                others.push(self.add(alloc, slots, parent)?)?;
+                continue;
+            }
+            first = self.add_chain(first, others)?;
+            others = Vec::new(alloc);
+            first = self.add_over(alloc, slots, form, first)?;
         }
-        Ok(root)
+        self.add_chain(first, others)
+    }
+
+    // Adds the node of a selector with others behind it, each after a `>`, where there are others.
+    fn add_chain(&mut self, first: usize, mut others: Vec<usize>) -> Result<usize, OutOfMemory>
+        requires first { first < node_count self.old }
+        requires others { above others.items ≤ node_count self.old }
+        ensures stands { IfOk result
+            (Adds self.old self.new (chain_at self.old first others.items)) }
+        ensures names { slot_names self.new ≡ slot_names self.old }
+    {
+        let Some(last) = others.pop() else {
+            return Ok(first);
+        };
+        self.push(Node::Ancestrage(first, others, last))
+    }
+
+    // A `!` before the selector of the node.
+    fn negation(&self, inner: usize) -> Result<Node, OutOfMemory>
+        requires { inner < node_count self.now }
+        ensures stands { IfOk result (λ node. Neg (syntax_at self.now inner) ≡
+            node_syntax (name_of (slot_names self.now)) (syntax_at self.now) node) }
+        ensures fits { IfOk result
+            (λ node. IsTrue (fits (length (slot_names self.now)) (node_count self.now) node)) }
+    {
+        match self.at(inner) {
+            Node::Neg(innermost, others) => {
+                let others = others.checked_add(1).ok_or(OutOfMemory)?;
+                Ok(Node::Neg(*innermost, others))
+            }
+            _ => Ok(Node::Neg(inner, 0)),
+        }
     }
 
     // Adds the node of a selector that has no first part.
@@ -201,7 +241,21 @@ impl Nodes {
         }
     }
 
-    // Adds the nodes of a selector whose first part is there: the node of that number.
+    // Adds the node of a bracket list behind the selector of the node.
+    fn add_attr(&mut self, first: usize, names: &Vec<String>) -> Result<usize, OutOfMemory>
+        requires { first < node_count self.old }
+        ensures stands { IfOk result (Adds self.old self.new
+            (Attr (syntax_at self.old first) (map string_bytes names.now.items))) }
+        ensures names { slot_names self.new ≡ slot_names self.old }
+    {
+        let names = NameSet::new(names);
+        self.asked_again |= self.asked & names.numbers();
+        self.asked |= names.numbers();
+        self.push(Node::Attr(first, names))
+    }
+
+    // Adds the nodes of a selector that is no `>`, and whose first part is there: the node of that
+    // number.
     #[cycle(compile)]
     fn add_over<'s>(
         &mut self,
@@ -211,6 +265,7 @@ impl Nodes {
         first: usize,
     ) -> Result<usize, OutOfMemory>
         requires inside { first < node_count self.old }
+        requires form { is_over (syntax selector.now) ≡ true }
         requires slots { AreSlots slots.old (slot_names self.old) }
         ensures stands { IfOk result (Adds self.old self.new
             (with_first (syntax selector.now) (syntax_at self.old first))) }
@@ -219,19 +274,15 @@ impl Nodes {
         ensures slots { OnOk result (AreSlots slots.new (slot_names self.new)) }
     {
         match selector {
-            Selector::Wildcard => self.push(Node::Wildcard),
-            Selector::Entry(entry_type) => self.push(Node::Entry(*entry_type)),
-            Selector::Neg(_) => self.push(Node::Neg(first)),
+            Selector::Neg(_) => {
+                let node = self.negation(first)?;
+                self.push(node)
+            }
             Selector::Binding(name, _) => {
                 let slot = self.slot_of(alloc, slots, name.as_str())?;
                 self.push(Node::Binding(slot, first))
             }
-            Selector::Attr(_, names) => {
-                let names = NameSet::new(names);
-                self.asked_again |= self.asked & names.numbers();
-                self.asked |= names.numbers();
-                self.push(Node::Attr(first, names))
-            }
+            Selector::Attr(_, names) => self.add_attr(first, names),
             Selector::Alt(members) => {
                 let members = self.add_all(alloc, slots, first, members)?;
                 self.push(Node::Alt(members))
@@ -240,10 +291,7 @@ impl Nodes {
                 let members = self.add_all(alloc, slots, first, members)?;
                 self.push(Node::Multi(members))
             }
-            Selector::Ancestrage(_, parent) => {
-                let parent = self.add(alloc, slots, parent)?;
-                self.push(Node::Ancestrage(first, parent))
-            }
+            Selector::Wildcard | Selector::Entry(_) | Selector::Ancestrage(_, _) => unreachable!(),
         }
     }
 

@@ -1,39 +1,70 @@
 //! Reads a selector: a function for each form.
 ghost use Rattle.std.specs.Prelude.{◌≡◌, ◌≤◌, ◌∷◌, IfErr, IfOk, None, length};
+ghost use Rattle.haya_selectors.specs.declared.token.Sign.TheVariants.{Colon, ExclamationMark};
+ghost use Rattle.haya_selectors.specs.declared.token.Sign.TheVariants.{LeftParen};
 ghost use Rattle.haya_selectors.specs.Fault.{fault};
 ghost use Rattle.haya_selectors.specs.Grammar.{ValueForm, FactorForm, AttributesForm, BindingForm};
 ghost use Rattle.haya_selectors.specs.Grammar.{TermForm, ExprForm};
-ghost use Rattle.haya_selectors.specs.Parser.{Gives, GivesNames, GivesRun, negations};
-ghost use Rattle.haya_selectors.specs.Syntax.{syntax};
-ghost use Rattle.haya_selectors.specs.Token.{Word};
+ghost use Rattle.haya_selectors.specs.Parser.{Gives, GivesNames, GivesRun, after_signs};
+ghost use Rattle.haya_selectors.specs.Syntax.{Ancestrage, negations, syntax};
+ghost use Rattle.haya_selectors.specs.Token.{BeginsNot, SignToken, Word};
 
 use crate::token::{Sign, Tokens};
 use crate::{Selector, SelectorError};
 use haya_entry::{EntryType, UnknownType};
+use haya_text::OutOfMemory;
 use std::alloc::Global;
 use std::str::FromStr;
 
+// What a form was read as. What goes on behind the form takes it whole, with its fault, so that a
+// function which each `(` goes through holds little else.
+type Read = Result<Selector, SelectorError>;
+
 // Terms with `>` between.
 #[cycle(parser)]
-pub(crate) fn expr(alloc: Global, tokens: &mut Tokens<'_>) -> Result<Selector, SelectorError>
+pub(crate) fn expr(alloc: Global, tokens: &mut Tokens<'_>) -> Read
     ensures value { Gives ExprForm tokens.old tokens.new result }
     ensures shorter { length tokens.new ≤ length tokens.old }
 {
-    let mut left = term(alloc, tokens)?;
+    let first = term(alloc, tokens);
+    chain(alloc, tokens, first)
+}
+
+// The terms behind the first, each after a `>`.
+#[cycle(parser)]
+#[inline(never)]
+fn chain(alloc: Global, tokens: &mut Tokens<'_>, first: Read) -> Read
+    ensures value { (ts : _) →
+        Gives TermForm ts tokens.old first → Gives ExprForm ts tokens.new result }
+    ensures shorter { length tokens.new ≤ length tokens.old }
+{
+    let mut left = first?;
     'chain: while tokens.eat_sign(Sign::Chevron) {
         let right = term(alloc, tokens)?;
-        left = Selector::Ancestrage(Box::new(alloc, left)?, Box::new(alloc, right)?);
+        left = behind(alloc, left, right)?;
     }
     Ok(left)
 }
 
 // Bindings with `|` or `&` between.
 #[cycle(parser)]
-fn term(alloc: Global, tokens: &mut Tokens<'_>) -> Result<Selector, SelectorError>
+fn term(alloc: Global, tokens: &mut Tokens<'_>) -> Read
     ensures value { Gives TermForm tokens.old tokens.new result }
     ensures shorter { length tokens.new ≤ length tokens.old }
 {
-    let mut left = binding(alloc, tokens)?;
+    let first = binding(alloc, tokens);
+    runs(alloc, tokens, first)
+}
+
+// The bindings behind the first, each after a `|` or `&`.
+#[cycle(parser)]
+#[inline(never)]
+fn runs(alloc: Global, tokens: &mut Tokens<'_>, first: Read) -> Read
+    ensures value { (ts : _) →
+        Gives BindingForm ts tokens.old first → Gives TermForm ts tokens.new result }
+    ensures shorter { length tokens.new ≤ length tokens.old }
+{
+    let mut left = first?;
     'runs: loop {
         if tokens.eat_sign(Sign::Pipe) {
             left = Selector::Alt(run(alloc, tokens, left, Sign::Pipe)?);
@@ -69,24 +100,46 @@ fn run(
 
 // Attributes, with a name and `:` before them or not.
 #[cycle(parser)]
-fn binding(alloc: Global, tokens: &mut Tokens<'_>) -> Result<Selector, SelectorError>
+fn binding(alloc: Global, tokens: &mut Tokens<'_>) -> Read
     ensures value { Gives BindingForm tokens.old tokens.new result }
     ensures shorter { length tokens.new ≤ length tokens.old }
 {
     let Some(name) = tokens.eat_name() else {
         return attributes(alloc, tokens);
     };
-    let inner = attributes(alloc, tokens)?;
-    Ok(Selector::Binding(String::from_str(alloc, name)?, Box::new(alloc, inner)?))
+    let inner = attributes(alloc, tokens);
+    called(alloc, name, inner)
+}
+
+// Attributes, called by a name.
+#[inline(never)]
+fn called(alloc: Global, name: &str, inner: Read) -> Read
+    ensures { (ts after : _) → Gives AttributesForm ts after inner →
+        Gives BindingForm (Word name.now ∷ SignToken Colon ∷ ts) after result }
+{
+    let inner = inner?;
+    let name = String::from_str(alloc, name)?;
+    Ok(Selector::Binding(name, Box::new(alloc, inner)?))
 }
 
 // A factor, with a bracket list behind it or not.
 #[cycle(parser)]
-fn attributes(alloc: Global, tokens: &mut Tokens<'_>) -> Result<Selector, SelectorError>
+fn attributes(alloc: Global, tokens: &mut Tokens<'_>) -> Read
     ensures value { Gives AttributesForm tokens.old tokens.new result }
     ensures shorter { length tokens.new ≤ length tokens.old }
 {
-    let inner = factor(alloc, tokens)?;
+    let inner = factor(alloc, tokens);
+    listed(alloc, tokens, inner)
+}
+
+// A factor that was read, with a bracket list behind it or not.
+#[inline(never)]
+fn listed(alloc: Global, tokens: &mut Tokens<'_>, inner: Read) -> Read
+    ensures value { (ts : _) →
+        Gives FactorForm ts tokens.old inner → Gives AttributesForm ts tokens.new result }
+    ensures shorter { length tokens.new ≤ length tokens.old }
+{
+    let inner = inner?;
     if !tokens.eat_sign(Sign::LeftBracket) {
         return Ok(inner);
     }
@@ -96,20 +149,29 @@ fn attributes(alloc: Global, tokens: &mut Tokens<'_>) -> Result<Selector, Select
 
 // A value, behind any number of `!`: they are counted, so that none of them costs a call.
 #[cycle(parser)]
-fn factor(alloc: Global, tokens: &mut Tokens<'_>) -> Result<Selector, SelectorError>
+fn factor(alloc: Global, tokens: &mut Tokens<'_>) -> Read
     ensures value { Gives FactorForm tokens.old tokens.new result }
     ensures shorter { length tokens.new ≤ length tokens.old }
 {
     let mut signs: usize = 0;
     'signs: while tokens.eat_sign(Sign::ExclamationMark) {
-        signs = signs.checked_add(1).ok_or(SelectorError::OutOfMemory)?;
+        signs = signs.checked_add(1).ok_or(OutOfMemory)?;
     }
-    let inner = value(alloc, tokens)?;
-    negated(alloc, inner, signs)
+    let inner = value(alloc, tokens);
+    signed(alloc, signs, inner)
+}
+
+// A value, behind so many `!`.
+#[inline(never)]
+fn signed(alloc: Global, signs: usize, inner: Read) -> Read
+    ensures { (ts after : _) → BeginsNot ExclamationMark ts → Gives ValueForm ts after inner →
+        Gives FactorForm (after_signs signs ts) after result }
+{
+    negated(alloc, inner?, signs)
 }
 
 // The selector behind so many `!`.
-fn negated(alloc: Global, inner: Selector, signs: usize) -> Result<Selector, SelectorError>
+fn negated(alloc: Global, inner: Selector, signs: usize) -> Read
     ensures value { IfOk result (λ s. syntax s ≡ negations signs (syntax inner)) }
     ensures fault { IfErr result (λ e. fault e ≡ None) }
 {
@@ -124,17 +186,37 @@ fn negated(alloc: Global, inner: Selector, signs: usize) -> Result<Selector, Sel
 
 // A selector in parentheses, `*` or a type.
 #[cycle(parser)]
-fn value(alloc: Global, tokens: &mut Tokens<'_>) -> Result<Selector, SelectorError>
+fn value(alloc: Global, tokens: &mut Tokens<'_>) -> Read
     ensures value { Gives ValueForm tokens.old tokens.new result }
     ensures shorter { length tokens.new ≤ length tokens.old }
 {
-    if tokens.eat_sign(Sign::LeftParen) {
-        let inner = expr(alloc, tokens)?;
-        if !tokens.eat_sign(Sign::RightParen) {
-            return Err(SelectorError::UnbalancedParens);
-        }
-        return Ok(inner);
+    if !tokens.eat_sign(Sign::LeftParen) {
+        return leaf(alloc, tokens);
     }
+    let inner = expr(alloc, tokens);
+    closed(tokens, inner)
+}
+
+// What was read behind a `(`, and the `)` behind it.
+#[inline(never)]
+fn closed(tokens: &mut Tokens<'_>, inner: Read) -> Read
+    ensures value { (ts : _) → Gives ExprForm ts tokens.old inner →
+        Gives ValueForm (SignToken LeftParen ∷ ts) tokens.new result }
+    ensures shorter { length tokens.new ≤ length tokens.old }
+{
+    let inner = inner?;
+    if !tokens.eat_sign(Sign::RightParen) {
+        return Err(SelectorError::UnbalancedParens);
+    }
+    Ok(inner)
+}
+
+// `*` or a type.
+#[inline(never)]
+fn leaf(alloc: Global, tokens: &mut Tokens<'_>) -> Read
+    ensures value { BeginsNot LeftParen tokens.old → Gives ValueForm tokens.old tokens.new result }
+    ensures shorter { length tokens.new ≤ length tokens.old }
+{
     if tokens.eat_sign(Sign::Star) {
         return Ok(Selector::Wildcard);
     }
@@ -144,8 +226,17 @@ fn value(alloc: Global, tokens: &mut Tokens<'_>) -> Result<Selector, SelectorErr
     entry_type(alloc, name)
 }
 
+// What `parent` picks behind what `child` picks.
+#[inline(never)]
+fn behind(alloc: Global, child: Selector, parent: Selector) -> Result<Selector, OutOfMemory>
+    ensures { IfOk result (λ s. syntax s ≡ Ancestrage (syntax child) (syntax parent)) }
+{
+    let child = Box::new(alloc, child)?;
+    Ok(Selector::Ancestrage(child, Box::new(alloc, parent)?))
+}
+
 // The type that an identifier names, in upper or lower case.
-fn entry_type(alloc: Global, name: &str) -> Result<Selector, SelectorError>
+fn entry_type(alloc: Global, name: &str) -> Read
     ensures { (rest : _) → Gives ValueForm (Word name.now ∷ rest) rest result }
 {
     let lower = name.to_ascii_lowercase(alloc)?;

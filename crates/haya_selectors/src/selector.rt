@@ -1,7 +1,7 @@
 //! Selectors, and the texts that they are read from.
 ghost use Rattle.std.specs.Prelude.{◌≡◌};
 ghost use Rattle.std.specs.Str.{chars};
-ghost use Rattle.haya_selectors.specs.declared.selector.SelectorError.TheVariants.{OutOfMemory as OutOfMemoryError};
+ghost use Rattle.haya_selectors.specs.declared.selector.SelectorError.TheVariants as fault;
 ghost use Rattle.haya_selectors.specs.Reading.{IsRead, TextGives};
 
 use crate::parse::expr;
@@ -12,7 +12,6 @@ use std::alloc::{AllocError, AllocFailed, Global};
 use thiserror::Error;
 
 /// Which entries are meant, and what their parts are called.
-#[derive(Debug)]
 pub enum Selector {
     /// `*`: any entry.
     Wildcard,
@@ -96,7 +95,7 @@ pub enum SelectorError {
 }
 
 impl From<OutOfMemory> for SelectorError {
-    ghost from_gives = { λ _ e. e ≡ OutOfMemoryError };
+    ghost from_gives = { λ _ e. e ≡ fault.OutOfMemory };
 
     fn from(_error: OutOfMemory) -> SelectorError {
         SelectorError::OutOfMemory
@@ -104,7 +103,7 @@ impl From<OutOfMemory> for SelectorError {
 }
 
 impl From<AllocError> for SelectorError {
-    ghost from_gives = { λ _ e. e ≡ OutOfMemoryError };
+    ghost from_gives = { λ _ e. e ≡ fault.OutOfMemory };
 
     fn from(_error: AllocError) -> SelectorError {
         SelectorError::OutOfMemory
@@ -112,7 +111,7 @@ impl From<AllocError> for SelectorError {
 }
 
 impl<T: Drop> From<AllocFailed<T>> for SelectorError {
-    ghost from_gives = { λ _ e. e ≡ OutOfMemoryError };
+    ghost from_gives = { λ _ e. e ≡ fault.OutOfMemory };
 
     fn from(_error: AllocFailed<T>) -> SelectorError {
         SelectorError::OutOfMemory

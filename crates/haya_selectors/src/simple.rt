@@ -5,10 +5,10 @@ ghost use Rattle.std.specs.Prelude.{◌∷◌, [], option_and_then, option_map, 
 ghost use Rattle.haya_entry.specs.Tree.{view};
 ghost use Rattle.haya_selectors.specs.Calls.{calls, calls_on, first_calls, first_calls_on};
 ghost use Rattle.haya_selectors.specs.Compiled.{above};
-ghost use Rattle.haya_selectors.specs.Evaluation.{views};
+ghost use Rattle.haya_selectors.specs.Evaluation.{turned, views};
 ghost use Rattle.haya_selectors.specs.Holds.{candidates, first_candidates, holds, kept_places};
 ghost use Rattle.haya_selectors.specs.Holds.{some_holds};
-ghost use Rattle.haya_selectors.specs.Nodes.{members_at, node_count, syntax_at};
+ghost use Rattle.haya_selectors.specs.Nodes.{chain_at, members_at, node_count, syntax_at};
 ghost use Rattle.haya_selectors.specs.Places.{items_up_to};
 ghost use Rattle.haya_selectors.specs.Simple.{all_simple, has_plain_candidates, is_simple};
 
@@ -52,13 +52,15 @@ fn whole_simple_holds_at(nodes: &Nodes, number: usize, asked: &Asked, steps: &mu
     match nodes.at(number) {
         Node::Wildcard => true,
         Node::Entry(entry_type) => asked.entry().entry_type() == *entry_type,
-        Node::Neg(inner) => !simple_holds_at(nodes, *inner, asked, steps),
+        Node::Neg(inner, others) => {
+            !turned(simple_holds_at(nodes, *inner, asked, steps), *others, steps)
+        }
         Node::Attr(inner, names) => {
             simple_holds_at(nodes, *inner, asked, steps) && asked.has(names)
         }
         Node::Alt(members) => any_simple_holds_at(nodes, members, asked, steps),
-        Node::Ancestrage(child, parent) => {
-            simple_holds_at(nodes, *child, asked, steps)
+        Node::Ancestrage(child, between, parent) => {
+            simple_chain_holds_at(nodes, *child, between, asked, steps)
                 && simple_holds_on(nodes, *parent, asked.entry().parents(), steps)
         }
         Node::Binding(_, _) | Node::Multi(_) => false,
@@ -82,6 +84,34 @@ fn any_simple_holds_at(nodes: &Nodes, members: &[usize], asked: &Asked, steps: &
     false
 }
 
+// Whether a simple selector with others behind it, each after a `>`, holds at an entry.
+#[cycle(simple)]
+fn simple_chain_holds_at(
+    nodes: &Nodes,
+    first: usize,
+    others: &[usize],
+    asked: &Asked,
+    steps: &mut Steps,
+) -> bool
+    requires first { first < node_count nodes.now }
+    requires others { above others.now ≤ node_count nodes.now }
+    requires simple { IsTrue (is_simple (chain_at nodes.now first others.now)) }
+    ensures answer { result ≡ holds (chain_at nodes.now first others.now) (view asked.now) }
+    ensures ticks { steps.new ≡
+        steps.old + calls (chain_at nodes.now first others.now) (view asked.now) }
+{
+    let mut holds = simple_holds_at(nodes, first, asked, steps);
+    let parents = asked.entry().parents();
+    'others: for other in others {
+        steps.tick();
+        if !holds {
+            continue;
+        }
+        holds = simple_holds_on(nodes, *other, parents, steps);
+    }
+    holds
+}
+
 // Whether a simple selector holds on a list of parents.
 #[cycle(simple)]
 pub(crate) fn simple_holds_on(
@@ -101,10 +131,16 @@ pub(crate) fn simple_holds_on(
     match nodes.at(number) {
         Node::Wildcard => !parents.is_empty(),
         Node::Entry(entry_type) => place_of_type(*entry_type, parents, steps).is_some(),
-        Node::Neg(inner) => !simple_holds_on(nodes, *inner, parents, steps),
+        Node::Neg(inner, others) => {
+            !turned(
+                simple_holds_on(nodes, *inner, parents, steps),
+                *others,
+                steps,
+            )
+        }
         Node::Attr(inner, names) => simple_has_on(nodes, *inner, names, parents, steps),
         Node::Alt(members) => any_simple_holds_on(nodes, members, parents, steps),
-        Node::Ancestrage(_, _) => first_simple(nodes, number, parents, steps).is_some(),
+        Node::Ancestrage(_, _, _) => first_simple(nodes, number, parents, steps).is_some(),
         Node::Binding(_, _) | Node::Multi(_) => false,
     }
 }
@@ -159,7 +195,7 @@ fn simple_has_on(
             steps.tick();
             has_all_there(names, parents, place_of_type(*entry_type, parents, steps))
         }
-        Node::Ancestrage(_, _) => {
+        Node::Ancestrage(_, _, _) => {
             steps.tick();
             has_all_there(names, parents, first_simple(nodes, number, parents, steps))
         }
@@ -183,6 +219,21 @@ fn first_simple(nodes: &Nodes, number: usize, parents: &[Entry], steps: &mut Ste
         }
     }
     None
+}
+
+// A truth value behind so many `!`, of which each is a step.
+pub(crate) fn turned(value: bool, signs: usize, steps: &mut Steps) -> bool
+    ensures answer { result ≡ turned signs value }
+    ensures ticks { steps.new ≡ steps.old + signs }
+{
+    let mut result = value;
+    let mut left = signs;
+    'signs: while left > 0 {
+        steps.tick();
+        result = !result;
+        left -= 1;
+    }
+    result
 }
 
 // Whether there is a parent at the place, if there is one, with every name.

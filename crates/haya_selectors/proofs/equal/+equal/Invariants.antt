@@ -18,11 +18,14 @@ invariant-all_equal-members l =
     syntaxes_eq (members_of (drop l.i l.left)) (members_of (drop l.i l.right))
     ≡ syntaxes_eq (members_of l.left) (members_of l.right)
 
+abbrev pub decreases-next_pair : goal.decreases-next_pair
+decreases-next_pair l = 4 * size-Selector l.left.now
+
 abbrev pub decreases-SelectorPartialEq::eq : goal.decreases-SelectorPartialEq::eq
-decreases-SelectorPartialEq::eq l = 3 * size-Selector l.self.now
+decreases-SelectorPartialEq::eq l = 4 * size-Selector l.self.now + 1
 
 abbrev pub decreases-all_equal : goal.decreases-all_equal
-decreases-all_equal l = 3 * most size-Selector l.left.now + 1
+decreases-all_equal l = 4 * most size-Selector l.left.now + 2
 
 abbrev pub decreases-first_pair : goal.decreases-first_pair
-decreases-first_pair l = 3 * most size-Selector l.left.now + 2
+decreases-first_pair l = 4 * most size-Selector l.left.now + 3

@@ -1,4 +1,4 @@
-use Rattle.std.proofs.Common.{rules, refl, ℕ, List, ◌≡◌, ◌+◌, ◌-◌, ◌++◌, length, true, Some, [], ◌∷◌, drop, map, append-nil, append_assoc, arith, sym, ap, ◌∙◌}
+use Rattle.std.proofs.Common.{rules, refl, ℕ, List, ◌≡◌, ◌+◌, ◌-◌, ◌++◌, length, true, Some, [], ◌∷◌, drop, false, map, take, append-nil, append_assoc, arith, sym, ap, ◌∙◌}
 use Rattle.std.specs.Prelude.{Ok, is_some, option_map, position, slice_index_or, sum, sum_by}
 use Rattle.std.proofs.Math.Bool.{and-true, and_assoc, or_assoc}
 use Rattle.std.proofs.Math.ListN.{drop_of_length-le}
@@ -8,13 +8,13 @@ use Rattle.std.proofs.lemmas.List.Sums.{sum_by-cons}
 use Rattle.std.proofs.lemmas.Result.{MatchResult-from_err}
 use Rattle.haya_entry.specs.Tree.{parents, view}
 use Rattle.haya_selectors.specs.Binds.{binds, binds_on, first_binds, pairs_at_first}
-use Rattle.haya_selectors.specs.Evaluation.{pairs_view}
+use Rattle.haya_selectors.specs.Evaluation.{AddsAt, pairs_view, turned}
 use Rattle.haya_selectors.specs.Calls.{calls, first_calls}
 use Rattle.haya_selectors.specs.Holds.{holds}
 use Rattle.haya_selectors.specs.Places.{items_up_to}
 use Rattle.haya_selectors.specs.Candidates.{candidate_places}
-use Rattle.haya_selectors.specs.Nodes.{members_at, slot_names, syntax_at}
-use Rattle.haya_selectors.specs.Syntax.{Syntax, Ancestrage}
+use Rattle.haya_selectors.specs.Nodes.{chain_at, members_at, slot_names, syntax_at}
+use Rattle.haya_selectors.specs.Syntax.{Syntax, Ancestrage, chained}
 use Rattle.haya_selectors.specs.Tries.{all_found, all_held, all_joined, all_tried, tried}
 use Rattle.haya_selectors.proofs.Bounds.{ticks_more}
 use Rattle.haya_selectors.proofs.Walks.{walked, next_of_map, place_is, met_any, met_yes, met_no, to_find_all}
@@ -22,9 +22,11 @@ use Rattle.haya_selectors.proofs.Kept.{any-map}
 use Rattle.haya_selectors.proofs.Tried.{ByRows, by_rows, piece_length, settled}
 use Rattle.haya_selectors.proofs.Pieces.{length_all_joined}
 use Rattle.haya_selectors.proofs.Paths.{bound_under, candidates_places, resolved_led}
+use Rattle.haya_selectors.proofs.Options.{is_some-map}
 use Rattle.haya_selectors.proofs.NodeLists.{above_at, left_more}
-use Rattle.haya_selectors.proofs.CutBack.{added_at, added_on, cut_back}
-use Rattle.haya_selectors.proofs.Simples.{binds-simple, chain_binds, either}
+use Rattle.haya_selectors.proofs.CutBack.{added_at, added_on, cut_back, kept_added, kept_more}
+use Rattle.haya_selectors.proofs.Simples.{binds-simple, binds_on-simple, either}
+use Rattle.haya_selectors.proofs.Chains.{calls-negations, calls_on-negations, calls_up_to, chain_fails, chain_goes_on, chained_more, holds-negations, negated_none, negated_some, on_false}
 use Rattle.haya_selectors.proofs.evaluate.+evaluate.Goals as goal
 
 pub each_takes_one-try_at_each-requires : goal.each_takes_one-try_at_each-requires
@@ -248,11 +250,11 @@ each_takes_one-returns-in_err-each_holds-clause-ticks t c =
     let inv = rw l at c.loop-member.invariant in
     MatchResult-from_err c.from_residual.result _ _ (search rules) (λ _. omega (arith, inv.3, c.in_err-each_holds.ensures.ticks))
 
-pub form_candidates_on-bind_first-requires : goal.form_candidates_on-bind_first-requires
-form_candidates_on-bind_first-requires t c =
+pub named_on-bind_first-requires : goal.named_on-bind_first-requires
+named_on-bind_first-requires t c =
     let xs = map view c.args.parents.now in
-    let e = rw c.in-Some-2.is at c.in_ok-candidates-in-Binding.ensures.answer in
-    candidates_places (syntax_at c.args.nodes.now c.in-Binding.inner) c.args.parents.now (candidate_places xs c.in-Some-2.candidates) e
+    let e = rw c.in-Some.is at c.in_ok-candidates.ensures.answer in
+    candidates_places (syntax_at c.args.nodes.now c.args.number) c.args.parents.now (candidate_places xs c.in-Some.candidates) e
 
 pub form_candidates_on-returns-in-Ancestrage-clause-answer : goal.form_candidates_on-returns-in-Ancestrage-clause-answer
 form_candidates_on-returns-in-Ancestrage-clause-answer t c =
@@ -264,7 +266,7 @@ form_candidates_on-returns-in-Ancestrage-clause-bound t c =
     let nodes = c.args.nodes.now in
     let f = syntax_at nodes in
     let xs = map view c.args.parents.now in
-    let s = Ancestrage (f c.in-Ancestrage.field-0) (f c.in-Ancestrage.field-1) in
+    let s = Ancestrage (chained (f c.in-Ancestrage.field-0) (map f c.in-Ancestrage.field-1.items)) (f c.in-Ancestrage.field-2) in
     let e = rw c.in-Ancestrage.is at c.at.ensures.stands in
     rw e (added_on nodes c.args.found.now c.first_alone.result c.first_alone.new.found xs (pairs_at_first (holds s) (binds s)) (binds_on s xs) refl (rw e at c.first_alone.ensures.bound))
 
@@ -272,7 +274,7 @@ pub form_candidates_on-returns-in-Ancestrage-clause-ticks : goal.form_candidates
 form_candidates_on-returns-in-Ancestrage-clause-ticks t c =
     let xs = map view c.args.parents.now in
     let f = syntax_at c.args.nodes.now in
-    let s = Ancestrage (f c.in-Ancestrage.field-0) (f c.in-Ancestrage.field-1) in
+    let s = Ancestrage (chained (f c.in-Ancestrage.field-0) (map f c.in-Ancestrage.field-1.items)) (f c.in-Ancestrage.field-2) in
     let e = rw c.in-Ancestrage.is at c.at.ensures.stands in
     let h = rw c.tick.ensures at c.first_alone.ensures.ticks in
     rw e (ticks_more c.first_alone.result c.args.steps.now c.first_alone.new.steps (sum_by (calls s) (items_up_to (holds s) xs)) (rw e at h))
@@ -315,33 +317,156 @@ form_holds_at-returns-in-Alt-clause-ticks t c =
     ap (λ (ns : List ℕ). 1 + first_calls (members_at nodes ns) x) c.deref.ensures.value ∙ sym (ap (λ (s : Syntax). calls s x) stands) in
     rw (← e) (ticks_more c.any_holds.result c.args.steps.now c.any_holds.new.steps (first_calls ss x) (rw c.tick.ensures at c.any_holds.ensures.ticks))
 
-pub form_holds_at-returns-in_ok-candidates_on-in-Ancestrage-clause-bound : goal.form_holds_at-returns-in_ok-candidates_on-in-Ancestrage-clause-bound
-form_holds_at-returns-in_ok-candidates_on-in-Ancestrage-clause-bound t c =
-    let f = syntax_at c.args.nodes.now in
-    let l = f c.in-Ancestrage.child in
-    let r = f c.in-Ancestrage.parent in
-    let x = view c.args.asked.now in
-    let b : c.in_ok-holds_at-in-Ancestrage.field-0 ≡ true = search rules in
-    let h = rw b at c.in_ok-holds_at-in-Ancestrage.ensures.bound in
-    let stands = rw c.in-Ancestrage.is at c.at.ensures.stands in
-    let above_x = c.parents-parents.ensures ∙ ap (λ e. parents (view e)) c.entry-in-Ancestrage.ensures in
-    OnTrue_from c.is_some.result _ (λ e.
-    let o : is_some c.in_ok-candidates_on-in-Ancestrage.field-0 ≡ true = sym c.is_some.ensures ∙ e in
-    let k = rw o at c.in_ok-candidates_on-in-Ancestrage.ensures.bound in
-    rw stands (bound_under l r x (map view c.parents-parents.result.now) _ _ _ above_x h k))
-
-pub form_holds_at-returns-then-is_simple-clause-bound : goal.form_holds_at-returns-then-is_simple-clause-bound
-form_holds_at-returns-then-is_simple-clause-bound t c =
-    let f = syntax_at c.args.nodes.now in
-    let x = view c.args.asked.now in
-    let b : c.in_ok-holds_at-in-Ancestrage.field-0 ≡ true = search rules in
-    let h = rw b at c.in_ok-holds_at-in-Ancestrage.ensures.bound in
-    let stands = rw c.in-Ancestrage.is at c.at.ensures.stands in
-    let e = chain_binds (f c.args.number) (f c.in-Ancestrage.child) (f c.in-Ancestrage.parent) x stands (c.is_simple.ensures c.if-is_simple.true) in
-    OnTrue_from c.simple_holds_on.result _ (λ _. rw (← e) h)
-
 pub whole_holds_at-returns-then-is_simple-clause-bound : goal.whole_holds_at-returns-then-is_simple-clause-bound
 whole_holds_at-returns-then-is_simple-clause-bound t c =
     let s = syntax_at c.args.nodes.now c.args.number in
     let x = view c.args.asked.now in
     rw (either c.simple_holds_at.result (binds s x) [] [] (binds-simple s x (c.is_simple.ensures c.if-is_simple.true)) refl) (sym (append-nil _))
+
+pub chain_holds_at-others-preserved-then-not-holds : goal.chain_holds_at-others-preserved-then-not-holds
+chain_holds_at-others-preserved-then-not-holds t c =
+    let f = syntax_at c.args.nodes.now in
+    let x = view c.args.asked.now in
+    let ns = c.args.others.now in
+    let i = c.others.other-index in
+    let s = f c.args.first in
+    let inv = c.others.invariant in
+    let more = chained_more f s ns i (omega arith) in
+    let no : c.others.holds ≡ false = search rules in
+    let here = chain_fails (chained s (map f (take i ns))) (f (slice_index_or ns i 0)) _ x c.others.holds more inv.0 no in
+    (here.0, omega (arith, here.1, inv.1, c.tick.ensures), inv.2, on_false _ c.others.holds no)
+
+pub chain_holds_at-others-preserved : goal.chain_holds_at-others-preserved
+chain_holds_at-others-preserved t c =
+    let nodes = c.args.nodes.now in
+    let f = syntax_at nodes in
+    let x = view c.args.asked.now in
+    let ns = c.args.others.now in
+    let i = c.others.other-index in
+    let s = f c.args.first in
+    let so_far = chained s (map f (take i ns)) in
+    let r = f (slice_index_or ns i 0) in
+    let inv = c.others.invariant in
+    let more = chained_more f s ns i (omega arith) in
+    let yes : c.others.holds ≡ true = search rules in
+    let h = c.in_ok-holds-2.ensures in
+    let on = chain_goes_on so_far r _ x c.others.holds more inv.0 yes _ h.answer in
+    let bound = rw yes at inv.3 in (
+      on.0,
+      omega (arith, on.1, inv.1, c.tick.ensures, h.ticks),
+      kept_more nodes c.args.found.now c.others.found c.holds_above.new.found _ inv.2 h.bound,
+      OnTrue_from c.in_ok-holds-2.holds (AddsAt (slot_names nodes) x c.args.found.now c.holds_above.new.found (binds (chain_at nodes c.args.first (take (i + 1) ns)) x)) (λ e. rw more (bound_under so_far r x (parents x) _ _ _ refl bound (rw e at h.bound))),
+    )
+
+pub chain_holds_at-returns-in_err-holds-2-clause-ticks : goal.chain_holds_at-returns-in_err-holds-2-clause-ticks
+chain_holds_at-returns-in_err-holds-2-clause-ticks t c =
+    let f = syntax_at c.args.nodes.now in
+    let x = view c.args.asked.now in
+    let ns = c.args.others.now in
+    let i = c.others.other-index in
+    let s = f c.args.first in
+    let so_far = chained s (map f (take i ns)) in
+    let r = f (slice_index_or ns i 0) in
+    let yes : c.others.holds ≡ true = search rules in
+    let on = chain_goes_on so_far r _ x c.others.holds (chained_more f s ns i (omega arith)) c.others.invariant.0 yes _ refl in
+    let most = calls_up_to f s ns (i + 1) x in
+    MatchResult-from_err c.from_residual-in_err-holds-2.result _ _ (search rules) (λ _. omega (arith, on.1, most, c.others.invariant.1, c.tick.ensures, c.in_err-holds-2.ensures.ticks))
+
+pub chain_holds_at-returns-in_err-holds-clause-ticks : goal.chain_holds_at-returns-in_err-holds-clause-ticks
+chain_holds_at-returns-in_err-holds-clause-ticks t c =
+    let f = syntax_at c.args.nodes.now in
+    let most = calls_up_to f (f c.args.first) c.args.others.now 0 (view c.args.asked.now) in
+    MatchResult-from_err c.from_residual.result _ _ (search rules) (λ _. omega (arith, most, c.in_err-holds.ensures.ticks))
+
+pub chain_holds_at-holds_at-requires : goal.chain_holds_at-holds_at-requires
+chain_holds_at-holds_at-requires t c = (omega (arith, c.decreases), c.requires.first)
+
+pub chain_holds_at-holds_above-requires : goal.chain_holds_at-holds_above-requires
+chain_holds_at-holds_above-requires t c =
+    let m = above_at c.args.others.now c.others.other-index (omega arith) in
+    (omega (arith, m, c.decreases), omega (arith, m, c.requires.others))
+
+pub negated_holds_at-returns-clause-answer : goal.negated_holds_at-returns-clause-answer
+negated_holds_at-returns-clause-answer t c =
+    let n = c.args.others in
+    c.turned.ensures.answer ∙ ap (turned n) c.in_ok-holds.ensures.answer ∙ sym (holds-negations n (syntax_at c.args.nodes.now c.args.number) (view c.args.asked.now))
+
+pub negated_holds_at-returns-clause-bound : goal.negated_holds_at-returns-clause-bound
+negated_holds_at-returns-clause-bound t c =
+    let nodes = c.args.nodes.now in
+    let olds = c.args.found.now in
+    let news = c.holds_at.new.found in
+    cut_back nodes olds news c.truncate.new.self (kept_added nodes olds news _ c.in_ok-holds.ensures.bound) (rw c.len-before.ensures at c.truncate.ensures) ∙ sym (append-nil _)
+
+pub negated_holds_at-returns-clause-ticks : goal.negated_holds_at-returns-clause-ticks
+negated_holds_at-returns-clause-ticks t c =
+    let n = calls-negations c.args.others (syntax_at c.args.nodes.now c.args.number) (view c.args.asked.now) in
+    omega (arith, n, c.in_ok-holds.ensures.ticks, c.turned.ensures.ticks)
+
+pub negated_holds_at-returns-in_err-holds-clause-ticks : goal.negated_holds_at-returns-in_err-holds-clause-ticks
+negated_holds_at-returns-in_err-holds-clause-ticks t c =
+    let n = calls-negations c.args.others (syntax_at c.args.nodes.now c.args.number) (view c.args.asked.now) in
+    MatchResult-from_err c.from_residual.result _ _ (search rules) (λ _. omega (arith, n, c.in_err-holds.ensures.ticks))
+
+pub negated_on-returns-then-not-turned-clause-answer : goal.negated_on-returns-then-not-turned-clause-answer
+negated_on-returns-then-not-turned-clause-answer t c =
+    let n = c.args.others in
+    let s = syntax_at c.args.nodes.now c.args.number in
+    let xs = map view c.args.parents.now in
+    let some = c.is_some.ensures ∙ sym (is_some-map (candidate_places xs) _) ∙ ap is_some c.in_ok-candidates.ensures.answer in
+    sym (negated_some n s xs c.turned.result (c.turned.ensures.answer ∙ ap (turned n) some) c.if-not-turned.true)
+
+pub negated_on-returns-clause-answer : goal.negated_on-returns-clause-answer
+negated_on-returns-clause-answer t c =
+    let n = c.args.others in
+    let s = syntax_at c.args.nodes.now c.args.number in
+    let xs = map view c.args.parents.now in
+    let some = c.is_some.ensures ∙ sym (is_some-map (candidate_places xs) _) ∙ ap is_some c.in_ok-candidates.ensures.answer in
+    sym (negated_none n s xs c.turned.result (c.turned.ensures.answer ∙ ap (turned n) some) c.if-not-turned.false)
+
+pub negated_on-returns-then-not-turned-clause-bound : goal.negated_on-returns-then-not-turned-clause-bound
+negated_on-returns-then-not-turned-clause-bound t c =
+    let nodes = c.args.nodes.now in
+    let olds = c.args.found.now in
+    let news = c.candidates_on.new.found in
+    cut_back nodes olds news c.truncate.new.self (kept_added nodes olds news _ c.in_ok-candidates.ensures.bound) (rw c.len-before.ensures at c.truncate.ensures) ∙ sym (append-nil _)
+
+pub negated_on-returns-clause-bound : goal.negated_on-returns-clause-bound
+negated_on-returns-clause-bound t c =
+    let nodes = c.args.nodes.now in
+    let olds = c.args.found.now in
+    let news = c.candidates_on.new.found in
+    cut_back nodes olds news c.truncate.new.self (kept_added nodes olds news _ c.in_ok-candidates.ensures.bound) (rw c.len-before.ensures at c.truncate.ensures) ∙ sym (append-nil _)
+
+pub negated_on-returns-then-not-turned-clause-ticks : goal.negated_on-returns-then-not-turned-clause-ticks
+negated_on-returns-then-not-turned-clause-ticks t c =
+    let n = calls_on-negations c.args.others (syntax_at c.args.nodes.now c.args.number) (map view c.args.parents.now) in
+    omega (arith, n, c.in_ok-candidates.ensures.ticks, c.turned.ensures.ticks)
+
+pub negated_on-returns-clause-ticks : goal.negated_on-returns-clause-ticks
+negated_on-returns-clause-ticks t c =
+    let n = calls_on-negations c.args.others (syntax_at c.args.nodes.now c.args.number) (map view c.args.parents.now) in
+    omega (arith, n, c.in_ok-candidates.ensures.ticks, c.turned.ensures.ticks)
+
+pub negated_on-returns-in_err-candidates-clause-ticks : goal.negated_on-returns-in_err-candidates-clause-ticks
+negated_on-returns-in_err-candidates-clause-ticks t c =
+    let n = calls_on-negations c.args.others (syntax_at c.args.nodes.now c.args.number) (map view c.args.parents.now) in
+    MatchResult-from_err c.from_residual.result _ _ (search rules) (λ _. omega (arith, n, c.in_err-candidates.ensures.ticks))
+
+pub form_holds_at-returns-in_ok-holds_above-in-Ancestrage-clause-bound : goal.form_holds_at-returns-in_ok-holds_above-in-Ancestrage-clause-bound
+form_holds_at-returns-in_ok-holds_above-in-Ancestrage-clause-bound t c =
+    let f = syntax_at c.args.nodes.now in
+    let x = view c.args.asked.now in
+    let l = chained (f c.in-Ancestrage.child) (map f c.in-Ancestrage.between.items) in
+    let r = f c.in-Ancestrage.parent in
+    let yes : c.in_ok-holds-in-Ancestrage.holds ≡ true = search rules in
+    let stands = rw c.in-Ancestrage.is at c.at.ensures.stands in
+    let h = rw (yes, c.deref-in-Ancestrage.ensures.value) at c.in_ok-holds-in-Ancestrage.ensures.bound in
+    let k = c.in_ok-holds_above-in-Ancestrage.ensures.bound in
+    OnTrue_from c.in_ok-holds_above-in-Ancestrage.field-0 _ (λ e. rw stands (bound_under l r x (parents x) _ _ _ refl h (rw e at k)))
+
+pub holds_above-returns-then-is_simple-clause-bound : goal.holds_above-returns-then-is_simple-clause-bound
+holds_above-returns-then-is_simple-clause-bound t c =
+    let s = syntax_at c.args.nodes.now c.args.number in
+    let xs = parents (view c.args.asked.now) in
+    rw (either c.simple_holds_on.result (binds_on s xs) [] [] (binds_on-simple s xs (c.is_simple.ensures c.if-is_simple.true)) refl) (sym (append-nil _))

@@ -1,14 +1,15 @@
-use Rattle.std.proofs.Common.{◌≡◌, ◌+◌, ◌*◌, ◌++◌, drop, map}
-use Rattle.std.specs.Prelude.{◌&&◌, ◌||◌, position, sum_by}
+use Rattle.std.proofs.Common.{◌≡◌, suc, ◌+◌, ◌*◌, ◌++◌, drop, map, take}
+use Rattle.std.specs.Prelude.{◌&&◌, ◌||◌, max, position, sum_by}
+use Rattle.std.specs.Bool.{OnTrue}
 use Rattle.std.specs.List.{list_any}
 use Rattle.haya_entry.specs.Tree.{view}
-use Rattle.haya_selectors.specs.Binds.{first_binds, first_binds_on}
-use Rattle.haya_selectors.specs.Evaluation.{pairs_view}
+use Rattle.haya_selectors.specs.Binds.{binds, first_binds, first_binds_on}
+use Rattle.haya_selectors.specs.Evaluation.{AddsAt, KeepsFound, pairs_view}
 use Rattle.haya_selectors.specs.Calls.{all_calls, calls, first_calls, first_calls_on}
 use Rattle.haya_selectors.specs.Holds.{holds, some_holds, first_candidates, table_of}
 use Rattle.haya_selectors.specs.Places.{items_up_to}
 use Rattle.haya_selectors.specs.Compiled.{above}
-use Rattle.haya_selectors.specs.Nodes.{members_at, slot_names, syntax_at}
+use Rattle.haya_selectors.specs.Nodes.{chain_at, members_at, slot_names, syntax_at}
 use Rattle.haya_selectors.specs.Tries.{all_found, all_held, all_joined, all_lengths, all_tried, each_holds, joined, lengths, tried}
 use Rattle.haya_selectors.proofs.Walks.{to_find, to_sum}
 use Rattle.haya_selectors.proofs.evaluate.+evaluate.Given as goal
@@ -27,6 +28,24 @@ decreases-holds_at l = 8 * l.number + 3
 abbrev pub decreases-tried_at : goal.decreases-tried_at
 decreases-tried_at l = 8 * l.number + 3
 
+abbrev pub decreases-negated_holds_at : goal.decreases-negated_holds_at
+decreases-negated_holds_at l = 8 * l.number + 4
+
+abbrev pub decreases-chain_holds_at : goal.decreases-chain_holds_at
+decreases-chain_holds_at l = 8 * max (suc l.first) (above l.others.now)
+
+abbrev pub decreases-holds_above : goal.decreases-holds_above
+decreases-holds_above l = 8 * l.number + 7
+
+abbrev pub decreases-negated_on : goal.decreases-negated_on
+decreases-negated_on l = 8 * l.number + 7
+
+abbrev pub decreases-named_holds_at : goal.decreases-named_holds_at
+decreases-named_holds_at l = 8 * l.number + 4
+
+abbrev pub decreases-named_on : goal.decreases-named_on
+decreases-named_on l = 8 * l.number + 7
+
 abbrev pub decreases-try_at_each : goal.decreases-try_at_each
 decreases-try_at_each l = 8 * l.number + 4
 
@@ -34,10 +53,10 @@ abbrev pub decreases-first_alone : goal.decreases-first_alone
 decreases-first_alone l = 8 * l.number + 4
 
 abbrev pub decreases-form_candidates_on : goal.decreases-form_candidates_on
-decreases-form_candidates_on l = 8 * l.number + 6
+decreases-form_candidates_on l = 8 * l.number + 5
 
 abbrev pub decreases-candidates_on : goal.decreases-candidates_on
-decreases-candidates_on l = 8 * l.number + 7
+decreases-candidates_on l = 8 * l.number + 6
 
 abbrev pub decreases-any_holds : goal.decreases-any_holds
 decreases-any_holds l = 8 * above l.members.now
@@ -68,6 +87,16 @@ invariant-first_candidates_on-loop-member l =
     × (l.steps + first_calls_on rest xs ≡ l.fn.steps + first_calls_on all xs)
     × (first_binds_on rest xs ≡ first_binds_on all xs)
     × (pairs_view (slot_names l.nodes) l.found ≡ pairs_view (slot_names l.nodes) l.fn.found)
+
+-- what the chain so far says
+abbrev pub invariant-chain_holds_at-others : goal.invariant-chain_holds_at-others
+invariant-chain_holds_at-others l =
+    let so_far = chain_at l.nodes l.first (take l.other-index l.others) in
+    let x = view l.asked in
+    (l.holds ≡ holds so_far x)
+    × (l.steps ≡ l.fn.steps + calls so_far x)
+    × KeepsFound l.nodes l.fn.found l.found
+    × OnTrue l.holds (AddsAt (slot_names l.nodes) x l.fn.found l.found (binds so_far x))
 
 -- what the tries of the members so far have found, with what those of the others find, is what all
 -- find

@@ -1,54 +1,41 @@
-use Rattle.std.proofs.Common.{inl, inr, arith, rules, sym, ◌∙◌, w32}
-use Rattle.std.specs.Int.{trailing_zeros}
-use Rattle.std.proofs.lemmas.Bool.{cases_eq}
-use Rattle.std.proofs.lemmas.Nat.Bits.{bit_at-trailing_zeros}
-use Rattle.haya_entry.specs.Tree.{view}
-use Rattle.haya_selectors.proofs.NameSets.{cleared}
+use Rattle.std.proofs.Common.{inl, inr, rules}
+use Rattle.haya_selectors.proofs.NameSets.{cases_field}
 use Rattle.haya_selectors.proofs.names.had_of.Goals as goal
-use Rattle.haya_selectors.proofs.names.had_of.Goals.{then-not-has_number, else-not-has_number}
+use Rattle.haya_selectors.proofs.names.had_of.Goals.{then-not-has_field, else-not-has_field}
 
-pub numbers-smaller : goal.numbers-smaller
-numbers-smaller c =
-    let lowest = bit_at-trailing_zeros w32 c.numbers.left (omega arith) (omega arith) in
-    (cleared c.numbers.left _ lowest.0 lowest.1).0
-
-pub numbers-preserved : goal.numbers-preserved
-numbers-preserved c =
-    let x = view c.args.entry.now in
-    let k = trailing_zeros w32 c.numbers.left in
-    let lowest = bit_at-trailing_zeros w32 c.numbers.left (omega arith) (omega arith) in
-    let left = cleared c.numbers.left k lowest.0 lowest.1 in
-    let old = c.numbers.invariant in
-    let here = old.0 k lowest.0 lowest.1 in
-    -- what is in one set and was in the other, once that is kept apart from k
-    elim c.if-not-has_number.branch [
-      | then-not-has_number w ↦
-          let had = cleared c.numbers.had k lowest.0 here.1 in
+pub fields-preserved : goal.fields-preserved
+fields-preserved c =
+    let field = c.first_of-field.result in
+    let left = c.without-left.ensures in
+    let old = c.fields.invariant in
+    elim c.if-not-has_field.branch [
+      | then-not-has_field w ↦
+          let had = w.without-had.ensures in
           rw w.had-is (
-            λ i small isin.
-                elim (cases_eq i k) [
-                  | inl same ↦ absurd (let zero = rw same at isin in omega (arith, zero, left.1))
-                  | inr apart ↦ let o = old.0 i small (sym (left.2 i small apart) ∙ isin) in (o.0, had.2 i small apart ∙ o.1)
+            λ f isin.
+                elim (cases_field f field) [
+                  | inl same ↦ absurd (left.this (rw same at isin))
+                  | inr apart ↦ let o = old.0 f ((left.others f apart).0 isin) in (o.0, (had.others f apart).1 o.1)
                 ],
-            λ i small isin gone.
-                elim (cases_eq i k) [
-                  | inl same ↦ (λ h. absurd (let one = rw same at h in omega (arith, one, had.1)), λ h. absurd (let yes = rw same at h in search rules))
+            λ f isin gone.
+                elim (cases_field f field) [
+                  | inl same ↦ rw same (λ h. absurd (had.this h), λ h. absurd (search rules))
                   | inr apart ↦
-                      let o = old.1 i small isin (λ still. gone (left.2 i small apart ∙ still)) in
-                      (λ h. o.0 (sym (had.2 i small apart) ∙ h), λ h. had.2 i small apart ∙ o.1 h)
+                      let o = old.1 f isin (λ still. gone ((left.others f apart).1 still)) in
+                      (λ h. o.0 ((had.others f apart).0 h), λ h. (had.others f apart).1 (o.1 h))
                 ],
           )
-      | else-not-has_number w ↦
+      | else-not-has_field w ↦
           rw w.had-is (
-            λ i small isin.
-                elim (cases_eq i k) [
-                  | inl same ↦ absurd (let zero = rw same at isin in omega (arith, zero, left.1))
-                  | inr apart ↦ old.0 i small (sym (left.2 i small apart) ∙ isin)
+            λ f isin.
+                elim (cases_field f field) [
+                  | inl same ↦ absurd (left.this (rw same at isin))
+                  | inr apart ↦ old.0 f ((left.others f apart).0 isin)
                 ],
-            λ i small isin gone.
-                elim (cases_eq i k) [
-                  | inl same ↦ rw same (λ h. search rules, λ h. here.1)
-                  | inr apart ↦ old.1 i small isin (λ still. gone (left.2 i small apart ∙ still))
+            λ f isin gone.
+                elim (cases_field f field) [
+                  | inl same ↦ rw same (λ h. search rules, λ h. (old.0 field c.first_of-field.ensures).1)
+                  | inr apart ↦ old.1 f isin (λ still. gone ((left.others f apart).1 still))
                 ],
           )
     ]

@@ -1,13 +1,15 @@
-use Rattle.std.proofs.Common.{◌≡◌, ◌<◌, ℕ, true}
+use Rattle.std.proofs.Common.{◌≡◌, true}
+use Rattle.haya_entry.specs.declared.field_name.FieldName.{FieldName}
+use Rattle.haya_entry.specs.Names.{has_field}
 use Rattle.haya_entry.specs.Tree.{view}
-use Rattle.haya_selectors.specs.NameNumbers.{IsIn, has_number}
+use Rattle.haya_selectors.specs.NameNumbers.{IsIn}
 use Rattle.haya_selectors.proofs.names.has_each.Given as goal
 
--- the numbers that are left are some of all; the entry has the names of the others
-abbrev pub invariant-numbers : goal.invariant-numbers
-invariant-numbers l =
-    ((i : ℕ) → i < 32 → IsIn i l.left → IsIn i l.numbers)
-    × ((i : ℕ) → i < 32 → IsIn i l.numbers → (IsIn i l.left → ⊥) → has_number (view l.entry) i ≡ true)
+-- the fields that are left are some of all; the entry has the others
+abbrev pub invariant-fields : goal.invariant-fields
+invariant-fields l =
+    ((f : FieldName) → IsIn f l.left → IsIn f l.fields)
+    × ((f : FieldName) → IsIn f l.fields → (IsIn f l.left → ⊥) → has_field (view l.entry) f ≡ true)
 
-abbrev pub decreases-numbers : goal.decreases-numbers
-decreases-numbers l = l.left
+abbrev pub decreases-fields : goal.decreases-fields
+decreases-fields l = l.left

@@ -1,6 +1,5 @@
 use Rattle.std.proofs.Common.{◌≡◌}
-use Rattle.haya_selectors.specs.Parser.{negations}
-use Rattle.haya_selectors.specs.Syntax.{syntax}
+use Rattle.haya_selectors.specs.Syntax.{negations, syntax}
 use Rattle.haya_selectors.proofs.parse.negated.Given as goal
 
 abbrev pub invariant-wraps : goal.invariant-wraps

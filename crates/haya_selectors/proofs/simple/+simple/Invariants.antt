@@ -1,10 +1,10 @@
-use Rattle.std.proofs.Common.{◌≡◌, ◌+◌, ◌*◌, drop, map, true}
-use Rattle.std.specs.Prelude.{is_some, position, sum_by}
+use Rattle.std.proofs.Common.{◌≡◌, suc, ◌+◌, ◌*◌, drop, map, take, true}
+use Rattle.std.specs.Prelude.{is_some, max, position, sum_by}
 use Rattle.haya_entry.specs.Tree.{view}
 use Rattle.haya_selectors.specs.Calls.{calls, first_calls, first_calls_on}
 use Rattle.haya_selectors.specs.Compiled.{above}
 use Rattle.haya_selectors.specs.Holds.{holds, some_holds, first_candidates}
-use Rattle.haya_selectors.specs.Nodes.{members_at, syntax_at}
+use Rattle.haya_selectors.specs.Nodes.{chain_at, members_at, syntax_at}
 use Rattle.haya_selectors.specs.Places.{items_up_to}
 use Rattle.haya_selectors.specs.Simple.{all_simple}
 use Rattle.haya_selectors.proofs.Walks.{to_find, to_sum}
@@ -16,6 +16,9 @@ decreases-whole_simple_holds_at l = 8 * l.number + 1
 
 abbrev pub decreases-simple_holds_at : goal.decreases-simple_holds_at
 decreases-simple_holds_at l = 8 * l.number + 2
+
+abbrev pub decreases-simple_chain_holds_at : goal.decreases-simple_chain_holds_at
+decreases-simple_chain_holds_at l = 8 * max (suc l.first) (above l.others.now)
 
 abbrev pub decreases-first_simple : goal.decreases-first_simple
 decreases-first_simple l = 8 * l.number + 3
@@ -50,6 +53,13 @@ invariant-any_simple_holds_on-loop-member l =
     (is_some (first_candidates rest xs) ≡ is_some (first_candidates all xs))
     × (l.steps + first_calls_on rest xs ≡ l.fn.steps + first_calls_on all xs)
     × (all_simple rest ≡ true)
+
+-- what the chain so far says
+abbrev pub invariant-simple_chain_holds_at-others : goal.invariant-simple_chain_holds_at-others
+invariant-simple_chain_holds_at-others l =
+    let so_far = chain_at l.nodes l.first (take l.other-index l.others) in
+    let x = view l.asked in
+    (l.holds ≡ holds so_far x) × (l.steps ≡ l.fn.steps + calls so_far x)
 
 -- the places that are left
 abbrev pub invariant-first_simple-loop-place : goal.invariant-first_simple-loop-place

@@ -10,6 +10,6 @@ pub returns-then-not-names : goal.returns-then-not-names
 returns-then-not-names c =
     let s = c.names.inside in
     let a = c.self.inside in
-    let zero : bit_and s.numbers (bit_not w32 a.asked) ≡ 0 = grind (arith, nat_tests, c.if-names-self-eq0.true) in
-    set_tells s.numbers s.unknown c.args.names.now (view c.args.self.now) a.asked a.had (omega arith) (omega arith) (search rules)
-    (rw c.names.view_is at c.names.invariant) (rw c.self.view_is at c.self.invariant) (within_set s.numbers a.asked (omega arith) (omega arith) zero)
+    let zero : bit_and s.fields (bit_not w32 a.asked) ≡ 0 = grind (arith, nat_tests, c.if-names-self-eq0.true) in
+    set_tells s.fields s.unknown c.args.names.now (view c.args.self.now) a.asked a.had (omega arith) (omega arith) (search rules)
+    (rw c.names.view_is at c.names.invariant) (rw c.self.view_is at c.self.invariant) (within_set s.fields a.asked (omega arith) (omega arith) zero)

@@ -1,10 +1,10 @@
 use Rattle.std.proofs.Common.{◌≡◌, ◌∙◌, ap, arith, length, rules, map, take}
 use Rattle.std.specs.Prelude.{string_bytes}
 use Rattle.std.proofs.Math.Seq.{take-length}
-use Rattle.haya_selectors.proofs.NameSets.{with_number, with_unknown}
+use Rattle.haya_selectors.proofs.NameSets.{with_known, with_unknown}
 use Rattle.haya_selectors.proofs.NodeLists.{map_more}
 use Rattle.haya_selectors.proofs.names.NameSet.new.Goals as goal
-use Rattle.haya_selectors.proofs.names.NameSet.new.Goals.{in-Some, in-None}
+use Rattle.haya_selectors.proofs.names.NameSet.new.Goals.{in-Ok, in-Err}
 
 pub names-preserved : goal.names-preserved
 names-preserved c =
@@ -13,9 +13,9 @@ names-preserved c =
     let i = c.names.name-index in
     let seen = map string_bytes (take i items) in
     rw (map_more string_bytes items i n (omega arith) (search rules))
-    (elim c.match-number_of.branch [
-      | in-Some w ↦ rw (w.numbers-is, w.unknown-is) (with_number c.names.numbers c.names.unknown seen (string_bytes n) c.names.invariant w.in-Some.number (search rules))
-      | in-None w ↦ rw (w.numbers-is, w.unknown-is) (with_unknown c.names.numbers c.names.unknown seen (string_bytes n) c.names.invariant (search rules))
+    (elim c.match-parse.branch [
+      | in-Ok w ↦ rw (w.fields-is, w.unknown-is) (with_known c.names.fields c.names.unknown seen (string_bytes n) c.names.invariant w.in-Ok.field (search rules) _ w.with-fields.ensures.this w.with-fields.ensures.others)
+      | in-Err w ↦ rw (w.fields-is, w.unknown-is) (with_unknown c.names.fields c.names.unknown seen (string_bytes n) c.names.invariant (search rules))
     ])
 
 pub invariant_of-result : goal.invariant_of-result

@@ -4,4 +4,4 @@ use Rattle.haya_selectors.specs.NameNumbers.{StandsForNames}
 use Rattle.haya_selectors.proofs.names.NameSet.new.Given as goal
 
 abbrev pub invariant-names : goal.invariant-names
-invariant-names l = StandsForNames l.numbers l.unknown (map string_bytes (take l.name-index l.list.items))
+invariant-names l = StandsForNames l.fields l.unknown (map string_bytes (take l.name-index l.list.items))

@@ -3,7 +3,7 @@ use denote.Param.Weighed.{most}
 use Rattle.haya_selectors.specs.declared.selector.Selector.{size-Selector}
 use Rattle.haya_selectors.specs.Compiled.{above}
 use Rattle.haya_selectors.specs.BoundNames.{all_bound_names, bound_names}
-use Rattle.haya_selectors.specs.Nodes.{AddsNames, AreSlots, Keeps, node_count, slot_names, syntax_at}
+use Rattle.haya_selectors.specs.Nodes.{AddsNames, AreSlots, Keeps, chain_at, node_count, slot_names, syntax_at}
 use Rattle.haya_selectors.specs.Side.{AllNoDeeper, NoEnds, wrapped}
 use Rattle.haya_selectors.specs.Syntax.{members_of, syntax}
 use Rattle.haya_selectors.proofs.nodes.Nodes.+compile.Given as goal
@@ -17,15 +17,16 @@ decreases-add_over l = 3 * size-Selector l.selector.now + 1
 abbrev pub decreases-add_all : goal.decreases-add_all
 decreases-add_all l = 3 * most size-Selector l.members.now + 3
 
--- the root stands for what is below the forms that are left
+-- the chain so far stands for what is below the forms that are left
 abbrev pub invariant-add-up : goal.invariant-add-up
 invariant-add-up l =
     Keeps l.fn.self l.self
-    × (l.root < node_count l.self)
-    × (wrapped l.above.items (syntax_at l.self l.root) ≡ syntax l.selector)
+    × (l.first < node_count l.self)
+    × (above l.others.items ≤ node_count l.self)
+    × (wrapped l.above.items (chain_at l.self l.first l.others.items) ≡ syntax l.selector)
     × AllNoDeeper (size-Selector l.selector) l.above.items
     × NoEnds l.above.items
-    × AddsNames l.fn.self l.self (bound_names (syntax_at l.self l.root))
+    × AddsNames l.fn.self l.self (bound_names (chain_at l.self l.first l.others.items))
     × AreSlots l.slots (slot_names l.self)
 
 abbrev pub decreases-add-up : goal.decreases-add-up
