@@ -191,7 +191,7 @@ entry_key key (json.object ms) t is = by (type_among None (json.object ms)) is
     by (Ok kind) h = members_keep key None kind ms (new_entry key kind) t h
     by (Err r) h = cc
 
-keys_of_entries : (ms : Members) (ts : List Tree) → entries_of ms ≡ Ok ts → map key_of ts ≡ keys ms
+pub keys_of_entries : (ms : Members) (ts : List Tree) → entries_of ms ≡ Ok ts → map key_of ts ≡ keys ms
 keys_of_entries json.no_members ts is = let same : [] ≡ ts = cc in ap (map key_of) (sym same)
 keys_of_entries (json.member k j ms) ts is = by (keys_of_entries ms) (entry_of k None j) refl (entries_of ms) refl is
   where

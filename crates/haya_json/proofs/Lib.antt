@@ -18,3 +18,13 @@ mod FieldsBack
 mod Sounds
 mod SoundEntries
 mod NoBad
+mod TextsRead
+mod ValuesRead
+mod SerialsRead
+mod FieldsRead
+mod EntriesRead
+mod LibraryRead
+mod TextsParsed
+mod TokensParsed
+mod NamedRead
+mod LawsBelow

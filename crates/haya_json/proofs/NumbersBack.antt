@@ -18,7 +18,7 @@ use Rattle.haya_json.specs.Readable.{IsReadableNumber, IsReadableNumberOrText, I
 use Rattle.haya_json.proofs.Wholes.{whole_back}
 
 -- one number is that number without affixes
-single_is : (v : ValueView) (prefix suffix : Option (List ℕ)) (z : ℤ)
+pub single_is : (v : ValueView) (prefix suffix : Option (List ℕ)) (z : ℤ)
     → single_number (record { value = v; prefix = prefix; suffix = suffix }) ≡ Some z
     → record { value = v; prefix = prefix; suffix = suffix } ≡ without_affixes (Single z)
 single_is (Single n) None None z h = let same : n ≡ z = cc in ap (λ m. without_affixes (Single m)) same

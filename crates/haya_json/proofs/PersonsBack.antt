@@ -10,11 +10,11 @@ use Rattle.haya_people.specs.Reading.{person_read}
 use Rattle.haya_json.specs.Refusal.{Refusal, here, within, and_then, to_member, to_item}
 use Rattle.haya_json.specs.Parts.{plain_of, items_of, one_or_many, needed, optional, flag, unless_null, optional_in, needed_in, truth_of}
 use Rattle.haya_json.specs.Values.{person_of, person_in, persons_of, role_of, roles_of, affiliated_of}
-use Rattle.haya_json.specs.Printed.{also, also_true, array_of, one_or_many_json, person_json, person_parts, person_text, role_name, roles_json, same_person, reads_as_person}
+use Rattle.haya_json.specs.Printed.{also, also_true, array_of, one_or_many_json, person_json, person_parts, person_text, roles_json, same_person, reads_as_person}
 use Rattle.haya_json.specs.Readable.{HasNamedRole}
 use Rattle.haya_json.proofs.Looked.{get_also, get_also_true, true_back, nothing_earlier, text_optional, both_are, same_texts, same_truths, is_alone, EachBack, each_back, many_back}
 use Rattle.haya_json.proofs.Solids.{solid, persons_of_null}
-use Rattle.haya_people.specs.Roles.{RolesView, role_read, role_view}
+use Rattle.haya_people.specs.Roles.{RolesView, role_name, role_read, role_view}
 use Rattle.std.specs.List.{AllByRecursion}
 
 same_persons : (p q : PersonView) → same_person p q ≡ true → p ≡ q

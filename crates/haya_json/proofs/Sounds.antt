@@ -23,14 +23,14 @@ use Rattle.haya_time.specs.declared.date.Date.{Date}
 use Rattle.haya_time.specs.declared.date.Season.{Season}
 use Rattle.haya_time.specs.declared.date.Season.TheVariants.{Spring, Summer, Autumn, Winter}
 use Rattle.haya_people.specs.Person.{PersonView}
-use Rattle.haya_people.specs.Roles.{RolesView}
+use Rattle.haya_people.specs.Roles.{RolesView, role_name}
 use Rattle.haya_numbers.specs.Numeric.{NumericView, single_number}
 use Rattle.haya_values.specs.MaybeTyped.{TypedOrText, Typed, Text}
 use Rattle.haya_values.specs.Publisher.{PublisherView}
 use Rattle.haya_values.specs.Url.{UrlView}
 use Rattle.haya_entry.specs.SerialNumber.{Serials}
 use Rattle.haya_json.specs.Whole.{is_i32}
-use Rattle.haya_json.specs.Printed.{also, also_true, array_of, one_or_many_json, chunks_json, format_json, forms_json, person_json, person_parts, person_text, reads_as_person, role_name, roles_json, whole_json, byte_json, season_json, season_number, date_json, date_parts, is_year, reads_as_date, publisher_json, publisher_parts, url_json, number_json, number_or_text_json, typed_json, serial_json, serial_members}
+use Rattle.haya_json.specs.Printed.{also, also_true, array_of, one_or_many_json, chunks_json, format_json, forms_json, person_json, person_parts, person_text, reads_as_person, roles_json, whole_json, byte_json, season_json, season_number, date_json, date_parts, is_year, reads_as_date, publisher_json, publisher_parts, url_json, number_json, number_or_text_json, typed_json, serial_json, serial_members}
 use Rattle.haya_json.specs.Readable.{IsReadableDate, IsReadableUrl, IsReadableNumber, IsReadableNumberOrText, ComesBehind, AreInOrder}
 use Rattle.haya_json.proofs.FieldsBack.{weaken, always}
 use Rattle.haya_json.proofs.Wholes.{small, byte_fits}

@@ -16,7 +16,7 @@ digits : IsNumeralModel (λ ds. all_ascii_digits ds ≡ true) (digits_value 10)
 digits = numerals_by_value _ tells_all_ascii_digits
 
 -- 32 bits hold the same numbers by either word
-is_i32-fits : (z : ℤ) → FitsSigned w32 z → is_i32 z ≡ true
+pub is_i32-fits : (z : ℤ) → FitsSigned w32 z → is_i32 z ≡ true
 is_i32-fits (pos n) h = search (rules, arith)
 is_i32-fits (negsuc n) h = search (rules, arith)
 

@@ -26,7 +26,7 @@ abbrev pub type_in : Default → Option Json → Result EntryType Refusal
 type_in default None = ok_or default (record { path = []; why = Missing })
 type_in default (Some j) = type_of j
 
--- the type that an object says its entry has, and else the default
+-- the type that an object says its entry has, or the default
 abbrev pub type_among : Default → Json → Result EntryType Refusal
 type_among default j =
     within (to_member (codes "type")) (type_in default (member_of (codes "type") j))

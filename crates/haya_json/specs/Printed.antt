@@ -21,7 +21,7 @@ use Rattle.haya_numbers.specs.NumericPrinted.{shown_numeric}
 use Rattle.haya_numbers.specs.PagesPrinted.{shown_pages}
 use Rattle.haya_people.specs.Person.{PersonView}
 use Rattle.haya_people.specs.Reading.{person_read}
-use Rattle.haya_people.specs.Roles.{RoleView, RolesView, role_named, role_in_words}
+use Rattle.haya_people.specs.Roles.{RolesView, role_name}
 use Rattle.haya_values.specs.MaybeTyped.{TypedOrText, Typed, Text}
 use Rattle.haya_values.specs.Publisher.{PublisherView}
 use Rattle.haya_values.specs.Url.{UrlView}
@@ -108,14 +108,10 @@ person_parts p =
     (also_true (codes "comma-suffix") p.comma_suffix
     (also (codes "alias") json.string p.alias json.no_members))))))
 
--- a text where that reads as the person, else an object of the parts of the name
+-- a text where that reads as the person, otherwise an object of the parts of the name
 unfoldable pub person_json : PersonView → Json
 person_json p =
     if reads_as_person (person_text p) p then json.string (person_text p) else person_parts p
-
-abbrev pub role_name : RoleView → List ℕ
-role_name (role_named name) = name
-role_name (role_in_words words) = words
 
 unfoldable pub roles_json : RolesView → Json
 roles_json r =
@@ -167,7 +163,7 @@ reads_as_date text d = by (result_ok (date_read (chars text)))
     by None = false
     by (Some e) = same_date e d
 
--- the year as a number where it is alone, a text where that reads as the date, else an object
+-- the year as a number where it is alone, a text where that reads as the date, or an object
 unfoldable pub date_json : Date → Json
 date_json d =
     if is_year d then whole_json d.year
@@ -191,7 +187,7 @@ lone_name (Some name) None = if is_some name.short then None else Some name.valu
 abbrev pub name_alone : PublisherView → Option (List Chunk)
 name_alone p = lone_name p.name p.location
 
--- the text of the name where that is all, else an object
+-- the text of the name where that is all, otherwise an object
 unfoldable pub publisher_json : PublisherView → Json
 publisher_json p = by (name_alone p)
   where
@@ -215,7 +211,7 @@ url_json u = by u.visit_date
 
 -- ---- numbers, pages and times
 
--- a number where it is one without affixes, else its print
+-- a number where it is one without affixes, otherwise its print
 unfoldable pub number_json : NumericView → Json
 number_json n = by (single_number n)
   where

@@ -15,7 +15,7 @@ use Rattle.haya_numbers.specs.NumericPrinted.{shown_numeric}
 use Rattle.haya_numbers.specs.NumericReading.{numeric_read}
 use Rattle.haya_numbers.specs.PagesPrinted.{shown_pages}
 use Rattle.haya_numbers.specs.PagesReading.{pages_read}
-use Rattle.haya_people.specs.Roles.{RolesView, role_read, role_view}
+use Rattle.haya_people.specs.Roles.{RolesView, role_name, role_read, role_view}
 use Rattle.haya_time.specs.DurationPrint.{duration_text, range_text}
 use Rattle.haya_time.specs.DurationReading.{duration_read, range_read}
 use Rattle.haya_time.specs.declared.date.Date.{Date}
@@ -24,7 +24,6 @@ use Rattle.haya_values.specs.Publisher.{PublisherView}
 use Rattle.haya_values.specs.Url.{UrlView}
 use Rattle.haya_entry.specs.SerialNumber.{Serials}
 use Rattle.haya_entry.specs.Tree.{Tree, Trees, Fields, node, no_trees, one_more}
-use Rattle.haya_json.specs.Printed.{role_name}
 use Rattle.haya_json.specs.Whole.{is_i32}
 
 -- Chunks are read from their serialized text. They are exactly where they are in normal form: no

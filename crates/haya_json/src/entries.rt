@@ -39,7 +39,7 @@ pub(crate) fn read_entry(
     }
 }
 
-// The type that an object says its entry has, and else the default.
+// The type that an object says its entry has, or the default.
 fn read_type(
     alloc: Global,
     default: Option<EntryType>,
@@ -54,7 +54,7 @@ fn read_type(
     }
 }
 
-// The type of this name, and else the default.
+// The type of this name, or the default.
 fn type_in(
     alloc: Global,
     default: Option<EntryType>,

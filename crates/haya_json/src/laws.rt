@@ -1,6 +1,7 @@
 //! Laws of the definitions. A call of one, as `one_library();`, gives its statement to the caller's
 //! proof.
 ghost use Rattle.std.specs.Prelude.{◌≡◌, ◌≤◌, ℕ, List, Ok};
+ghost use Rattle.std.specs.Str.{IsUtf8};
 ghost use Rattle.json.specs.Json.{max_depth};
 ghost use Rattle.json.specs.Tree.{depth as nesting};
 ghost use Rattle.haya_text.specs.Chunks.{chunks};
@@ -10,6 +11,7 @@ ghost use Rattle.haya_people.specs.Person.{PersonView};
 ghost use Rattle.haya_time.specs.declared.date.Date.{Date};
 ghost use Rattle.haya_entry.specs.Tree.{Tree};
 ghost use Rattle.hayagriva.specs.Library.{AreDistinct};
+ghost use Rattle.haya_json.specs.Kept.{EntriesAreKept};
 ghost use Rattle.haya_json.specs.Libraries.{Describes, library_of};
 ghost use Rattle.haya_json.specs.Printed.{date_json, library_json, person_json};
 ghost use Rattle.haya_json.specs.ReadBack.{EntriesAreBack, ReadsBack, SaysItself};
@@ -40,6 +42,21 @@ pub fn readable_libraries_read_back()
     ensures { (library : List Tree) → EntriesAreReadable library → AreDistinct library
         → nesting (library_json library) ≤ max_depth → ReadsBack library }
 {}
+
+/// A library that was read of a text is read back from what `to_json` prints of it, where its
+/// JSON nests no deeper than 128, and its numbers and pages are as `EntriesAreKept` says. These are
+/// the only values whose print may be read otherwise.
+pub fn read_libraries_read_back()
+    ensures { (text : List ℕ) (library : List Tree) → IsUtf8 text → Describes text library
+        → EntriesAreKept library → nesting (library_json library) ≤ max_depth
+        → ReadsBack library }
+{
+    haya_text::laws::read_texts_read_back();
+    haya_numbers::laws::read_numbers_read_back();
+    haya_numbers::laws::pages::read_pages_read_back();
+    haya_time::laws::durations::read_durations_read_back();
+    haya_time::laws::dates::reads_the_forms_of_dates();
+}
 
 /// Persons are always read from what is printed of them, and chunks of a text where they are in
 /// normal form.

@@ -75,7 +75,7 @@ impl ToJson for Date {
 
     ghost json = { date_json };
 
-    /// The year as a number where it is alone, a text where that reads as the date, else an object
+    /// The year as a number where it is alone, a text where that reads as the date, or an object
     /// of the parts.
     #[tactic(auto, unfolding(crate::specs::Printed::date_json))]
     fn write_json(&self, alloc: Global, out: &mut Writer) -> Result<(), OutOfMemory> {

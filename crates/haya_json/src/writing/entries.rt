@@ -2,7 +2,6 @@
 ghost use Rattle.std.specs.Prelude.{◌≡◌, ◌++◌, codes, map, option_map, OnOk};
 ghost use Rattle.json.specs.Json.{array, member, no_members, string};
 ghost use Rattle.json.specs.Tree.{members_tokens};
-ghost use Rattle.haya_entry.specs.EntryType.{in_lower_case, type_name};
 ghost use Rattle.haya_entry.specs.Tree.{fields, trees, view};
 ghost use Rattle.haya_json.specs.Printed.{also, item_list, json_of, key_of_its_own};
 ghost use Rattle.haya_json.specs.Printed.{parent_members, parents_json, type_json};
@@ -48,7 +47,7 @@ fn write_type(out: &mut Writer, kind: EntryType) -> Result<(), OutOfMemory>
         (λ ms. member (codes "type") (type_json kind) ms)) }
     ensures before { OnOk result (KeepsBefore out.old out.new) }
 {
-    write_text(out, "type", lower_name(kind))
+    write_text(out, "type", kind.lower_name())
 }
 
 // The key, where it isn't that of the entry below.
@@ -61,44 +60,6 @@ fn write_key(out: &mut Writer, below: Option<&str>, key: &str) -> Result<(), Out
     match below {
         Some(below) if below != key => write_text(out, "key", key),
         _ => Ok(()),
-    }
-}
-
-// The name of a type in lower case.
-fn lower_name(kind: EntryType) -> &'static str
-    ensures { result.now ≡ in_lower_case (type_name kind) }
-{
-    match kind {
-        EntryType::Article => "article",
-        EntryType::Chapter => "chapter",
-        EntryType::Entry => "entry",
-        EntryType::Anthos => "anthos",
-        EntryType::Report => "report",
-        EntryType::Thesis => "thesis",
-        EntryType::Web => "web",
-        EntryType::Scene => "scene",
-        EntryType::Artwork => "artwork",
-        EntryType::Patent => "patent",
-        EntryType::Case => "case",
-        EntryType::Newspaper => "newspaper",
-        EntryType::Legislation => "legislation",
-        EntryType::Manuscript => "manuscript",
-        EntryType::Post => "post",
-        EntryType::Misc => "misc",
-        EntryType::Performance => "performance",
-        EntryType::Periodical => "periodical",
-        EntryType::Proceedings => "proceedings",
-        EntryType::Book => "book",
-        EntryType::Blog => "blog",
-        EntryType::Reference => "reference",
-        EntryType::Conference => "conference",
-        EntryType::Anthology => "anthology",
-        EntryType::Repository => "repository",
-        EntryType::Thread => "thread",
-        EntryType::Video => "video",
-        EntryType::Audio => "audio",
-        EntryType::Exhibition => "exhibition",
-        EntryType::Original => "original",
     }
 }
 

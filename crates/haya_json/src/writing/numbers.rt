@@ -18,7 +18,7 @@ impl ToJson for Numeric {
 
     ghost json = { number_json };
 
-    /// A number where it is one without affixes, else its print.
+    /// A number where it is one without affixes, otherwise its print.
     #[tactic(auto, unfolding(crate::specs::Printed::number_json))]
     fn write_json(&self, alloc: Global, out: &mut Writer) -> Result<(), OutOfMemory> {
         match self.single_number() {

@@ -3,13 +3,13 @@ ghost use Rattle.std.specs.Prelude.{◌≡◌, option_map, string_bytes, IfOk, O
 ghost use Rattle.std.specs.Option.{option_eq};
 ghost use Rattle.std.specs.Str.{bytes_eq};
 ghost use Rattle.haya_people.specs.Person.{person_view};
-ghost use Rattle.haya_people.specs.Roles.{role_view, roles_view};
-ghost use Rattle.haya_json.specs.Printed.{person_parts, person_text, reads_as_person, role_name};
+ghost use Rattle.haya_people.specs.Roles.{roles_view};
+ghost use Rattle.haya_json.specs.Printed.{person_parts, person_text, reads_as_person};
 ghost use Rattle.haya_json.specs.Printed.{same_person, same_truth};
 ghost use Rattle.haya_json.specs.Writing.{KeepsBefore, WritesValue};
 
 use crate::members::{ToJson, also_text, also_true, write_many, write_text};
-use haya_people::{Person, PersonError, PersonRole, PersonsWithRoles};
+use haya_people::{Person, PersonError, PersonsWithRoles};
 use haya_text::{OutOfMemory, ReadText};
 use json::Writer;
 use std::alloc::Global;
@@ -24,7 +24,7 @@ impl ToJson for Person {
 
     ghost json = { person_json };
 
-    /// A text where that reads as the person, else an object of the parts of the name.
+    /// A text where that reads as the person, otherwise an object of the parts of the name.
     #[tactic(auto, unfolding(crate::specs::Printed::person_json))]
     fn write_json(&self, alloc: Global, out: &mut Writer) -> Result<(), OutOfMemory> {
         let text = person_text(alloc, self)?;
@@ -125,35 +125,6 @@ fn text_of(text: &Option<String>) -> Option<&str>
     }
 }
 
-// The name of a role, or its words.
-fn role_name(role: &PersonRole) -> &str
-    ensures { result.now ≡ role_name (role_view role.now) }
-{
-    match role {
-        PersonRole::Translator => "translator",
-        PersonRole::Afterword => "afterword",
-        PersonRole::Foreword => "foreword",
-        PersonRole::Introduction => "introduction",
-        PersonRole::Annotator => "annotator",
-        PersonRole::Commentator => "commentator",
-        PersonRole::Holder => "holder",
-        PersonRole::Compiler => "compiler",
-        PersonRole::Founder => "founder",
-        PersonRole::Collaborator => "collaborator",
-        PersonRole::Organizer => "organizer",
-        PersonRole::CastMember => "cast-member",
-        PersonRole::Composer => "composer",
-        PersonRole::Producer => "producer",
-        PersonRole::ExecutiveProducer => "executive-producer",
-        PersonRole::Writer => "writer",
-        PersonRole::Cinematography => "cinematography",
-        PersonRole::Director => "director",
-        PersonRole::Illustrator => "illustrator",
-        PersonRole::Narrator => "narrator",
-        PersonRole::Unknown(words) => words.as_str(),
-    }
-}
-
 impl ToJson for PersonsWithRoles {
     ghost use Rattle.haya_people.specs.Roles.{RolesView, roles_view};
     ghost use Rattle.haya_json.specs.Printed.{roles_json};
@@ -168,7 +139,7 @@ impl ToJson for PersonsWithRoles {
     #[tactic(auto, unfolding(crate::specs::Printed::roles_json))]
     fn write_json(&self, alloc: Global, out: &mut Writer) -> Result<(), OutOfMemory> {
         out.begin_object()?;
-        write_text(out, "role", role_name(&self.role))?;
+        write_text(out, "role", self.role.name())?;
         write_many(alloc, out, "names", self.names.as_slice())?;
         out.end_object()?;
         Ok(())

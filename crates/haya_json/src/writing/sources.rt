@@ -24,7 +24,7 @@ impl ToJson for Publisher {
 
     ghost json = { publisher_json };
 
-    /// The text of the name where there is no place and no short form, else an object.
+    /// The text of the name where there is no place and no short form, otherwise an object.
     #[tactic(auto, unfolding(crate::specs::Printed::publisher_json))]
     fn write_json(&self, alloc: Global, out: &mut Writer) -> Result<(), OutOfMemory> {
         match name_alone(self) {

@@ -17,9 +17,9 @@ parts role ps = json.member (codes "role") (json.string role) (names ps)
 pub returns-clause-value : goal.returns-clause-value
 unfolding roles_json
 returns-clause-value c =
-    let role = c.role_name.result.now in
+    let role = c.name.result.now in
     let ps = map person_view c.as_slice.result.now in
     object_written c.args.out.now.tokens c.begin_object.new.self.tokens c.write_many.new.out.tokens c.end_object.new.self.tokens (parts role ps)
     c.in_ok-begin_object.ensures.ok (c.in_ok-write_many.ensures.member json.no_members ∙ c.in_ok-write_text.ensures.member (names ps)) c.in_ok-end_object.ensures.ok
     ∙ ap (λ xs. c.args.out.now.tokens ++ json_tokens (json.object (parts role (map person_view xs)))) c.as_slice.ensures.value
-    ∙ ap (λ n. c.args.out.now.tokens ++ json_tokens (json.object (parts n (map person_view c.args.self.now.names.items)))) c.role_name.ensures
+    ∙ ap (λ n. c.args.out.now.tokens ++ json_tokens (json.object (parts n (map person_view c.args.self.now.names.items)))) c.name.ensures

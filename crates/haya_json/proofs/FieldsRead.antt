@@ -1,0 +1,239 @@
+-- The fields of entries that were read.
+use Rattle.std.proofs.Common.{◌≡◌, ℕ, Bool, true, false, List, [], ◌∷◌, Option, None, Some, Result, Ok, refl, subst, cond}
+use Rattle.std.specs.Prelude.{IfSome, is_some, unwrap_or, if◌then◌else◌}
+use Rattle.std.specs.List.{AllByRecursion}
+use Rattle.std.specs.Map.{lookup}
+use Rattle.std.specs.Str.{bytes_eq}
+use Rattle.json.specs.Json.{Json}
+use Rattle.haya_entry.specs.Tree.{Tree, Fields, node, fields, parents, no_fields}
+use Rattle.haya_entry.specs.declared.types.EntryType.{EntryType}
+use Rattle.haya_numbers.specs.NumericBack.{is_kept}
+use Rattle.haya_numbers.specs.PagesBack.{are_kept}
+use Rattle.haya_json.specs.Refusal.{Refusal, refused}
+use Rattle.haya_json.specs.Parts.{plain_of}
+use Rattle.haya_json.specs.Values.{format_of, persons_of, affiliated_of, date_of, publisher_of, url_of, number_of, number_or_text_of, pages_or_text_of, range_or_text_of, duration_or_text_of, serials_of}
+use Rattle.haya_json.specs.Fields.{Setter, field_setter, serial_setter, passing_over, setter_in, number_table, text_table, field_table, with_field}
+use Rattle.haya_json.specs.Kept.{IsKeptTyped, FieldsAreKept}
+use Rattle.haya_json.specs.Readable.{IsReadableText, IsReadablePublisher, HasNamedRole, IsReadableDate, IsReadableUrl, IsReadableNumber, IsReadableNumberOrText, AreInOrder, FieldsAreReadable}
+use Rattle.haya_json.specs.declared.fault.Why.TheVariants.{Twice}
+use Rattle.haya_json.proofs.SerialsRead.{serials_read_again}
+use Rattle.haya_json.proofs.TextsRead.{HasTexts, both_ok, ok_same}
+use Rattle.haya_json.proofs.ValuesRead.{ReadAgain, ReadablePages, ReadableDuration, ReadableRange, format_read_again, publisher_read_again, affiliated_read_again, date_read_again, url_read_again, number_read_again, number_or_text_read_again, pages_read_again, duration_read_again, range_read_again}
+
+-- Each field is as its type says, numbers and pages where they are kept. Texts, people and numbers
+-- stand apart.
+abbrev pub TextsWereRead : Fields → Type 0
+TextsWereRead f =
+    IfSome f.title IsReadableText
+    × IfSome f.location IsReadableText
+    × IfSome f.organization IsReadableText
+    × IfSome f.archive IsReadableText
+    × IfSome f.archive_location IsReadableText
+    × IfSome f.call_number IsReadableText
+    × IfSome f.note IsReadableText
+    × IfSome f.abstract_ IsReadableText
+    × IfSome f.genre IsReadableText
+
+abbrev pub PeopleWereRead : Fields → Type 0
+PeopleWereRead f =
+    IfSome f.affiliated (AllByRecursion HasNamedRole)
+    × IfSome f.date IsReadableDate
+    × IfSome f.publisher IsReadablePublisher
+    × IfSome f.url IsReadableUrl
+
+abbrev pub NumbersWereRead : Fields → Type 0
+NumbersWereRead f =
+    IfSome f.issue (λ v. IsKeptTyped is_kept v → IsReadableNumberOrText v)
+    × IfSome f.chapter (λ v. IsKeptTyped is_kept v → IsReadableNumberOrText v)
+    × IfSome f.volume (λ v. IsKeptTyped is_kept v → IsReadableNumberOrText v)
+    × IfSome f.edition (λ v. IsKeptTyped is_kept v → IsReadableNumberOrText v)
+    × IfSome f.volume_total (λ n. is_kept n ≡ true → IsReadableNumber n)
+    × IfSome f.page_total (λ n. is_kept n ≡ true → IsReadableNumber n)
+    × IfSome f.page_range (λ v. IsKeptTyped are_kept v → ReadablePages v)
+    × IfSome f.time_range ReadableRange
+    × IfSome f.runtime ReadableDuration
+
+pub record FieldsWereRead (f : Fields) : Type 0 where
+  pub texts : TextsWereRead f
+  pub people : PeopleWereRead f
+  pub numbers : NumbersWereRead f
+  pub serial_number : IfSome f.serial_number (AreInOrder [])
+
+where_kept : {V : Type 0} (K R : V → Type 0) (o : Option V) → IfSome o K → IfSome o (λ v. K v → R v) → IfSome o R
+where_kept K R None k r = tt
+where_kept K R (Some v) k r = r k
+
+pub fields_readable : (f : Fields) → FieldsWereRead f → FieldsAreKept f → FieldsAreReadable f
+fields_readable f r k = record {
+  title = r.texts.0;
+  location = r.texts.1;
+  organization = r.texts.2;
+  archive = r.texts.3;
+  archive_location = r.texts.4;
+  call_number = r.texts.5;
+  note = r.texts.6;
+  abstract_ = r.texts.7;
+  genre = r.texts.8;
+  affiliated = r.people.0;
+  date = r.people.1;
+  publisher = r.people.2;
+  url = r.people.3;
+  issue = where_kept (IsKeptTyped is_kept) IsReadableNumberOrText f.issue k.issue r.numbers.0;
+  chapter = where_kept (IsKeptTyped is_kept) IsReadableNumberOrText f.chapter k.chapter r.numbers.1;
+  volume = where_kept (IsKeptTyped is_kept) IsReadableNumberOrText f.volume k.volume r.numbers.2;
+  edition = where_kept (IsKeptTyped is_kept) IsReadableNumberOrText f.edition k.edition r.numbers.3;
+  volume_total = where_kept (λ n. is_kept n ≡ true) IsReadableNumber f.volume_total k.volume_total r.numbers.4;
+  page_total = where_kept (λ n. is_kept n ≡ true) IsReadableNumber f.page_total k.page_total r.numbers.5;
+  page_range = where_kept (IsKeptTyped are_kept) ReadablePages f.page_range k.page_range r.numbers.6;
+  time_range = r.numbers.7;
+  runtime = r.numbers.8;
+  serial_number = r.serial_number;
+}
+
+pub none_read : (key : List ℕ) (kind : EntryType) → FieldsWereRead (no_fields key kind)
+none_read key kind = record {
+  texts = (tt, tt, tt, tt, tt, tt, tt, tt, tt);
+  people = (tt, tt, tt, tt);
+  numbers = (tt, tt, tt, tt, tt, tt, tt, tt, tt);
+  serial_number = tt;
+}
+
+-- ---- setters
+
+-- the fields were read, and the parents are the same
+pub record Kept (t u : Tree) : Type 0 where
+  pub fields : FieldsWereRead (fields u)
+  pub parents : parents u ≡ parents t
+
+KeepsRead : Setter → Type 0
+KeepsRead set = (j : Json) (t u : Tree) → HasTexts j → FieldsWereRead (fields t) → set j t ≡ Ok u → Kept t u
+
+field_keeps : {V : Type 0} (P : V → Type 0) (read : Json → Result V Refusal) (put : V → Fields → Fields) → ((j : Json) (v : V) → HasTexts j → read j ≡ Ok v → P v)
+    → ((v : V) (f : Fields) → FieldsWereRead f → P v → FieldsWereRead (put v f)) → KeepsRead (field_setter read put)
+unfolding KeepsRead
+field_keeps P read put each puts j (node f ps) u texts r is =
+    let b = both_ok (read j) _ u is in
+    let same : node (put b.value f) ps ≡ u = ok_same b.then in
+    subst (Kept (node f ps)) same (record { fields = puts b.value f r (each j b.value texts b.first); parents = refl })
+
+AllKeep : List (List ℕ × Setter) → Type 0
+AllKeep [] = Unit {0}
+AllKeep (row ∷ rows) = KeepsRead row.1 × AllKeep rows
+
+setter_keeps : (rows : List (List ℕ × Setter)) (name : List ℕ) → AllKeep rows → KeepsRead (setter_in rows name)
+unfolding KeepsRead AllKeep
+setter_keeps [] name h j t u texts r is = let same : t ≡ u = ok_same is in subst (Kept t) same (record { fields = r; parents = refl })
+setter_keeps (row ∷ rows) name h j t u texts r is = by (setter_keeps rows name h.1 j t u texts r) (bytes_eq name row.0) is
+  where
+    by : (setter_in rows name j t ≡ Ok u → Kept t u) → (b : Bool) → unwrap_or (cond b (Some row.1) (lookup (bytes_eq name) rows)) passing_over j t ≡ Ok u → Kept t u
+    by rest true k = h.0 j t u texts r k
+    by rest false k = rest k
+
+module _ (again : ReadAgain) where
+  serial_keeps : KeepsRead serial_setter
+  unfolding KeepsRead
+  serial_keeps j t u texts r is = by (is_some (fields t).serial_number) is
+    where
+      set : Setter
+      set = field_setter serials_of (λ v f. record f { serial_number = Some v })
+
+      by : (b : Bool) → (if b then refused Twice else set j t) ≡ Ok u → Kept t u
+      by true h = cc
+      by false h = field_keeps (AreInOrder []) serials_of (λ v f. record f { serial_number = Some v }) (λ j v texts k. serials_read_again j v k) (λ v f w p. record { texts = w.texts; people = w.people; numbers = w.numbers; serial_number = p }) j t u texts r h
+
+  numbers_keep : AllKeep number_table
+  unfolding AllKeep
+  numbers_keep = (
+    field_keeps _ number_or_text_of _ (number_or_text_read_again again) (λ v f w p. record { texts = w.texts; people = w.people; numbers = (p, w.numbers.1, w.numbers.2, w.numbers.3, w.numbers.4, w.numbers.5, w.numbers.6, w.numbers.7, w.numbers.8); serial_number = w.serial_number }),
+    (
+      field_keeps _ number_or_text_of _ (number_or_text_read_again again) (λ v f w p. record { texts = w.texts; people = w.people; numbers = (w.numbers.0, p, w.numbers.2, w.numbers.3, w.numbers.4, w.numbers.5, w.numbers.6, w.numbers.7, w.numbers.8); serial_number = w.serial_number }),
+      (
+        field_keeps _ number_or_text_of _ (number_or_text_read_again again) (λ v f w p. record { texts = w.texts; people = w.people; numbers = (w.numbers.0, w.numbers.1, p, w.numbers.3, w.numbers.4, w.numbers.5, w.numbers.6, w.numbers.7, w.numbers.8); serial_number = w.serial_number }),
+        (
+          field_keeps _ number_or_text_of _ (number_or_text_read_again again) (λ v f w p. record { texts = w.texts; people = w.people; numbers = (w.numbers.0, w.numbers.1, w.numbers.2, p, w.numbers.4, w.numbers.5, w.numbers.6, w.numbers.7, w.numbers.8); serial_number = w.serial_number }),
+          (
+            field_keeps _ number_of _ (number_read_again again) (λ v f w p. record { texts = w.texts; people = w.people; numbers = (w.numbers.0, w.numbers.1, w.numbers.2, w.numbers.3, p, w.numbers.5, w.numbers.6, w.numbers.7, w.numbers.8); serial_number = w.serial_number }),
+            (
+              field_keeps _ number_of _ (number_read_again again) (λ v f w p. record { texts = w.texts; people = w.people; numbers = (w.numbers.0, w.numbers.1, w.numbers.2, w.numbers.3, w.numbers.4, p, w.numbers.6, w.numbers.7, w.numbers.8); serial_number = w.serial_number }),
+              (
+                field_keeps _ pages_or_text_of _ (pages_read_again again) (λ v f w p. record { texts = w.texts; people = w.people; numbers = (w.numbers.0, w.numbers.1, w.numbers.2, w.numbers.3, w.numbers.4, w.numbers.5, p, w.numbers.7, w.numbers.8); serial_number = w.serial_number }),
+                (
+                  field_keeps _ range_or_text_of _ (range_read_again again) (λ v f w p. record { texts = w.texts; people = w.people; numbers = (w.numbers.0, w.numbers.1, w.numbers.2, w.numbers.3, w.numbers.4, w.numbers.5, w.numbers.6, p, w.numbers.8); serial_number = w.serial_number }),
+                  (
+                    field_keeps _ duration_or_text_of _ (duration_read_again again) (λ v f w p. record { texts = w.texts; people = w.people; numbers = (w.numbers.0, w.numbers.1, w.numbers.2, w.numbers.3, w.numbers.4, w.numbers.5, w.numbers.6, w.numbers.7, p); serial_number = w.serial_number }),
+                    (
+                      serial_keeps,
+                      (
+                        serial_keeps,
+                        tt,
+                      ),
+                    ),
+                  ),
+                ),
+              ),
+            ),
+          ),
+        ),
+      ),
+    ),
+  )
+
+  texts_keep : AllKeep text_table
+  unfolding AllKeep
+  texts_keep = (
+    field_keeps _ format_of _ (format_read_again again) (λ v f w p. record { texts = (p, w.texts.1, w.texts.2, w.texts.3, w.texts.4, w.texts.5, w.texts.6, w.texts.7, w.texts.8); people = w.people; numbers = w.numbers; serial_number = w.serial_number }),
+    (
+      field_keeps _ format_of _ (format_read_again again) (λ v f w p. record { texts = (w.texts.0, p, w.texts.2, w.texts.3, w.texts.4, w.texts.5, w.texts.6, w.texts.7, w.texts.8); people = w.people; numbers = w.numbers; serial_number = w.serial_number }),
+      (
+        field_keeps _ format_of _ (format_read_again again) (λ v f w p. record { texts = (w.texts.0, w.texts.1, p, w.texts.3, w.texts.4, w.texts.5, w.texts.6, w.texts.7, w.texts.8); people = w.people; numbers = w.numbers; serial_number = w.serial_number }),
+        (
+          field_keeps _ format_of _ (format_read_again again) (λ v f w p. record { texts = (w.texts.0, w.texts.1, w.texts.2, p, w.texts.4, w.texts.5, w.texts.6, w.texts.7, w.texts.8); people = w.people; numbers = w.numbers; serial_number = w.serial_number }),
+          (
+            field_keeps _ format_of _ (format_read_again again) (λ v f w p. record { texts = (w.texts.0, w.texts.1, w.texts.2, w.texts.3, p, w.texts.5, w.texts.6, w.texts.7, w.texts.8); people = w.people; numbers = w.numbers; serial_number = w.serial_number }),
+            (
+              field_keeps _ format_of _ (format_read_again again) (λ v f w p. record { texts = (w.texts.0, w.texts.1, w.texts.2, w.texts.3, w.texts.4, p, w.texts.6, w.texts.7, w.texts.8); people = w.people; numbers = w.numbers; serial_number = w.serial_number }),
+              (
+                field_keeps _ format_of _ (format_read_again again) (λ v f w p. record { texts = (w.texts.0, w.texts.1, w.texts.2, w.texts.3, w.texts.4, w.texts.5, p, w.texts.7, w.texts.8); people = w.people; numbers = w.numbers; serial_number = w.serial_number }),
+                (
+                  field_keeps _ format_of _ (format_read_again again) (λ v f w p. record { texts = (w.texts.0, w.texts.1, w.texts.2, w.texts.3, w.texts.4, w.texts.5, w.texts.6, p, w.texts.8); people = w.people; numbers = w.numbers; serial_number = w.serial_number }),
+                  (
+                    field_keeps _ format_of _ (format_read_again again) (λ v f w p. record { texts = (w.texts.0, w.texts.1, w.texts.2, w.texts.3, w.texts.4, w.texts.5, w.texts.6, w.texts.7, p); people = w.people; numbers = w.numbers; serial_number = w.serial_number }),
+                    numbers_keep,
+                  ),
+                ),
+              ),
+            ),
+          ),
+        ),
+      ),
+    ),
+  )
+
+  all_keep : AllKeep field_table
+  unfolding AllKeep
+  all_keep = (
+    field_keeps (λ v. Unit {0}) persons_of _ (λ j v u h. tt) (λ v f w p. record { texts = w.texts; people = w.people; numbers = w.numbers; serial_number = w.serial_number }),
+    (
+      field_keeps (λ v. Unit {0}) persons_of _ (λ j v u h. tt) (λ v f w p. record { texts = w.texts; people = w.people; numbers = w.numbers; serial_number = w.serial_number }),
+      (
+        field_keeps _ affiliated_of _ (affiliated_read_again again) (λ v f w p. record { texts = w.texts; people = (p, w.people.1, w.people.2, w.people.3); numbers = w.numbers; serial_number = w.serial_number }),
+        (
+          field_keeps _ date_of _ (date_read_again again) (λ v f w p. record { texts = w.texts; people = (w.people.0, p, w.people.2, w.people.3); numbers = w.numbers; serial_number = w.serial_number }),
+          (
+            field_keeps _ publisher_of _ (publisher_read_again again) (λ v f w p. record { texts = w.texts; people = (w.people.0, w.people.1, p, w.people.3); numbers = w.numbers; serial_number = w.serial_number }),
+            (
+              field_keeps _ url_of _ (url_read_again again) (λ v f w p. record { texts = w.texts; people = (w.people.0, w.people.1, w.people.2, p); numbers = w.numbers; serial_number = w.serial_number }),
+              (
+                field_keeps (λ v. Unit {0}) plain_of _ (λ j v u h. tt) (λ v f w p. record { texts = w.texts; people = w.people; numbers = w.numbers; serial_number = w.serial_number }),
+                texts_keep,
+              ),
+            ),
+          ),
+        ),
+      ),
+    ),
+  )
+
+  pub field_read : (name : List ℕ) (j : Json) (t u : Tree) → HasTexts j → FieldsWereRead (fields t) → with_field name j t ≡ Ok u → Kept t u
+  unfolding KeepsRead
+  field_read name = setter_keeps field_table name all_keep

@@ -1,0 +1,17 @@
+use Rattle.haya_json.proofs.LawsBelow.{laws_below}
+use Rattle.haya_json.proofs.LibraryRead.{read_again}
+use Rattle.haya_json.proofs.laws.read_libraries_read_back.Goals as goal
+
+pub returns : goal.returns
+returns c = read_again (laws_below (record {
+  texts = c.read_texts_read_back.ensures.read;
+  chunk = c.read_texts_read_back.ensures.chunk;
+  numbers = c.read_numbers_read_back.ensures.kept;
+  bounds = c.read_numbers_read_back.ensures.bounds;
+  pages = c.read_pages_read_back.ensures.kept;
+  page = c.read_pages_read_back.ensures.page;
+  durations = c.read_durations_read_back.ensures.duration;
+  ranges = c.read_durations_read_back.ensures.range;
+  ends = c.read_durations_read_back.ensures.ends;
+  dates = c.reads_the_forms_of_dates.ensures.value;
+}))
