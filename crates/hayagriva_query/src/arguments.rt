@@ -2,9 +2,9 @@
 ghost use Rattle.std.specs.Prelude.{◌≡◌, ◌≢◌, ◌⊎◌, IfErr};
 ghost use Rattle.std.specs.IoError.{error_kind};
 ghost use Rattle.std.specs.declared.io.ErrorKind.TheVariants.{OutOfMemory as NoMemory};
-ghost use Rattle.hayagriva_query.specs.declared.fault.Fault.TheVariants.{OutOfMemory, Usage};
+ghost use Rattle.haya_run.specs.declared.fault.Fault.TheVariants.{OutOfMemory, Usage};
 
-use crate::fault::Fault;
+use haya_run::Fault;
 use std::{env, io};
 
 /// The arguments without the program's own name. Where one isn't UTF-8, they are wrong as a whole:

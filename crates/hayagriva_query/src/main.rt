@@ -2,15 +2,10 @@
 #![tactic(auto)]
 
 mod arguments;
-mod fault;
-mod laws;
-mod printing;
-mod reading;
-mod running;
 
 use arguments::words;
+use haya_run::run_given;
 use hayagriva::HashKeys;
-pub use running::{run, run_given};
 use std::process::ExitCode;
 
 fn main(rt: HostRuntime) -> ExitCode {

@@ -81,27 +81,83 @@ fn deep_texts_and_texts_past_ascii(rt: HostRuntime) {
     assert!(rt; reads_as(&rt, accented, "Err(UnknownEntryType(\"b\"))"));
 }
 
-// How often a sign stands in a long text.
-const LONG: usize = 5_000;
+// How often a text is repeated in a long one. Not optimized, as `./test` runs it, a longer one takes
+// minutes; `tests/long` asks the program itself for as many as an argument holds.
+const LONG: usize = 20_000;
 
-// Whether the text is read, copied, compared, made ready and dropped, with equal copies.
-fn is_carried(rt: &(impl Abort + AllocGlobal), begin: &str) -> bool {
-    let text = nested(rt, begin, "*", "", LONG);
+// A text that many times, and a value behind it.
+fn long(rt: &(impl Abort + AllocGlobal), begin: &str, value: &str) -> Selector {
+    let text = nested(rt, begin, value, "", LONG);
     let read = selector(rt, text.as_str());
     drop(text);
+    read
+}
+
+// Whether the text is read, copied, compared and made ready, and each of these dropped.
+fn is_carried(rt: &(impl Abort + AllocGlobal), begin: &str) -> bool {
+    let read = long(rt, begin, "*");
+    let other = long(rt, begin, "book");
     let copy = read.try_clone(rt.alloc()).expect(rt, "memory");
-    let same = copy == read;
+    let compared = copy == read && copy != other;
     drop(copy);
+    drop(other);
     let prepared = PreparedSelector::new(rt.alloc(), &read).expect(rt, "memory");
     drop(prepared);
     drop(read);
-    same
+    compared
 }
 
 // Without parentheses a selector is as long as memory allows.
 #[test]
 fn long_texts_take_no_stack(rt: HostRuntime) {
-    for begin in ["* > ", "!", "*|*&"] {
+    for begin in ["* > ", "a:* > ", "!", "*|*&"] {
         assert!(rt; is_carried(&rt, begin), "{begin}");
+    }
+}
+
+// Each row: a text that is repeated, and what a form of it begins and ends with when it is printed.
+const SHOWN: &[(&str, &str, &str)] = &[
+    ("* > ", "Ancestrage(", ", Wildcard)"),
+    ("!", "Neg(", ")"),
+    ("*|*&", "Multi([Alt([", ", Wildcard]), Wildcard])"),
+];
+
+fn is_shown(rt: &(impl Abort + AllocGlobal), begin: &str, opening: &str, closing: &str) -> bool {
+    let read = long(rt, begin, "*");
+    let shown = format!(in rt.alloc(); "{read:?}").expect(rt, "memory");
+    drop(read);
+    let wanted = nested(rt, opening, "Wildcard", closing, LONG);
+    shown == wanted
+}
+
+#[test]
+fn long_selectors_are_printed(rt: HostRuntime) {
+    for (begin, opening, closing) in SHOWN {
+        assert!(rt; is_shown(&rt, *begin, *opening, *closing), "{begin}");
+    }
+}
+
+// Each row: a beginning, a text that is repeated, whether the whole holds at a book with one parent,
+// and the evaluator's calls.
+const HELD: &[(&str, &str, (bool, u64))] = &[
+    ("", "* > ", (true, 40_001)),
+    ("", "a:* > ", (true, 60_001)),
+    ("book > ", "* > ", (true, 40_003)),
+    ("web > ", "* > ", (false, 20_002)),
+    ("", "!", (true, 20_001)),
+    ("* > ", "!", (true, 20_003)),
+    ("* > a:", "!", (true, 20_004)),
+    ("", "*|*&", (false, 1)),
+    ("* > ", "*|*&", (false, 7)),
+];
+
+#[test]
+fn long_selectors_are_asked(rt: HostRuntime) {
+    for (begin, repeated, wanted) in HELD {
+        let mut text = string(&rt, *begin);
+        let behind = nested(&rt, *repeated, "*", "", LONG);
+        text.push_str(behind.as_str()).expect(&rt, "memory");
+        drop(behind);
+        assert_eq!(rt; asked(&rt, text, 1), *wanted, "{begin}{repeated}");
     }
 }

@@ -1,4 +1,4 @@
-//! The calls of `hayagriva` at worked rows, as a caller sees them. They have a crate of their
+//! The calls of `hayagriva` and of `haya_run` at worked rows, as a caller sees them. They have a crate of their
 //! own, so that the gate doesn't prove another crate once more with them.
 #![tactic(auto)]
 
@@ -16,5 +16,7 @@ mod members;
 mod parse;
 #[cfg(test)]
 mod query;
+#[cfg(test)]
+mod running;
 #[cfg(test)]
 mod works;

@@ -1,5 +1,5 @@
 use super::{fault_of, words};
-use crate::fault::Fault;
+use haya_run::Fault;
 use std::env::{Env, FillError};
 use std::io;
 use std::test::Fail;

@@ -1,0 +1,12 @@
+//! What the program `hayagriva_query` does, but for its words and its streams: it reads a library,
+//! asks it, and prints the hits as they come.
+#![tactic(auto)]
+
+mod fault;
+pub mod laws;
+mod printing;
+mod reading;
+mod running;
+
+pub use fault::Fault;
+pub use running::{run, run_given};
