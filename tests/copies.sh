@@ -21,7 +21,7 @@ make_tools() {
 copy_to() {
     local crate
     mkdir -p "$1/crates"
-    cp -R "$top"/{hayagriva_query,dist,examples,crates.txt} "$1" || return
+    cp -R "$top"/{hayagriva_query,haya,dist,examples,crates.txt} "$1" || return
     for crate in "$top"/crates/*/; do
         crate=$(basename "$crate")
         mkdir "$1/crates/$crate" && cp -R "$top/crates/$crate"/{src,specs} "$1/crates/$crate" 2> /dev/null

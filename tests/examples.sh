@@ -13,8 +13,8 @@ read_examples() {
             ,'```'* | ,'#'*) block=${line//[!\`]/} at='' ;;
             sh,'```') block='' ;;
             *,'```') block='' at='' ;;
-            sh,./hayagriva_query\ *'# prints '*) commands+=("$line") outputs+=("${line##*'# prints '}"$'\n') ;;
-            sh,./hayagriva_query\ *)
+            sh,./hayagriva_query\ *'# prints '* | sh,./haya\ *'# prints '*) commands+=("$line") outputs+=("${line##*'# prints '}"$'\n') ;;
+            sh,./hayagriva_query\ * | sh,./haya\ *)
                 [ -n "$at" ] || { at=${#commands[@]}; commands+=('') outputs+=('?'); }
                 commands[at]+=$line$'\n'
                 ;;

@@ -1,2 +1,6 @@
+pub mod Answer
+pub mod Formats
 pub mod Picks
 pub mod Printed
+pub mod Reading
+pub mod Run

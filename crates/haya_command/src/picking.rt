@@ -3,8 +3,8 @@ ghost use Rattle.std.specs.Prelude.{◌≡◌, IfErr, IfOk, IfSome};
 ghost use Rattle.std.specs.Str.{chars};
 ghost use Rattle.hayagriva.specs.Fault.{fault};
 ghost use Rattle.hayagriva.specs.Query.{AreHits};
-ghost use Rattle.hayagriva.specs.Reading.{IfReads, TextFails};
-ghost use Rattle.hayagriva.specs.Syntax.{Neg, syntax};
+ghost use Rattle.hayagriva.specs.Reading.{IfReads, TextFails, TextReads};
+ghost use Rattle.hayagriva.specs.Syntax.{Neg, Syntax, syntax};
 ghost use Rattle.haya_command.specs.Picks.{wanted};
 
 use haya_text::OutOfMemory;
@@ -20,6 +20,8 @@ pub fn picks<'l>(
     text: &str,
     invert: bool,
 ) -> Result<Vec<Hit<'l>>, SelectorError>
+    ensures picked { IfOk result (λ hits. (s : Syntax) × TextReads (chars text.now) s
+        × AreHits (wanted invert s) library.now hits.items) }
     ensures hits { IfOk result (λ hits. IfReads (chars text.now)
         (λ s. AreHits (wanted invert s) library.now hits.items)) }
     ensures error { IfErr result (λ e. IfSome (fault e) (TextFails (chars text.now))) }

@@ -60,7 +60,7 @@ less_one n = if n == 0 then None else Some (n - 1)
 abbrev pub counted : ℤ → Option ℕ
 counted n = option_and_then less_one (byte_of n)
 
--- the season that stands in the place of a month
+-- the season in the place of a month
 abbrev pub season_at : ℤ → Option Season
 season_at n =
     if int_eq n (pos 21) then Some Spring

@@ -58,7 +58,7 @@ chapter_in item =
     if has (codes "editor") item then appears_in type.Anthos type.Anthology takes.Book
     else appears_in type.Chapter type.Book takes.Book
 
--- an article where it is published, and else what somebody keeps
+-- an article where it is published, otherwise what somebody keeps
 abbrev pub letter_in : Json → Kind
 letter_in item =
     if has (codes "container-title") item then

@@ -9,3 +9,4 @@ pub mod Members
 pub mod Items
 pub mod Draft
 pub mod Libraries
+pub mod Ignored

@@ -247,7 +247,7 @@ fn date_at(year: i32, month: Part, day: Part) -> Option<Date>
     }
 }
 
-// The date of a month, or of the season that stands in its place.
+// The date of a month, or of the season in its place.
 fn in_season(season: Option<Season>, year: i32, month: i32) -> Option<Date>
     ensures { result ≡ in_season season year month }
 {
@@ -282,7 +282,7 @@ fn on_day(year: i32, month: Option<u8>, day: Option<u8>) -> Option<Date>
     on_calendar(year, Some(month?), Some(day?))
 }
 
-// The season that stands in the place of a month.
+// The season in the place of a month.
 fn season_at(month: i32) -> Option<Season>
     ensures { result ≡ season_at month }
 {

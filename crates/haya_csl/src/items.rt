@@ -204,8 +204,8 @@ fn set_placed(
     }
 }
 
-// The role of the persons whom a member names.
-fn role_of(name: &str) -> Option<PersonRole>
+/// The role of the persons whom a member names.
+pub(crate) fn role_of(name: &str) -> Option<PersonRole>
     ensures { option_map role_view result ≡ role_of name.now }
 {
     match name {

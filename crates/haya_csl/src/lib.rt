@@ -10,5 +10,6 @@ mod libraries;
 mod markup;
 mod members;
 mod names;
+mod passed_over;
 
 pub use libraries::read_csl_json;

@@ -4,35 +4,60 @@ ghost use Rattle.json.specs.Value.{items_view, value_view};
 ghost use Rattle.haya_json.specs.Refusal.{IsFaultOf};
 ghost use Rattle.haya_csl.specs.Libraries.{DescribesAsCsl, IsCslErrorOf, csl_library_of};
 ghost use Rattle.haya_csl.specs.Libraries.{items_pushed, list_in, list_of};
+ghost use Rattle.haya_csl.specs.Ignored.{IsPassedOver, passed_over};
+ghost use Rattle.haya_json.specs.Ignored.{counts_of};
+ghost use Rattle.haya_json.specs.Tally.{tally};
 
 use crate::items::read_item;
+use crate::passed_over::ignored_in;
 use haya_json::reading::{Fault, member};
-use haya_json::{ReadError, Why};
+use haya_json::{Ignored, ReadError, Why};
 use hayagriva::Library;
 use json::{Scratch, Value};
 use std::alloc::Global;
 
 /// The library that a text says in CSL-JSON: a list of items, or an object that has it as its
 /// `items`. The order is that of the list, and the key of an entry is the item's `id`. A member
-/// that has no place in an entry is passed over.
+/// that has no place in an entry is passed over, and counted; members of the objects inside values
+/// aren't, nor is a null, or a member in whose place the item has another that is preferred.
 ///
 /// `NotJson`: the text is no JSON. `NameTwice`: it is, and an object has a member twice. `Refused`:
 /// a value is not what its place asks for, a type is none of CSL's, or an `id` is missing or comes
 /// a second time.
-pub fn read_csl_json(alloc: Global, text: &str) -> Result<Library, ReadError>
-    ensures library { IfOk result (DescribesAsCsl text.now) }
+pub fn read_csl_json(alloc: Global, text: &str) -> Result<(Library, Ignored), ReadError>
+    ensures library { IfOk result (λ read. DescribesAsCsl text.now read.0) }
+    ensures ignored { IfOk result (λ read. IsPassedOver text.now read.1) }
     ensures error { IfErr result (IsCslErrorOf text.now) }
 {
     let mut scratch = Scratch::new(alloc);
     match Value::parse_strict(alloc, text, &mut scratch) {
-        Ok(json) => match library_of(alloc, &json) {
-            Ok(library) => Ok(library),
+        Ok(json) => match library_and_ignored(alloc, &json) {
+            Ok(read) => Ok(read),
             Err(Fault::Refused(path, why)) => Err(ReadError::Refused(path, why)),
             Err(Fault::OutOfMemory) => Err(ReadError::OutOfMemory),
         },
         Err(json::Error::Invalid) => Err(ReadError::NotJson),
         Err(json::Error::DuplicateKey) => Err(ReadError::NameTwice),
         Err(_) => Err(ReadError::OutOfMemory),
+    }
+}
+
+// The library that a value says, and what is passed over of it.
+fn library_and_ignored(alloc: Global, json: &Value<'_>) -> Result<(Library, Ignored), Fault>
+    ensures ok { IfOk result (λ read. csl_library_of (value_view json.now) ≡ Ok read.0) }
+    ensures ignored { IfOk result (λ read.
+        counts_of read.1 ≡ tally (passed_over (value_view json.now))) }
+    ensures fault { IfErr result (IsFaultOf (csl_library_of (value_view json.now))) }
+{
+    match library_of(alloc, json) {
+        Ok(library) => match ignored_in(alloc, json) {
+            Ok(ignored) => Ok((library, ignored)),
+            Err(_) => {
+                drop(library);
+                Err(Fault::OutOfMemory)
+            }
+        },
+        Err(fault) => Err(fault),
     }
 }
 

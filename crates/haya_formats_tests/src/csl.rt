@@ -2,6 +2,7 @@
 //! as hayagriva's file format writes it in JSON.
 mod examples;
 mod fields;
+mod ignored;
 mod kinds;
 mod refused;
 mod shown;

@@ -10,3 +10,5 @@ mod hits;
 mod json;
 #[cfg(test)]
 mod printing;
+#[cfg(test)]
+mod runs;

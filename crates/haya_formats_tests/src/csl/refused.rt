@@ -151,8 +151,8 @@ const REFUSED: &[(&str, &str)] = &[
 // Whether the text is refused with this message.
 fn refuses(rt: &(impl Abort + AllocGlobal), text: &str, wanted: &str) -> bool {
     match read_csl_json(rt.alloc(), text) {
-        Ok(library) => {
-            drop(library);
+        Ok(read) => {
+            drop(read);
             false
         }
         Err(error) => {

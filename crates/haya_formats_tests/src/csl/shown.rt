@@ -5,7 +5,7 @@ use std::process::Abort;
 
 /// Whether the text reads as the library that is written so.
 pub(super) fn shows(rt: &(impl Abort + AllocGlobal), text: &str, wanted: &str) -> bool {
-    let library = read_csl_json(rt.alloc(), text).expect(rt, "a library");
+    let (library, _) = read_csl_json(rt.alloc(), text).expect(rt, "a library");
     let shown = to_json(rt.alloc(), &library).expect(rt, "memory");
     drop(library);
     shown.as_slice() == wanted.as_bytes()

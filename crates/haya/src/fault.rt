@@ -1,0 +1,36 @@
+//! Why the process ends with status 2 before anything is asked.
+use std::alloc::{AllocError, AllocFailed};
+use std::io;
+use thiserror::Error;
+
+/// Why there is nothing to ask.
+#[derive(Debug, Drop, Error)]
+pub enum StartFault {
+    /// The file that is called so can't be read.
+    #[error("{0}: {1}")]
+    CannotRead(String, io::Error),
+    /// It isn't UTF-8.
+    #[error("{0}: not text")]
+    NotText(String),
+    /// An argument isn't UTF-8, or the arguments can't be had.
+    #[error("an argument is not text")]
+    NoWords,
+    /// No keys for the library's map can be drawn.
+    #[error("no random keys")]
+    NoKeys,
+    /// An allocation failed.
+    #[error("out of memory")]
+    OutOfMemory,
+}
+
+impl From<AllocError> for StartFault {
+    fn from(_error: AllocError) -> StartFault {
+        StartFault::OutOfMemory
+    }
+}
+
+impl<T: Drop> From<AllocFailed<T>> for StartFault {
+    fn from(_error: AllocFailed<T>) -> StartFault {
+        StartFault::OutOfMemory
+    }
+}

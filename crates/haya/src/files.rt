@@ -1,0 +1,92 @@
+//! Reads the input: files, and standard input.
+ghost use Rattle.std.specs.Prelude.{◌≡◌, IfOk, OnOk, string_bytes};
+ghost use Rattle.std.specs.Io.KnownBytes.{Consumes, IsAtEnd};
+
+use crate::fault::StartFault;
+use haya_command::Input;
+use std::alloc::Global;
+use std::fs::File;
+use std::io;
+use std::io::Read;
+use std::rt::Files;
+
+/// The texts of these files in their order, of standard input for `-` or where there is no file.
+pub fn read_files<F: Files, R: Read>(
+    alloc: Global,
+    rt: &F,
+    files: &[String],
+    stdin: &mut R,
+) -> Result<Vec<Input>, StartFault> {
+    let mut inputs = Vec::new(alloc);
+    if files.is_empty() {
+        inputs.push(read_input(alloc, "standard input", stdin)?)?;
+    }
+    for file in files {
+        inputs.push(read_file(alloc, rt, file.as_str(), stdin)?)?;
+    }
+    Ok(inputs)
+}
+
+// The text of a file, or of standard input.
+fn read_file<F: Files, R: Read>(
+    alloc: Global,
+    rt: &F,
+    name: &str,
+    stdin: &mut R,
+) -> Result<Input, StartFault> {
+    if name == "-" {
+        return read_input(alloc, "standard input", stdin);
+    }
+    match File::open(rt, name) {
+        Ok(mut file) => read_input(alloc, name, &mut file),
+        Err(error) => Err(cannot_read(alloc, name, error)),
+    }
+}
+
+// All that a reader has left, which is called so.
+fn read_input<R: Read>(alloc: Global, name: &str, reader: &mut R) -> Result<Input, StartFault>
+    ensures text { IfOk result (λ input.
+        Consumes (R.remaining reader.old) (R.remaining reader.new) (string_bytes input.text)) }
+    ensures end { OnOk result (IsAtEnd (R.remaining reader.new)) }
+    ensures name { IfOk result (λ input. string_bytes input.name ≡ name.now) }
+{
+    let bytes = match read_all(alloc, reader) {
+        Ok(bytes) => bytes,
+        Err(error) => return Err(cannot_read(alloc, name, error)),
+    };
+    let name = String::from_str(alloc, name)?;
+    match String::from_utf8(bytes) {
+        Ok(text) => Ok(Input { name, text }),
+        Err(_) => Err(StartFault::NotText(name)),
+    }
+}
+
+// All bytes that a reader has left. A read that is only interrupted is tried again.
+fn read_all<R: Read>(alloc: Global, reader: &mut R) -> io::Result<Vec<u8>>
+    ensures bytes { IfOk result (λ bytes.
+        Consumes (R.remaining reader.old) (R.remaining reader.new) bytes.items) }
+    ensures end { OnOk result (IsAtEnd (R.remaining reader.new)) }
+{
+    let mut bytes = Vec::new(alloc);
+    let mut chunk = [0u8; 65536];
+    'reads: for _ in 0..u64::MAX {
+        match reader.read(&mut chunk) {
+            Ok(0) => return Ok(bytes),
+            Ok(n) => bytes.extend_from_slice(&chunk[..n])?,
+            Err(error) => {
+                if error.kind() != io::ErrorKind::Interrupted {
+                    return Err(error);
+                }
+            }
+        }
+    }
+    Err(io::Error::from(io::ErrorKind::Other))
+}
+
+// What is said where the file that is called so can't be read.
+fn cannot_read(alloc: Global, name: &str, error: io::Error) -> StartFault {
+    match String::from_str(alloc, name) {
+        Ok(name) => StartFault::CannotRead(name, error),
+        Err(_) => StartFault::OutOfMemory,
+    }
+}

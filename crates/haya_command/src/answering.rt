@@ -1,0 +1,68 @@
+//! What a library answers.
+ghost use Rattle.std.specs.Prelude.{◌≡◌, ◌≢◌, [], ◌∷◌, ◌++◌, decimal, IfOk, IfSome};
+ghost use Rattle.std.specs.Prelude.{IsOkUnless, string_bytes};
+ghost use Rattle.std.specs.Str.{chars};
+ghost use Rattle.hayagriva.specs.Fault.{fault};
+ghost use Rattle.hayagriva.specs.Reading.{TextFails};
+ghost use Rattle.hayagriva.specs.declared.SelectorError.{SelectorError as SelectorErrorData};
+ghost use Rattle.haya_command.specs.Answer.{IsAnswer, IsShown};
+ghost use Rattle.haya_command.specs.declared.fault.Fault.TheVariants.{OutOfMemory, Selector};
+ghost use Rattle.haya_lines.specs.Signs.{line_feed};
+
+use crate::fault::Fault;
+use crate::options::Options;
+use crate::picking::picks;
+use crate::printing::hits_text;
+use hayagriva::{Hit, Library};
+use std::alloc::Global;
+
+/// What is printed, and whether an entry is found.
+#[derive(Debug, Drop, PartialEq, Eq)]
+pub struct Answer {
+    /// The text that is printed.
+    pub text: String,
+    /// Whether there is a hit.
+    pub found: bool,
+}
+
+/// The answer of a library to what is asked. `Selector`: the selector's text is none. `Unsaid`: a
+/// hit can't be printed in lines.
+pub fn ask(alloc: Global, library: &Library, options: &Options) -> Result<Answer, Fault>
+    ensures answer { IfOk result (λ answer.
+        IsAnswer options.now library.now (string_bytes answer.text) answer.found) }
+    ensures selector { (e : SelectorErrorData) → result ≡ Err (Selector e) →
+        IfSome (fault e) (TextFails (chars (string_bytes options.now.selector))) }
+{
+    let hits = match picks(alloc, library, options.selector.as_str(), options.invert) {
+        Ok(hits) => hits,
+        Err(error) => return Err(Fault::Selector(error)),
+    };
+    let found = !hits.is_empty();
+    let text = shown(alloc, hits.as_slice(), options)?;
+    Ok(Answer { text, found })
+}
+
+// What is printed of the hits.
+fn shown(alloc: Global, hits: &[Hit], options: &Options) -> Result<String, Fault>
+    ensures shown { IfOk result (λ text. IsShown options.now hits.now (string_bytes text)) }
+    ensures selector { (e : SelectorErrorData) → result ≢ Err (Selector e) }
+{
+    if options.quiet {
+        return Ok(String::new(alloc));
+    }
+    if options.count {
+        return count_line(alloc, hits.len());
+    }
+    match hits_text(alloc, hits, options.to) {
+        Ok(text) => Ok(text),
+        Err(error) => Err(Fault::Unsaid(error)),
+    }
+}
+
+// A number in a line of its own.
+fn count_line(alloc: Global, count: usize) -> Result<String, Fault>
+    ensures line { IfOk result (λ text. string_bytes text ≡ decimal count ++ line_feed ∷ []) }
+    ensures error { IsOkUnless result OutOfMemory }
+{
+    Ok(format!(in alloc; "{count}\n")?)
+}

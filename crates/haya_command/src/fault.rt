@@ -1,0 +1,93 @@
+//! Why a run of the command ends with status 2.
+use crate::writing::WriteFault;
+use haya_input::InputFault;
+use haya_json::ReadError;
+use haya_printing::LinesError;
+use haya_text::OutOfMemory;
+use hayagriva::SelectorError;
+use std::alloc::{AllocError, AllocFailed};
+use thiserror::Error;
+
+/// Why a text is no library in its format.
+#[derive(Debug, Drop, Error)]
+pub enum InputError {
+    /// Of a text in one of the formats that are JSON.
+    #[error("{0}")]
+    Json(ReadError),
+    /// Of a text in lines.
+    #[error("{0}")]
+    Lines(InputFault),
+}
+
+/// Why a run answers nothing, or not all of it.
+#[derive(Debug, Drop, Error)]
+pub enum Fault {
+    /// The text that is called so is no library.
+    #[error("{0}: {1}")]
+    Input(String, InputError),
+    /// The text that is called so has members that its format doesn't know, which are listed.
+    #[error("{0}: unknown members: {1}")]
+    Unknown(String, String),
+    /// The selector's text is none.
+    #[error("{0}")]
+    Selector(SelectorError),
+    /// An entry can't be printed in lines.
+    #[error("{0}")]
+    Unsaid(LinesError),
+    /// Nobody reads what is printed.
+    #[error("nobody reads what is printed")]
+    Closed,
+    /// The answer can't be printed.
+    #[error("cannot write")]
+    CannotWrite,
+    /// An allocation failed that isn't told by an error above.
+    #[error("out of memory")]
+    OutOfMemory,
+}
+
+impl From<WriteFault> for Fault {
+    ghost use Rattle.std.specs.Prelude.{◌≡◌, ◌⊎◌};
+    ghost use Rattle.haya_command.specs.declared.fault.Fault.TheVariants.{CannotWrite, Closed};
+
+    ghost from_gives = { λ _ e. (e ≡ Closed) ⊎ (e ≡ CannotWrite) };
+
+    fn from(fault: WriteFault) -> Fault {
+        match fault {
+            WriteFault::Closed => Fault::Closed,
+            WriteFault::CannotWrite => Fault::CannotWrite,
+        }
+    }
+}
+
+impl From<OutOfMemory> for Fault {
+    ghost use Rattle.std.specs.Prelude.{◌≡◌};
+    ghost use Rattle.haya_command.specs.declared.fault.Fault.TheVariants.{OutOfMemory};
+
+    ghost from_gives = { λ _ e. e ≡ OutOfMemory };
+
+    fn from(_error: OutOfMemory) -> Fault {
+        Fault::OutOfMemory
+    }
+}
+
+impl From<AllocError> for Fault {
+    ghost use Rattle.std.specs.Prelude.{◌≡◌};
+    ghost use Rattle.haya_command.specs.declared.fault.Fault.TheVariants.{OutOfMemory};
+
+    ghost from_gives = { λ _ e. e ≡ OutOfMemory };
+
+    fn from(_error: AllocError) -> Fault {
+        Fault::OutOfMemory
+    }
+}
+
+impl<T: Drop> From<AllocFailed<T>> for Fault {
+    ghost use Rattle.std.specs.Prelude.{◌≡◌};
+    ghost use Rattle.haya_command.specs.declared.fault.Fault.TheVariants.{OutOfMemory};
+
+    ghost from_gives = { λ _ e. e ≡ OutOfMemory };
+
+    fn from(_error: AllocFailed<T>) -> Fault {
+        Fault::OutOfMemory
+    }
+}

@@ -1,0 +1,105 @@
+//! A whole run, but for where its words and its texts come from.
+ghost use Rattle.std.specs.Prelude.{◌≡◌, ◌≤◌, false, true, IfOk, IsTrue, OnErr};
+ghost use Rattle.std.specs.Io.KnownBytes.{Keeps};
+ghost use Rattle.haya_command.specs.Reading.{texts};
+ghost use Rattle.haya_command.specs.Run.{Prints, Stands};
+
+use crate::answering::ask;
+use crate::fault::Fault;
+use crate::notes::{fault_text, names_text};
+use crate::options::{Input, Options};
+use crate::reading::{Collected, read_inputs};
+use crate::writing::write_text;
+use hayagriva::HashKeys;
+use std::alloc::Global;
+use std::io::Write;
+use std::mem;
+
+/// Reads the inputs as a library, asks it, and prints its answer. The answer is the status that the
+/// process is to end with: 0 where there is a hit, 1 where there is none, 2 at a fault. Nothing is
+/// printed before all inputs are read. Messages go to `err`, where the run isn't quiet.
+pub fn run<W: Write, E: Write>(
+    alloc: Global,
+    keys: HashKeys,
+    options: &Options,
+    inputs: &[Input],
+    out: &mut W,
+    err: &mut E,
+) -> u8
+    ensures hit { result ≡ 0 → Prints options.now (texts inputs.now)
+        (W.contents out.old) (W.contents out.new) true }
+    ensures none { result ≡ 1 → Prints options.now (texts inputs.now)
+        (W.contents out.old) (W.contents out.new) false }
+    ensures fault { result ≡ 2 → Stands options.now (texts inputs.now)
+        (W.contents out.old) (W.contents out.new) }
+    ensures status { result ≤ 2 }
+    ensures quiet { IsTrue options.now.quiet →
+        Keeps (E.contents err.old) (E.contents err.new) }
+{
+    match print_answer(alloc, keys, options, inputs, out, err) {
+        Ok(true) => 0,
+        Ok(false) => 1,
+        Err(fault) => complain(alloc, options, &fault, err),
+    }
+}
+
+/// Tells a fault, where the run isn't quiet and somebody reads what it prints. The answer is the
+/// status that the process is to end with, 2.
+pub fn complain<E: Write>(alloc: Global, options: &Options, fault: &Fault, err: &mut E) -> u8
+    ensures status { result ≡ 2 }
+    ensures quiet { IsTrue options.now.quiet →
+        Keeps (E.contents err.old) (E.contents err.new) }
+{
+    if options.quiet || matches!(fault, Fault::Closed) {
+        return 2;
+    }
+    match fault_text(alloc, options.selector.as_str(), fault) {
+        Ok(text) => tell(err, text.as_str()),
+        Err(_) => tell(err, "haya: out of memory\n"),
+    }
+    2
+}
+
+// Writes a message. Where this fails, the status says it all.
+fn tell<E: Write>(err: &mut E, text: &str) {
+    let _ = write_text(err, text);
+}
+
+// Prints the answer, and says whether an entry is found.
+fn print_answer<W: Write, E: Write>(
+    alloc: Global,
+    keys: HashKeys,
+    options: &Options,
+    inputs: &[Input],
+    out: &mut W,
+    err: &mut E,
+) -> Result<bool, Fault>
+    ensures answer { IfOk result (λ found. Prints options.now (texts inputs.now)
+        (W.contents out.old) (W.contents out.new) found) }
+    ensures fault { OnErr result (Stands options.now (texts inputs.now)
+        (W.contents out.old) (W.contents out.new)) }
+    ensures quiet { IsTrue options.now.quiet →
+        Keeps (E.contents err.old) (E.contents err.new) }
+{
+    let Collected { library, notes } = read_inputs(alloc, keys, options, inputs)?;
+    let answer = ask(alloc, &library, options)?;
+    // The process ends with this answer, and gives all memory back at once: entry by entry that
+    // takes longer than any selector.
+    mem::forget(library);
+    warn(alloc, options, notes.as_str(), err);
+    write_text(out, answer.text.as_str())?;
+    Ok(answer.found)
+}
+
+// Tells what was passed over, and which names in brackets no entry can have.
+fn warn<E: Write>(alloc: Global, options: &Options, notes: &str, err: &mut E)
+    ensures { IsTrue options.now.quiet → Keeps (E.contents err.old) (E.contents err.new) }
+{
+    if options.quiet {
+        return;
+    }
+    tell(err, notes);
+    if let Ok(text) = names_text(alloc, options.selector.as_str()) {
+        tell(err, text.as_str());
+    }
+}

@@ -1,0 +1,62 @@
+//! Hands a text on to a writer.
+ghost use Rattle.std.specs.Prelude.{◌≡◌, ◌++◌, ◌↔◌, List, ℕ, OnErr, OnOk};
+ghost use Rattle.std.specs.Io.KnownBytes.{Appends, Keeps};
+ghost use Rattle.std.specs.IoError.{error_kind};
+ghost use Rattle.std.specs.declared.io.ErrorKind.TheVariants.{BrokenPipe};
+ghost use Rattle.haya_command.specs.declared.writing.WriteFault.TheVariants.{Closed};
+
+use std::io;
+use std::io::Write;
+
+/// Why a text isn't written to its end.
+#[derive(Clone, Copy, Debug, Drop, PartialEq, Eq)]
+pub(crate) enum WriteFault {
+    /// Nobody reads what is written.
+    Closed,
+    /// A write failed otherwise.
+    CannotWrite,
+}
+
+/// Writes the whole text. Where a write fails, a first part of it is written.
+pub(crate) fn write_text<W: Write>(out: &mut W, text: &str) -> Result<(), WriteFault>
+    ensures written { OnOk result (Appends (W.contents out.old) (W.contents out.new) text.now) }
+    ensures begun { OnErr result ((first : List ℕ) × (rest : List ℕ)
+        × (text.now ≡ first ++ rest) × Appends (W.contents out.old) (W.contents out.new) first) }
+{
+    let mut rest = text.as_bytes();
+    'writes: for _ in 0..u64::MAX {
+        if rest.is_empty() {
+            return flushed(out);
+        }
+        match out.write(rest) {
+            Ok(0) => return Err(WriteFault::CannotWrite),
+            Ok(taken) => rest = &rest[taken..],
+            Err(error) => {
+                if error.kind() != io::ErrorKind::Interrupted {
+                    return Err(fault_of(&error));
+                }
+            }
+        }
+    }
+    Err(WriteFault::CannotWrite)
+}
+
+// Hands on what the writer holds back.
+fn flushed<W: Write>(out: &mut W) -> Result<(), WriteFault>
+    ensures { Keeps (W.contents out.old) (W.contents out.new) }
+{
+    match out.flush() {
+        Ok(()) => Ok(()),
+        Err(error) => Err(fault_of(&error)),
+    }
+}
+
+// What an error of a writer says.
+fn fault_of(error: &io::Error) -> WriteFault
+    ensures { (result ≡ Closed) ↔ (error_kind error.now ≡ BrokenPipe) }
+{
+    match error.kind() {
+        io::ErrorKind::BrokenPipe => WriteFault::Closed,
+        _ => WriteFault::CannotWrite,
+    }
+}
