@@ -1,0 +1,10 @@
+pub mod Codes
+pub mod Content
+pub mod Entries
+pub mod FieldTexts
+pub mod Handles
+pub mod Held
+pub mod Next
+pub mod Room
+pub mod Rows
+pub mod Texts
