@@ -177,7 +177,7 @@ fn pages(rt: HostRuntime) {
     }
 }
 
-// A part's fault is never the number's want of memory, where the part has a case of its own.
+// A part's fault is never the number's lack of memory, where the part has a case of its own.
 fn is_part(alloc: Global, text: &str) -> Result<bool, OutOfMemory> {
     match PageRangesPart::from_str(alloc, text) {
         Ok(_) => Ok(true),
@@ -246,7 +246,7 @@ fn durations(rt: HostRuntime) {
     }
 }
 
-// The text is cut at its commas into a list, for which room is asked in advance.
+// The text is split at its commas into a list, for which room is asked in advance.
 const PERSONS: &[Text] = &[
     (
         "van Dissmer,Jr.,Courtney Deliah",

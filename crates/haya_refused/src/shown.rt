@@ -9,7 +9,7 @@ use std::fmt::Write;
 
 // Takes the wanted text piece by piece, and fails at any other.
 #[derive(Drop)]
-struct Wanted<'a>(&'a str);
+pub(crate) struct Wanted<'a>(&'a str);
 
 impl fmt::Write for Wanted<'_> {
     fn write_str(&mut self, text: &str) -> fmt::Result {
@@ -20,6 +20,17 @@ impl fmt::Write for Wanted<'_> {
             }
             None => Err(fmt::Error),
         }
+    }
+}
+
+impl<'a> Wanted<'a> {
+    pub(crate) fn new(text: &'a str) -> Wanted<'a> {
+        Wanted(text)
+    }
+
+    // Whether the whole text was written.
+    pub(crate) fn is_done(&self) -> bool {
+        self.0.is_empty()
     }
 }
 

@@ -266,56 +266,30 @@ fn format_from_chunk(alloc: Global, chunk: StringChunk) -> Result<bool, OutOfMem
 }
 
 #[test]
-fn made(rt: HostRuntime) {
-    let (first, second) = (string(&rt, "a{b"), string(&rt, "a{b"));
-    makes(
-        &rt,
-        row("ChunkedString::from_string"),
-        first,
-        second,
-        from_string,
-    );
-    let (first, second) = (string(&rt, "a{b"), string(&rt, "a{b"));
-    makes(
-        &rt,
-        row("FormatString::from_string"),
-        first,
-        second,
-        format_from_string,
-    );
-    let (first, second) = (string(&rt, "a{b"), string(&rt, "a{b"));
-    makes(
-        &rt,
-        row("FormatString::with_value"),
-        first,
-        second,
-        with_value,
-    );
+fn made_from_texts(rt: HostRuntime) {
+    let texts = (string(&rt, "a{b"), string(&rt, "a{b"));
+    let called = row("ChunkedString::from_string");
+    makes(&rt, called, texts.0, texts.1, from_string);
+    let texts = (string(&rt, "a{b"), string(&rt, "a{b"));
+    let called = row("FormatString::from_string");
+    makes(&rt, called, texts.0, texts.1, format_from_string);
+    let texts = (string(&rt, "a{b"), string(&rt, "a{b"));
+    let called = row("FormatString::with_value");
+    makes(&rt, called, texts.0, texts.1, with_value);
     let first = (string(&rt, "a{b"), string(&rt, "S"));
     let second = (string(&rt, "a{b"), string(&rt, "S"));
-    makes(
-        &rt,
-        row("FormatString::with_short"),
-        first,
-        second,
-        with_short,
-    );
+    let called = row("FormatString::with_short");
+    makes(&rt, called, first, second, with_short);
+}
+
+#[test]
+fn made_from_chunks(rt: HostRuntime) {
     let (first, second) = (math(&rt, "a{b"), math(&rt, "a{b"));
-    makes(
-        &rt,
-        row("ChunkedString::from_chunk"),
-        first,
-        second,
-        from_chunk,
-    );
+    let called = row("ChunkedString::from_chunk");
+    makes(&rt, called, first, second, from_chunk);
     let (first, second) = (math(&rt, "a{b"), math(&rt, "a{b"));
-    makes(
-        &rt,
-        row("FormatString::from_chunk"),
-        first,
-        second,
-        format_from_chunk,
-    );
+    let called = row("FormatString::from_chunk");
+    makes(&rt, called, first, second, format_from_chunk);
 }
 
 // What is folded, or not, and both of its forms.

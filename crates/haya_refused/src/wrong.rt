@@ -18,7 +18,7 @@ fn tell(rt: &impl AllocGlobal, heard: bool, answer: Result<bool, OutOfMemory>) {
     }
 }
 
-// Reads a number where it can, and else takes the text.
+// Reads a number where it can, and otherwise takes the text.
 fn read(alloc: Global, text: &str) -> Result<MaybeTyped<Numeric>, OutOfMemory> {
     match Numeric::from_str(alloc, text) {
         Ok(number) => Ok(MaybeTyped::Typed(number)),

@@ -1,5 +1,5 @@
-//! The calls of the library, the selectors, the assignment, the JSON form and the printed lines, of
-//! which each request for memory is refused in turn. Each test runs its calls once, where there is
+//! The calls of the library, the selectors, the assignment, the formats, the printed hits and the
+//! program's run, of which each request for memory is refused in turn. Each test runs its calls once, where there is
 //! memory; `refused/run` at the top of the repository runs each call with each request refused, and
 //! says what it takes for a fault. A row's name is the call's, as `TYPE::CALL`.
 #![tactic(auto)]
@@ -9,7 +9,13 @@ mod assignment;
 #[cfg(test)]
 mod calls;
 #[cfg(test)]
-mod json;
+mod command;
+#[cfg(test)]
+mod csl;
+#[cfg(test)]
+mod file_format;
+#[cfg(test)]
+mod hits;
 #[cfg(test)]
 mod large;
 #[cfg(test)]
@@ -20,6 +26,8 @@ mod lines;
 mod marks;
 #[cfg(test)]
 mod query;
+#[cfg(test)]
+mod running;
 #[cfg(test)]
 mod selectors;
 #[cfg(test)]

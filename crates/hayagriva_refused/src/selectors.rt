@@ -2,6 +2,7 @@
 use crate::calls::{asks, makes, takes_none};
 use crate::marks::Memory::{Maybe, NotTaken, Optional, Taken};
 use crate::marks::{Memory, Row, begin, end, normal, out_of_memory};
+use crate::shown::is_debugged;
 use crate::works::{below, dated, entry, selector, string, with_url};
 use haya_text::OutOfMemory;
 use hayagriva::types::EntryType::{Article, Blog, Book, Periodical, Web};
@@ -249,6 +250,40 @@ fn has_selected(alloc: Global, asked: Wanted<'_>) -> Result<bool, OutOfMemory> {
     ))
 }
 
+fn is_debugged_so(
+    _alloc: Global,
+    (selector, wanted): (&Selector, &str),
+) -> Result<bool, OutOfMemory> {
+    is_debugged(selector, wanted)
+}
+
+#[test]
+fn debugged(rt: HostRuntime) {
+    let selector = selector(&rt, "!web > *");
+    let wanted = "Ancestrage(Neg(Entry(Web)), Wildcard)";
+    let row = Row("Selector::fmt", wanted, Taken);
+    asks(&rt, row, (&selector, wanted), is_debugged_so);
+    drop(selector);
+}
+
+// Asks the selector of a text in each way.
+fn apply(
+    rt: &(impl Abort + AllocGlobal + Print),
+    (text, memory): (&str, Memory),
+    wanted: Wanted<'_>,
+) {
+    let row = Row("Selector::apply", text, memory);
+    asks(rt, row, wanted, is_applied);
+    let row = Row("Selector::apply_counted", text, memory);
+    asks(rt, row, wanted, is_counted);
+    let row = Row("Selector::matches", text, memory);
+    asks(rt, row, wanted, is_matched);
+    let row = Row("Selector::bound", text, memory);
+    asks(rt, row, wanted, has_bound);
+    let row = Row("Entry::bound_select", text, memory);
+    asks(rt, row, wanted, has_selected);
+}
+
 fn apply_each(rt: &(impl Abort + AllocGlobal + Print), entry: &Entry) {
     for (text, holds, key, memory) in APPLIED {
         let selector = selector(rt, *text);
@@ -258,36 +293,7 @@ fn apply_each(rt: &(impl Abort + AllocGlobal + Print), entry: &Entry) {
             holds: *holds,
             key: *key,
         };
-        asks(
-            rt,
-            Row("Selector::apply", *text, *memory),
-            wanted,
-            is_applied,
-        );
-        asks(
-            rt,
-            Row("Selector::apply_counted", *text, *memory),
-            wanted,
-            is_counted,
-        );
-        asks(
-            rt,
-            Row("Selector::matches", *text, *memory),
-            wanted,
-            is_matched,
-        );
-        asks(
-            rt,
-            Row("Selector::bound", *text, *memory),
-            wanted,
-            has_bound,
-        );
-        asks(
-            rt,
-            Row("Entry::bound_select", *text, *memory),
-            wanted,
-            has_selected,
-        );
+        apply(rt, (*text, *memory), wanted);
         drop(selector);
     }
 }

@@ -4,7 +4,7 @@ use crate::entries::{FULL, entry};
 use crate::marks::Memory::NotTaken;
 use crate::marks::Row;
 use crate::shown::Told;
-use haya_entry::{Entry, EntryType};
+use haya_entry::{Entry, EntryType, FieldName};
 use haya_people::Person;
 use haya_text::OutOfMemory;
 use std::process::Abort;
@@ -67,7 +67,8 @@ fn has_serials(entry: &Entry) -> bool {
 
 fn has_head(entry: &Entry) -> bool {
     let head = (entry.key(), entry.entry_type()) == ("k", EntryType::Book);
-    head && entry.parents().is_empty() && entry.has("doi") && !entry.has("serial")
+    let fields = entry.has_field(FieldName::Doi) && entry.has("doi") && !entry.has("serial");
+    head && entry.parents().is_empty() && fields
 }
 
 #[test]
@@ -85,7 +86,7 @@ fn getters(rt: HostRuntime) {
     let serials = "Entry::keyed_serial_number Entry::doi Entry::isbn Entry::issn Entry::pmid \
         Entry::pmcid Entry::arxiv";
     takes_none(&rt, serials, &full, has_serials);
-    let head = "Entry::key Entry::entry_type Entry::parents Entry::has";
+    let head = "Entry::key Entry::entry_type Entry::parents Entry::has Entry::has_field";
     takes_none(&rt, head, &full, has_head);
     drop(full);
 }

@@ -1,6 +1,6 @@
 //! Readers by `FromStr`, and values that are empty when they are made.
 use crate::calls::takes_none;
-use haya_entry::{EntryType, Steps};
+use haya_entry::{EntryType, FieldName, Steps};
 use haya_numbers::{NumericDelimiter, PageRanges};
 use haya_people::{PersonRole, PersonsWithRoles};
 use haya_text::{ChunkedString, FoldableChunkedString, FormatString};
@@ -19,7 +19,14 @@ fn kinds(_given: ()) -> bool {
     let kind = "Article".parse::<EntryType>().is_ok();
     let delimiter = "-x".parse::<NumericDelimiter>().is_ok();
     let role = "cast-member".parse::<PersonRole>().is_ok();
-    kind && delimiter && role && EntryType::Chapter.default_parent() == EntryType::Book
+    let field = "archive".parse::<FieldName>() == Ok(FieldName::Archive);
+    let names = field && FieldName::Archive.as_str() == "archive";
+    let lower = EntryType::Web.lower_name() == "web" && PersonRole::Director.name() == "director";
+    kind && delimiter
+        && role
+        && names
+        && lower
+        && EntryType::Chapter.default_parent() == EntryType::Book
 }
 
 #[test]
@@ -27,7 +34,8 @@ fn read(rt: HostRuntime) {
     let reads = "Date::from_str Duration::from_str DurationRange::from_str";
     takes_none(&rt, reads, (), times);
     let reads = "EntryType::from_str EntryType::default_parent NumericDelimiter::from_str \
-        PersonRole::from_str";
+        PersonRole::from_str FieldName::from_str FieldName::as_str \
+        EntryType::lower_name PersonRole::name";
     takes_none(&rt, reads, (), kinds);
 }
 
@@ -41,7 +49,14 @@ fn lists(alloc: Global) -> bool {
     let pages = PageRanges::new(Vec::new(alloc)).ranges.is_empty();
     let names = PersonsWithRoles::new(Vec::new(alloc), PersonRole::Director);
     let values = OneOrMany::<u32>::new(alloc).into_iter().next();
-    pages && names.names.is_empty() && values.is_none() && Steps::new().seen() == 0
+    pages && names.names.is_empty() && values.is_none()
+}
+
+fn ticks(_given: ()) -> bool {
+    let mut steps = Steps::new();
+    let before = steps.seen();
+    steps.tick();
+    before == 0 && steps.seen() == 1
 }
 
 #[test]
@@ -49,6 +64,7 @@ fn made(rt: HostRuntime) {
     let made = "ChunkedString::new FoldableChunkedString::new FormatString::new";
     takes_none(&rt, made, rt.alloc(), texts);
     let made = "PageRanges::new PersonsWithRoles::new OneOrMany::new OneOrMany::into_iter \
-        OneOrManyIter::next Steps::new Steps::seen";
+        OneOrManyIter::next";
     takes_none(&rt, made, rt.alloc(), lists);
+    takes_none(&rt, "Steps::new Steps::tick Steps::seen", (), ticks);
 }

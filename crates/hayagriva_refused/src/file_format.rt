@@ -3,9 +3,12 @@ use crate::calls::{Change, asks, changes, takes_none};
 use crate::marks::Memory::{Maybe, Optional, Taken};
 use crate::marks::Row;
 use crate::shown::is_shown;
-use haya_json::{Ignored, ReadError, read_library, reads_back, to_json};
+use haya_json::{
+    Ignored, ReadError, lay_out, read_library, reads_back, to_json, to_json_pretty, write_entry,
+};
 use haya_text::OutOfMemory;
 use hayagriva::Library;
+use json::Writer;
 use std::alloc::Global;
 use std::process::Abort;
 
@@ -63,6 +66,34 @@ fn is_printed(alloc: Global, library: &Library) -> Result<bool, OutOfMemory> {
     Ok(to_json(alloc, library)?.as_slice() == PRINTED.as_bytes())
 }
 
+// The entry of the key `k` in that text.
+fn entry_text() -> Option<&'static str> {
+    PRINTED
+        .strip_prefix(r#"{"k":"#)?
+        .strip_suffix(r#","l":{"type":"misc"}}"#)
+}
+
+fn is_written(alloc: Global, library: &Library) -> Result<bool, OutOfMemory> {
+    let mut out = Writer::new(Vec::new(alloc));
+    if let Some(entry) = library.nth(0) {
+        write_entry(alloc, &mut out, None, entry)?;
+    }
+    let bytes = out.into_inner();
+    Ok(entry_text().map(str::as_bytes) == Some(bytes.as_slice()))
+}
+
+const SMALL: &str = r#"{"l":{"type":"misc"}}"#;
+
+const SMALL_LINES: &str = "{\n  \"l\": {\n    \"type\": \"misc\"\n  }\n}";
+
+fn is_laid_out(alloc: Global, (text, wanted): (&str, &str)) -> Result<bool, OutOfMemory> {
+    Ok(lay_out(alloc, text)?.as_slice() == wanted.as_bytes())
+}
+
+fn is_pretty(alloc: Global, library: &Library) -> Result<bool, OutOfMemory> {
+    Ok(to_json_pretty(alloc, library)?.as_slice() == SMALL_LINES.as_bytes())
+}
+
 fn is_read_back(alloc: Global, library: &Library) -> Result<bool, OutOfMemory> {
     reads_back(alloc, library)
 }
@@ -89,6 +120,12 @@ fn libraries(rt: HostRuntime) {
         &library,
         is_read_back,
     );
+    asks(
+        &rt,
+        Row("write_entry", "values of every kind", Optional),
+        &library,
+        is_written,
+    );
     drop(library);
     for (text, wanted) in FAULTY {
         asks(
@@ -98,6 +135,17 @@ fn libraries(rt: HostRuntime) {
             is_refused,
         );
     }
+}
+
+#[test]
+fn laid_out(rt: HostRuntime) {
+    let (library, ignored) = read_library(rt.alloc(), SMALL).expect(&rt, "a library");
+    drop(ignored);
+    let row = Row("to_json_pretty", "an entry", Optional);
+    asks(&rt, row, &library, is_pretty);
+    drop(library);
+    let row = Row("lay_out", "an entry", Optional);
+    asks(&rt, row, (SMALL, SMALL_LINES), is_laid_out);
 }
 
 fn is_shown_so(fault: &ReadError) -> bool {

@@ -1,0 +1,75 @@
+//! Libraries in CSL-JSON.
+use crate::calls::asks;
+use crate::marks::Memory::{Maybe, Optional};
+use crate::marks::Row;
+use crate::shown::is_shown;
+use haya_csl::read_csl_json;
+use haya_json::ReadError;
+use haya_text::OutOfMemory;
+use hayagriva::Library;
+use std::alloc::Global;
+
+// Members of every kind, a journal, and a member that has no place in an entry.
+const ITEMS: &str = concat!(
+    r#"[{"id":"k","type":"article-journal","title":"A <i>b</i> {c}","title-short":"A","#,
+    r#""author":[{"family":"Berg","given":"Jan","non-dropping-particle":"van"},"#,
+    r#"{"literal":"B"}],"translator":[{"family":"T"}],"#,
+    r#""issued":{"date-parts":[[2014,"5",1]]},"accessed":{"raw":"2020-01-02"},"#,
+    r#""container-title":"J","volume":2,"issue":"1-2","page":"17","DOI":"10/1","#,
+    r#""ISSN":"1","URL":"u","language":"de","publisher":"P","publisher-place":"L","#,
+    r#""collection-title":"S","citation-key":"x"},{"id":2,"type":"book"}]"#,
+);
+
+// A text, and what its error shows.
+const FAULTY: &[(&str, &str)] = &[
+    ("[", "no JSON"),
+    (r#"[{"id":"a","id":"a"}]"#, "an object has a member twice"),
+    (r#"[{"id":"a","type":"tale"}]"#, "/0/type: unknown type"),
+    (
+        r#"[{"id":"a","type":"book"},{"id":"a","type":"book"}]"#,
+        "/1/id: the same id twice",
+    ),
+];
+
+fn is_read(alloc: Global, wanted: &Library) -> Result<bool, OutOfMemory> {
+    match read_csl_json(alloc, ITEMS) {
+        Ok((read, ignored)) => {
+            let is_equal = read == *wanted && ignored.count("citation-key") == 1;
+            drop(read);
+            drop(ignored);
+            Ok(is_equal)
+        }
+        Err(ReadError::OutOfMemory) => Err(OutOfMemory),
+        Err(_) => Ok(false),
+    }
+}
+
+fn is_refused(alloc: Global, (text, wanted): (&str, &str)) -> Result<bool, OutOfMemory> {
+    match read_csl_json(alloc, text) {
+        Ok((read, ignored)) => {
+            drop(read);
+            drop(ignored);
+            Ok(false)
+        }
+        Err(ReadError::OutOfMemory) => Err(OutOfMemory),
+        Err(fault) => Ok(is_shown(&fault, wanted)),
+    }
+}
+
+#[test]
+fn items(rt: HostRuntime) {
+    let (wanted, ignored) = read_csl_json(rt.alloc(), ITEMS).expect(&rt, "a library");
+    drop(ignored);
+    assert!(&rt; wanted.len() == 2);
+    let row = Row("read_csl_json", "members of every kind", Optional);
+    asks(&rt, row, &wanted, is_read);
+    drop(wanted);
+}
+
+#[test]
+fn faults(rt: HostRuntime) {
+    for (text, wanted) in FAULTY {
+        let row = Row("read_csl_json", *text, Maybe);
+        asks(&rt, row, (*text, *wanted), is_refused);
+    }
+}
