@@ -1,5 +1,6 @@
 //! The callers that the documents of the crates show, each under the name of its crate.
 pub mod entry;
+pub mod file_format;
 pub mod numbers;
 pub mod people;
 pub mod text;

@@ -1,5 +1,5 @@
-//! Asks a library of three works by selectors that stand in the code, each with a contract in words
-//! of entries, and by one that is only known when it runs.
+//! Asks a library of three works by selectors that are written in the code, each with a contract in
+//! words of entries, and by one that is only known when it runs.
 #![tactic(auto)]
 
 mod callers;
