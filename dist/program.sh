@@ -1,8 +1,12 @@
 # What the scripts share that run, build and compare programs. A script sets `top`, the repository's folder, and reads
 # this file. A program NAME is the crate of that name; dist/NAME.o is its object, crates/NAME/out/NAME what is run.
 
-# The programs whose objects dist/ holds.
-programs=(hayagriva_query)
+# The programs whose objects dist/ holds, and the static library whose archive is there.
+programs=(hayagriva_query haya)
+library=hayagriva_c
+
+# Prints the name of what a build of $1 makes, in out/ and in dist/: a program's object or the library's archive.
+product() { if [ "$1" = "$library" ]; then echo "lib$1.a"; else echo "$1.o"; fi; }
 
 # Sets `crates`: the program $1 and the crates that it stands on, lowest first, as crates.txt lists them.
 find_crates() {
@@ -41,13 +45,14 @@ source_sums() {
     )
 }
 
-# Prints what dist/SOURCES is to have, with the kit's line $1: that, and the sums of the objects and of their sources.
+# Prints what dist/SOURCES is to have, with the kit's line $1: that, and the sums of what dist/ holds and of its sources.
 listing() {
-    local objects=("${programs[@]/#/dist/}")
+    local name files=()
+    for name in "${programs[@]}" "$library"; do files+=("dist/$(product "$name")"); done
     echo '# What dist/ holds and what that is made of, as sha256sum -c reads it. dist/refresh writes this file.'
     echo "# Proved and built with $1"
-    (cd "$top" && sha256sum "${objects[@]/%/.o}" 2> /dev/null)
-    source_sums "${programs[@]}"
+    (cd "$top" && sha256sum "${files[@]}" 2> /dev/null)
+    source_sums "${programs[@]}" "$library"
 }
 
 # Prints the kit's line that dist/SOURCES has.
@@ -130,17 +135,18 @@ quietly() {
     return $status
 }
 
-# Proves and builds the crate $2, of the program $1 or that program itself, which is run as well: on no entries it prints
-# nothing. A check takes up to 1 GB a job.
+# Proves and builds the crate $2, one that $1 stands on or $1 itself. A program is run as well: with words that end well on no
+# entries. A check takes up to 1 GB a job.
 build_crate() {
-    local jobs
+    local jobs words='*'
+    [ "$1" != haya ] || words=--version
     jobs=$(nproc)
     [ "$jobs" -le 4 ] || jobs=4
     cd "$top/crates/$2" || return
-    if [ "$2" = "$1" ]; then quietly rt run --jobs "$jobs" -- '*'; else quietly rt lib --jobs "$jobs"; fi
+    if [ "$2" = "$1" ] && [ "$1" != "$library" ]; then quietly rt run --jobs "$jobs" -- "$words"; else quietly rt lib --jobs "$jobs"; fi
 }
 
-# Proves and builds the program $1, one crate after the other: rt lets no two run that stand on the same crate.
+# Proves and builds the program or library $1, one crate after the other: rt lets no two run that stand on the same crate.
 build() {
     local name=$1 began before crates at
     began=$(date +%s.%N) before=$(source_sums "$name")
@@ -151,19 +157,21 @@ build() {
     done
     mark_proved "$name" "$before"
     # What was edited meanwhile is newer than the program.
-    touch -d "@$began" "$top/crates/$name/out/$name"
+    [ "$name" = "$library" ] || touch -d "@$began" "$top/crates/$name/out/$name"
 }
 
-# Notes beside the object of the program $1 in out/ that it was proved of its sources, where they still have the sums $2.
+# Notes beside what a build of $1 made that it was proved of its sources, where they still have the sums $2.
 mark_proved() {
-    local out=$top/crates/$1/out/$1
-    [ -f "$out.o" ] && [ "$(source_sums "$1")" = "$2" ] && { sha256sum < "$out.o" && echo "$2"; } > "$out.proved"
+    local out=$top/crates/$1/out built
+    built=$out/$(product "$1")
+    [ -f "$built" ] && [ "$(source_sums "$1")" = "$2" ] && { sha256sum < "$built" && echo "$2"; } > "$out/$1.proved"
 }
 
-# Whether the object of the program $1 in out/ was proved of its sources as they are.
+# Whether what a build of $1 made was proved of its sources as they are.
 is_proved() {
-    local out=$top/crates/$1/out/$1
-    [ -f "$out.o" ] && [ "$(cat "$out.proved" 2> /dev/null)" = "$(sha256sum < "$out.o" && source_sums "$1")" ]
+    local out=$top/crates/$1/out built
+    built=$out/$(product "$1")
+    [ -f "$built" ] && [ "$(cat "$out/$1.proved" 2> /dev/null)" = "$(sha256sum < "$built" && source_sums "$1")" ]
 }
 
 # Ends with the status 3, which no program has.
