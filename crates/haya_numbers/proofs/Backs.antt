@@ -14,7 +14,8 @@ use Rattle.ucd_category.proofs.Computing.{ucd_category}
 use Rattle.haya_text.proofs.Tells.{and-both}
 use Rattle.haya_numbers.specs.declared.numeric.NumericDelimiter.{NumericDelimiter}
 use Rattle.haya_numbers.specs.declared.numeric.NumericDelimiter.TheVariants.{Comma, Ampersand, Hyphen}
-use Rattle.haya_numbers.specs.Characters.{is_numeric, is_delimiter, run, past_run, starts}
+use Rattle.haya_text.specs.Characters.{is_numeric, run, behind_run, begins_with}
+use Rattle.haya_numbers.specs.Characters.{is_delimiter}
 use Rattle.haya_numbers.specs.Numeric.{Item, ValueView, Single, SetOf, NumericView, without_affixes}
 use Rattle.haya_numbers.specs.NumericBack.{is_readable, may_follow, items_read_back, value_reads_back, reads_back}
 use Rattle.haya_numbers.specs.NumericPrinted.{formatted_delimiter, item_text, text_or_nothing, shown_numeric}
@@ -44,10 +45,10 @@ past_delimiter Hyphen cs = cs
 
 -- a delimiter before a number: it is no digit, white space is skipped, and it is named
 pub record IsBefore (d : NumericDelimiter) (cs : List ℕ) : Type 0 where
-  pub apart : starts is_numeric (delimiter_chars d ++ cs) ≡ false
+  pub apart : begins_with is_numeric (delimiter_chars d ++ cs) ≡ false
   pub named : delimited (pos 0) (skip_leading_whitespace (delimiter_chars d ++ cs)) ≡ ((pos 0, Some d), past_delimiter d cs)
   pub first : first_delimiter (skip_leading_whitespace (delimiter_chars d ++ cs)) ≡ Some d
-  pub past : past_run is_delimiter (skip_leading_whitespace (delimiter_chars d ++ cs)) ≡ past_delimiter d cs
+  pub past : behind_run is_delimiter (skip_leading_whitespace (delimiter_chars d ++ cs)) ≡ past_delimiter d cs
 
 pub before_number : (d : NumericDelimiter) (m : ℤ) (rest : List ℕ) → is_readable m ≡ true → may_follow d m ≡ true → IsBefore d (signed_decimal m ++ rest)
 unfolding ucd_category
@@ -67,7 +68,7 @@ item-read n d cs rest h b e =
     let same : delimited n (skip_leading_whitespace (delimiter_chars d ++ rest)) ≡ ((n, Some d), past_delimiter d rest) = ap (λ p. ((n, p.0.1), p.1)) b.named in
     rw (e, r) (ap Some same)
 
-item-last : (n : ℤ) (cs t : List ℕ) → is_readable n ≡ true → starts is_numeric t ≡ false → starts is_delimiter (skip_leading_whitespace t) ≡ false → skip_leading_whitespace cs ≡ signed_decimal n ++ t
+item-last : (n : ℤ) (cs t : List ℕ) → is_readable n ≡ true → begins_with is_numeric t ≡ false → begins_with is_delimiter (skip_leading_whitespace t) ≡ false → skip_leading_whitespace cs ≡ signed_decimal n ++ t
     → item_front cs ≡ Some ((n, None), skip_leading_whitespace t)
 item-last n cs t h a d e =
     let r = runs-front is_delimiter [] (skip_leading_whitespace t) refl d in
@@ -86,7 +87,7 @@ head_readable (n, Some d) [] h = cc
 head_readable (n, Some d) (j ∷ is) h = (and-both (is_readable n) (may_follow d j.0) (and-both (is_readable n && may_follow d j.0) (items_read_back (j ∷ is)) h).0).0
 
 -- the numbers of a set, from any of them on, before what ends them
-module _ (t : List ℕ) (apart : starts is_numeric t ≡ false) (ends : starts is_delimiter (skip_leading_whitespace t) ≡ false) where
+module _ (t : List ℕ) (apart : begins_with is_numeric t ≡ false) (ends : begins_with is_delimiter (skip_leading_whitespace t) ≡ false) where
   items-read : (items : List Item) (k : ℕ) (cs : List ℕ) → items_read_back items ≡ true → length items ≤ k → skip_leading_whitespace cs ≡ items_chars items t → items_front k cs ≡ Some (items, skip_leading_whitespace t)
   items-read [] k cs h l e = cc
   items-read (i ∷ is) zero cs h l e = absurd (omega arith)
@@ -178,7 +179,7 @@ abbrev pub behind_value : List ℕ → List ℕ → List ℕ
 behind_value white [] = []
 behind_value white (c ∷ cs) = white ++ c ∷ cs
 
-zeros-before : (zs r : List ℕ) → list_all is_zero zs ≡ true → starts is_numeric r ≡ true → (spare_zeros (zs ++ r) ≡ zs ++ spare_zeros r) × (past_zeros (zs ++ r) ≡ past_zeros r)
+zeros-before : (zs r : List ℕ) → list_all is_zero zs ≡ true → begins_with is_numeric r ≡ true → (spare_zeros (zs ++ r) ≡ zs ++ spare_zeros r) × (past_zeros (zs ++ r) ≡ past_zeros r)
 zeros-before [] r m s = (refl, refl)
 zeros-before (z ∷ zs) r m s =
     let both = and-both (nat_eq z 48) (list_all is_zero zs) m in
@@ -187,16 +188,16 @@ zeros-before (z ∷ zs) r m s =
     rw (one, next_numeric zs r both.1 s) (ap (λ v. z ∷ v) more.0, more.1)
 
 -- the front of what is shown: a prefix, and the first number
-module _ (name zeros : List ℕ) (n : ℤ) (rest : List ℕ) (affixes : list_all is_affix name ≡ true) (all : list_all is_zero zeros ≡ true) (front : starts is_whitespace name ≡ false)
-    (fit : zeros_fit zeros n ≡ true) (h : is_readable n ≡ true) (apart : starts is_numeric rest ≡ false) where
+module _ (name zeros : List ℕ) (n : ℤ) (rest : List ℕ) (affixes : list_all is_affix name ≡ true) (all : list_all is_zero zeros ≡ true) (front : begins_with is_whitespace name ≡ false)
+    (fit : zeros_fit zeros n ≡ true) (h : is_readable n ≡ true) (apart : begins_with is_numeric rest ≡ false) where
   front_zeros : (zs : List ℕ) → list_all is_zero zs ≡ true → zeros_fit zs n ≡ true
-      → (starts is_affix (zs ++ (signed_decimal n ++ rest)) ≡ false) × (spare_zeros (zs ++ (signed_decimal n ++ rest)) ≡ zs) × (past_zeros (zs ++ (signed_decimal n ++ rest)) ≡ signed_decimal n ++ rest)
+      → (begins_with is_affix (zs ++ (signed_decimal n ++ rest)) ≡ false) × (spare_zeros (zs ++ (signed_decimal n ++ rest)) ≡ zs) × (past_zeros (zs ++ (signed_decimal n ++ rest)) ≡ signed_decimal n ++ rest)
   front_zeros [] m f = front-signed n rest h apart
   front_zeros (z ∷ zs) m f = by n h f (front-signed n rest h apart)
     where
       by : (n : ℤ) → is_readable n ≡ true → zeros_fit (z ∷ zs) n ≡ true
-          → (starts is_affix (signed_decimal n ++ rest) ≡ false) × (spare_zeros (signed_decimal n ++ rest) ≡ []) × (past_zeros (signed_decimal n ++ rest) ≡ signed_decimal n ++ rest)
-          → (starts is_affix (z ∷ (zs ++ (signed_decimal n ++ rest))) ≡ false) × (spare_zeros (z ∷ (zs ++ (signed_decimal n ++ rest))) ≡ z ∷ zs) × (past_zeros (z ∷ (zs ++ (signed_decimal n ++ rest))) ≡ signed_decimal n ++ rest)
+          → (begins_with is_affix (signed_decimal n ++ rest) ≡ false) × (spare_zeros (signed_decimal n ++ rest) ≡ []) × (past_zeros (signed_decimal n ++ rest) ≡ signed_decimal n ++ rest)
+          → (begins_with is_affix (z ∷ (zs ++ (signed_decimal n ++ rest))) ≡ false) × (spare_zeros (z ∷ (zs ++ (signed_decimal n ++ rest))) ≡ z ∷ zs) × (past_zeros (z ∷ (zs ++ (signed_decimal n ++ rest))) ≡ signed_decimal n ++ rest)
       by (negsuc k) g f own = cc
       by (pos k) g f own =
           let small : k < 2 ^ 31 = grind (arith, nat_tests) in
@@ -205,7 +206,7 @@ module _ (name zeros : List ℕ) (n : ℤ) (rest : List ℕ) (affixes : list_all
           let none : is_affix z ≡ false = rw one refl in
           (none, b.0 ∙ ap (λ v. (z ∷ zs) ++ v) own.1 ∙ append-nil (z ∷ zs), b.1 ∙ own.2)
 
-  skip-front : (name : List ℕ) → starts is_whitespace name ≡ false → skip_leading_whitespace (name ++ (zeros ++ (signed_decimal n ++ rest))) ≡ name ++ (zeros ++ (signed_decimal n ++ rest))
+  skip-front : (name : List ℕ) → begins_with is_whitespace name ≡ false → skip_leading_whitespace (name ++ (zeros ++ (signed_decimal n ++ rest))) ≡ name ++ (zeros ++ (signed_decimal n ++ rest))
   skip-front (c ∷ cs) s = rw s refl
   skip-front [] s = by zeros all
     where
@@ -231,7 +232,7 @@ suffix_apart c h = by (is_numeric c) (is_whitespace c) h
     by false true h = cc
     by true b h = cc
 
-suffix_alone : (suffix : List ℕ) → list_all is_suffix suffix ≡ true → (skip_leading_whitespace suffix ≡ suffix) × (run is_suffix suffix ≡ suffix) × (past_run is_suffix suffix ≡ [])
+suffix_alone : (suffix : List ℕ) → list_all is_suffix suffix ≡ true → (skip_leading_whitespace suffix ≡ suffix) × (run is_suffix suffix ≡ suffix) × (behind_run is_suffix suffix ≡ [])
 suffix_alone suffix m =
     let whole = append-nil suffix in
     let r = rw whole at (runs-front is_suffix suffix [] m refl) in
@@ -253,19 +254,19 @@ same_suffix white shown [] h = refl
 same_suffix white shown (c ∷ cs) h = ap (λ w. suffix_with w (c ∷ cs)) (h (λ e. cc))
 
 -- what stands behind a value
-module _ (white suffix : List ℕ) (space : list_all is_whitespace white ≡ true) (first : starts is_numeric white ≡ false) (members : list_all is_suffix suffix ≡ true) where
-  suffix_starts : (cs : List ℕ) → list_all is_suffix cs ≡ true → (starts is_numeric cs ≡ false) × (starts is_whitespace cs ≡ false)
+module _ (white suffix : List ℕ) (space : list_all is_whitespace white ≡ true) (first : begins_with is_numeric white ≡ false) (members : list_all is_suffix suffix ≡ true) where
+  suffix_starts : (cs : List ℕ) → list_all is_suffix cs ≡ true → (begins_with is_numeric cs ≡ false) × (begins_with is_whitespace cs ≡ false)
   suffix_starts [] m = (refl, refl)
   suffix_starts (c ∷ cs) m = suffix_apart c (and-both (is_suffix c) (list_all is_suffix cs) m).0
 
-  behind : (cs : List ℕ) → suffix ≡ cs → (starts is_numeric (behind_value white cs) ≡ false) × (skip_leading_whitespace (behind_value white cs) ≡ cs) × (cs ≢ [] → run is_whitespace (behind_value white cs) ≡ white)
+  behind : (cs : List ℕ) → suffix ≡ cs → (begins_with is_numeric (behind_value white cs) ≡ false) × (skip_leading_whitespace (behind_value white cs) ≡ cs) × (cs ≢ [] → run is_whitespace (behind_value white cs) ≡ white)
   behind [] e = (refl, refl, λ no. absurd (no refl))
   behind (c ∷ cs) e =
       let own = suffix_starts (c ∷ cs) (rw e at members) in
       let r = runs-front is_whitespace white (c ∷ cs) space own.1 in
       (by white first own.0, skip-is (white ++ c ∷ cs) white (c ∷ cs) (record { joined = refl; members = space; longest = own.1 }), λ some. r.0)
     where
-      by : (w : List ℕ) → starts is_numeric w ≡ false → is_numeric c ≡ false → starts is_numeric (w ++ c ∷ cs) ≡ false
+      by : (w : List ℕ) → begins_with is_numeric w ≡ false → is_numeric c ≡ false → begins_with is_numeric (w ++ c ∷ cs) ≡ false
       by [] f g = g
       by (x ∷ w) f g = f
 
@@ -287,9 +288,9 @@ chars-prefix before text u =
 pub record AreAffixes (name zeros white suffix : List ℕ) : Type 0 where
   pub affixes : list_all is_affix name ≡ true
   pub zeros_all : list_all is_zero zeros ≡ true
-  pub front : starts is_whitespace name ≡ false
+  pub front : begins_with is_whitespace name ≡ false
   pub space : list_all is_whitespace white ≡ true
-  pub apart : starts is_numeric white ≡ false
+  pub apart : begins_with is_numeric white ≡ false
   pub members : list_all is_suffix suffix ≡ true
   pub before_text : scalars (name ++ zeros) ≡ true
   pub behind_text : scalars (white ++ suffix) ≡ true
@@ -336,7 +337,7 @@ module _ (name zeros white suffix : List ℕ) (a : AreAffixes name zeros white s
   single-back n h fit none = ap (λ v. read_from (skip_leading_whitespace v)) (single-shown n h) ∙ single-read n h fit none
 
   pub set-back : (n m : ℤ) (d : NumericDelimiter) (o : Option NumericDelimiter) (is : List Item) → items_read_back ((n, Some d) ∷ (m, o) ∷ is) ≡ true → zeros_fit zeros n ≡ true
-      → starts is_delimiter suffix ≡ false → (suffix ≢ [] → white_shown d ≡ white)
+      → begins_with is_delimiter suffix ≡ false → (suffix ≢ [] → white_shown d ≡ white)
       → numeric_read (shown_numeric (with_affixes (name ++ zeros) white suffix (SetOf ((n, Some d) ∷ (m, o) ∷ is)))) ≡ Ok (with_affixes (name ++ zeros) white suffix (SetOf ((n, Some d) ∷ (m, o) ∷ is)))
   set-back n m d o is h fit ends space =
       let items : List Item = (n, Some d) ∷ (m, o) ∷ is in
@@ -358,7 +359,7 @@ module _ (name zeros white suffix : List ℕ) (a : AreAffixes name zeros white s
       ∙ append_assoc name zeros (signed_decimal n ++ rest) in
       let fits : length ((m, o) ∷ is) ≤ length (past_delimiter d (signed_decimal m ++ tail)) =
       omega (arith, items-length ((m, o) ∷ is) t more.1, ap length grouped, length-past_delimiter d (signed_decimal m ++ tail)) in
-      let stops : starts is_delimiter (skip_leading_whitespace t) ≡ false = rw behind_it.1 ends in
+      let stops : begins_with is_delimiter (skip_leading_whitespace t) ≡ false = rw behind_it.1 ends in
       let read = items-read t behind_it.0 stops ((m, o) ∷ is) (length (past_delimiter d (signed_decimal m ++ tail))) (past_delimiter d (signed_decimal m ++ tail)) more.1 fits (skip-past_delimiter d m tail next ∙ sym grouped) in
       let same = same_suffix white (white_shown d) suffix space in
       ap (λ v. read_from (skip_leading_whitespace v)) shown

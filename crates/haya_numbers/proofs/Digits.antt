@@ -9,25 +9,12 @@ use Rattle.std.proofs.lemmas.Bool.Decides.{nat_tests}
 use Rattle.std.proofs.lemmas.Fmt.{decimal_is_IsNumeral, first_decimal, decimal_digit}
 use Rattle.std.proofs.lemmas.Str.Parse.{digit_from_value}
 use Rattle.ucd_category.proofs.Computing.{ucd_category}
-use Rattle.haya_numbers.specs.Characters.{hyphen, zero_digit, is_numeric, is_delimiter, run, past_run, starts}
+use Rattle.haya_text.proofs.Numerics.{digits_numeric}
+use Rattle.haya_text.specs.Characters.{hyphen, is_numeric, run, behind_run, begins_with}
+use Rattle.haya_numbers.specs.Characters.{zero_digit, is_delimiter}
 use Rattle.haya_numbers.specs.NumericReading.{is_affix, magnitude, past_sign, number_front, spare_zeros, past_zeros, prefix_run, past_prefix}
 use Rattle.haya_numbers.specs.NumericBack.{is_readable}
 use Rattle.haya_numbers.proofs.Magnitudes.{own, hyphen_is_not, magnitude_some}
-
--- the ten digits are numeric
-pub digits_numeric : (d : ℕ) → d < 10 → is_numeric (48 + d) ≡ true
-unfolding ucd_category
-digits_numeric zero h = refl
-digits_numeric (suc zero) h = refl
-digits_numeric (suc (suc zero)) h = refl
-digits_numeric (suc (suc (suc zero))) h = refl
-digits_numeric (suc (suc (suc (suc zero)))) h = refl
-digits_numeric (suc (suc (suc (suc (suc zero))))) h = refl
-digits_numeric (suc (suc (suc (suc (suc (suc zero)))))) h = refl
-digits_numeric (suc (suc (suc (suc (suc (suc (suc zero))))))) h = refl
-digits_numeric (suc (suc (suc (suc (suc (suc (suc (suc zero)))))))) h = refl
-digits_numeric (suc (suc (suc (suc (suc (suc (suc (suc (suc zero))))))))) h = refl
-digits_numeric (suc (suc (suc (suc (suc (suc (suc (suc (suc (suc n)))))))))) h = absurd (omega arith)
 
 pub digit-numeric : (c : ℕ) → digit_value c < 10 → is_numeric c ≡ true
 digit-numeric c h =
@@ -36,7 +23,7 @@ digit-numeric c h =
     rw place at (digits_numeric (c - 48) (omega (arith, r.0, r.1)))
 
 -- a run of digits before something else
-pub run-digits : (ds rest : List ℕ) → AllDigits 10 ds → starts is_numeric rest ≡ false → (run is_numeric (ds ++ rest) ≡ ds) × (past_run is_numeric (ds ++ rest) ≡ rest)
+pub run-digits : (ds rest : List ℕ) → AllDigits 10 ds → begins_with is_numeric rest ≡ false → (run is_numeric (ds ++ rest) ≡ ds) × (behind_run is_numeric (ds ++ rest) ≡ rest)
 run-digits [] [] a s = (refl, refl)
 run-digits [] (c ∷ rest) a s = rw s (refl, refl)
 run-digits (c ∷ ds) rest a s =
@@ -60,7 +47,7 @@ small_magnitude m s =
 digit-unsigned : (c : ℕ) → digit_value c < 10 → nat_eq c hyphen ≡ false
 digit-unsigned c h = let r : IsInRange 48 57 c = digit_from_value c h in grind (arith, nat_tests)
 
-unsigned_front : (m : ℕ) (rest : List ℕ) → m < 2 ^ 31 → (past_sign (decimal m ++ rest) ≡ decimal m ++ rest) × (starts (λ c. nat_eq c hyphen) (decimal m ++ rest) ≡ false)
+unsigned_front : (m : ℕ) (rest : List ℕ) → m < 2 ^ 31 → (past_sign (decimal m ++ rest) ≡ decimal m ++ rest) × (begins_with (λ c. nat_eq c hyphen) (decimal m ++ rest) ≡ false)
 unsigned_front m rest s =
     let f = first_digit (decimal m) (decimal_is_IsNumeral m (omega arith)).0 in
     let e : decimal m ++ rest ≡ f.0 ∷ (f.1 ++ rest) = ap (λ v. v ++ rest) f.2 in
@@ -68,7 +55,7 @@ unsigned_front m rest s =
     rw (e, u) (refl, refl)
 
 -- a printed number is read back, before something else
-pub number_front-signed : (n : ℤ) (rest : List ℕ) → is_readable n ≡ true → starts is_numeric rest ≡ false → number_front (signed_decimal n ++ rest) ≡ Some (n, rest)
+pub number_front-signed : (n : ℤ) (rest : List ℕ) → is_readable n ≡ true → begins_with is_numeric rest ≡ false → number_front (signed_decimal n ++ rest) ≡ Some (n, rest)
 number_front-signed (pos m) rest h s =
     let small : m < 2 ^ 31 = grind (arith, nat_tests) in
     let d = decimal_is_IsNumeral m (omega arith) in
@@ -95,8 +82,8 @@ skip-signed (negsuc m) rest h = refl
 no_affix : (c : ℕ) → is_numeric c ≡ true → is_affix c ≡ false
 no_affix c h = rw h refl
 
-pub front-signed : (n : ℤ) (rest : List ℕ) → is_readable n ≡ true → starts is_numeric rest ≡ false
-    → (starts is_affix (signed_decimal n ++ rest) ≡ false) × (spare_zeros (signed_decimal n ++ rest) ≡ []) × (past_zeros (signed_decimal n ++ rest) ≡ signed_decimal n ++ rest)
+pub front-signed : (n : ℤ) (rest : List ℕ) → is_readable n ≡ true → begins_with is_numeric rest ≡ false
+    → (begins_with is_affix (signed_decimal n ++ rest) ≡ false) × (spare_zeros (signed_decimal n ++ rest) ≡ []) × (past_zeros (signed_decimal n ++ rest) ≡ signed_decimal n ++ rest)
 front-signed (negsuc m) rest h s = rw hyphen_is_not (refl, refl, refl)
 front-signed (pos zero) rest h s =
     let e : decimal 0 ++ rest ≡ 48 ∷ rest = ap (λ v. v ++ rest) (decimal_digit 0 (omega arith)) in
@@ -112,25 +99,25 @@ front-signed (pos (suc m)) rest h s =
     let d = digit-numeric f.0 f.3 in
     rw (e, no_affix f.0 d, z) (refl, refl, refl)
 
-unprefixed : (cs : List ℕ) → starts is_affix cs ≡ false → (run is_affix cs ≡ []) × (past_run is_affix cs ≡ cs)
+unprefixed : (cs : List ℕ) → begins_with is_affix cs ≡ false → (run is_affix cs ≡ []) × (behind_run is_affix cs ≡ cs)
 unprefixed [] h = (refl, refl)
 unprefixed (c ∷ cs) h = rw h (refl, refl)
 
-pub prefix-signed : (n : ℤ) (rest : List ℕ) → is_readable n ≡ true → starts is_numeric rest ≡ false → (prefix_run (signed_decimal n ++ rest) ≡ []) × (past_prefix (signed_decimal n ++ rest) ≡ signed_decimal n ++ rest)
+pub prefix-signed : (n : ℤ) (rest : List ℕ) → is_readable n ≡ true → begins_with is_numeric rest ≡ false → (prefix_run (signed_decimal n ++ rest) ≡ []) × (past_prefix (signed_decimal n ++ rest) ≡ signed_decimal n ++ rest)
 prefix-signed n rest h s =
     let f = front-signed n rest h s in
     let u = unprefixed (signed_decimal n ++ rest) f.0 in
     rw (u.0, u.1, f.1, f.2) (refl, refl)
 
 -- a printed number from 0 on begins with a digit
-pub pos-numeric : (m : ℕ) (rest : List ℕ) → m < 2 ^ 31 → starts is_numeric (decimal m ++ rest) ≡ true
+pub pos-numeric : (m : ℕ) (rest : List ℕ) → m < 2 ^ 31 → begins_with is_numeric (decimal m ++ rest) ≡ true
 pos-numeric m rest small =
     let f = first_digit (decimal m) (decimal_is_IsNumeral m (omega arith)).0 in
     let e : decimal m ++ rest ≡ f.0 ∷ (f.1 ++ rest) = ap (λ v. v ++ rest) f.2 in
     rw e (digit-numeric f.0 f.3)
 
 -- digits are no delimiters
-pub run-undelimited : (m : ℕ) (rest : List ℕ) → m < 2 ^ 31 → (run is_delimiter (decimal m ++ rest) ≡ []) × (past_run is_delimiter (decimal m ++ rest) ≡ decimal m ++ rest)
+pub run-undelimited : (m : ℕ) (rest : List ℕ) → m < 2 ^ 31 → (run is_delimiter (decimal m ++ rest) ≡ []) × (behind_run is_delimiter (decimal m ++ rest) ≡ decimal m ++ rest)
 run-undelimited m rest s =
     let f = first_digit (decimal m) (decimal_is_IsNumeral m (omega arith)).0 in
     let e : decimal m ++ rest ≡ f.0 ∷ (f.1 ++ rest) = ap (λ v. v ++ rest) f.2 in

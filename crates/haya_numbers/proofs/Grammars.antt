@@ -9,19 +9,19 @@ use Rattle.std.specs.Str.Parse.{digits_value}
 use Rattle.std.proofs.lemmas.Bool.Decides.{nat_tests}
 use Rattle.haya_text.proofs.Tells.{and-both}
 use Rattle.haya_numbers.specs.declared.numeric.NumericDelimiter.{NumericDelimiter}
-use Rattle.haya_numbers.specs.Characters.{hyphen, is_numeric, is_delimiter, run, past_run, starts}
+use Rattle.haya_text.specs.Characters.{hyphen, is_numeric, run, behind_run, begins_with}
+use Rattle.haya_numbers.specs.Characters.{is_delimiter}
 use Rattle.haya_numbers.specs.Numeric.{Item, ValueView, SetOf, NumericView}
 use Rattle.haya_numbers.specs.declared.numeric.NumericError.{NumericError}
 use Rattle.haya_numbers.specs.declared.numeric.NumericError.TheVariants.{NoNumber, UnexpectedCharactersAfterPostfix}
 use Rattle.haya_numbers.specs.NumericGrammar.{IsRun, Spells, IsNumber, Plain, Negated, LacksNumber, IsItem, AreItems, Last, More, LacksItem, Here, Later, KeepsZeros, AllZeros, NoZeros, ButLast, IsPrefixed, IsValue, Alone, Set, LacksValue, HasParts, HasFirst, IsFault, NoFirst, NoOther, Behind, ReadsAs}
 use Rattle.haya_numbers.specs.NumericReading.{delimiter_read, delimited, magnitude, past_sign, signed, number_front, item_front, items_on, items_front, items_read, set_from, first_delimiter, is_affix, is_suffix, spare_zeros, past_zeros, prefix_run, past_prefix, affix, suffix_with, ended, suffixed, valued, read_from, numeric_read}
-use Rattle.haya_numbers.proofs.Digits.{digits_numeric}
+use Rattle.haya_text.proofs.Numerics.{digits_numeric, skip-behind_run}
 use Rattle.haya_numbers.proofs.Items.{item-shorter}
 use Rattle.haya_numbers.proofs.Magnitudes.{hyphen_is_not, magnitude_some}
-use Rattle.haya_numbers.proofs.Runs.{skip-past_run}
 
 -- the longest run is one
-pub runs-front : (p : ℕ → Bool) (front rest : List ℕ) → list_all p front ≡ true → starts p rest ≡ false → (run p (front ++ rest) ≡ front) × (past_run p (front ++ rest) ≡ rest)
+pub runs-front : (p : ℕ → Bool) (front rest : List ℕ) → list_all p front ≡ true → begins_with p rest ≡ false → (run p (front ++ rest) ≡ front) × (behind_run p (front ++ rest) ≡ rest)
 runs-front p [] [] m s = (refl, refl)
 runs-front p [] (c ∷ rest) m s = rw s (refl, refl)
 runs-front p (c ∷ front) rest m s =
@@ -30,22 +30,22 @@ runs-front p (c ∷ front) rest m s =
     let here : p c ≡ true = both.0 in
     rw here (ap (λ v. c ∷ v) more.0, more.1)
 
-pub run-is : (p : ℕ → Bool) (text front rest : List ℕ) → IsRun p text front rest → (run p text ≡ front) × (past_run p text ≡ rest)
+pub run-is : (p : ℕ → Bool) (text front rest : List ℕ) → IsRun p text front rest → (run p text ≡ front) × (behind_run p text ≡ rest)
 run-is p text front rest h = rw h.joined (runs-front p front rest h.members h.longest)
 
-pub is-run : (p : ℕ → Bool) (text : List ℕ) → IsRun p text (run p text) (past_run p text)
+pub is-run : (p : ℕ → Bool) (text : List ℕ) → IsRun p text (run p text) (behind_run p text)
 is-run p [] = record { joined = refl; members = refl; longest = refl }
 is-run p (c ∷ cs) = go (p c) refl (is-run p cs)
   where
-    go : (b : Bool) → p c ≡ b → IsRun p cs (run p cs) (past_run p cs) → IsRun p (c ∷ cs) (cond b (c ∷ run p cs) []) (cond b (past_run p cs) (c ∷ cs))
+    go : (b : Bool) → p c ≡ b → IsRun p cs (run p cs) (behind_run p cs) → IsRun p (c ∷ cs) (cond b (c ∷ run p cs) []) (cond b (behind_run p cs) (c ∷ cs))
     go true h more = record { joined = ap (λ v. c ∷ v) more.joined; members = rw h more.members; longest = more.longest }
     go false h more = record { joined = refl; members = refl; longest = h }
 
 pub is-skip : (text : List ℕ) → IsRun is_whitespace text (run is_whitespace text) (skip_leading_whitespace text)
-is-skip text = rw skip-past_run (is-run is_whitespace text)
+is-skip text = rw skip-behind_run (is-run is_whitespace text)
 
 pub skip-is : (text front rest : List ℕ) → IsRun is_whitespace text front rest → skip_leading_whitespace text ≡ rest
-skip-is text front rest h = skip-past_run text ∙ (run-is is_whitespace text front rest h).1
+skip-is text front rest h = skip-behind_run text ∙ (run-is is_whitespace text front rest h).1
 
 -- digits and their value
 spells-is : (digits : List ℕ) (n : ℕ) → Spells digits n → magnitude digits ≡ Some n
@@ -64,7 +64,7 @@ is-spelled (c ∷ cs) n e = go (all_ascii_digits (c ∷ cs)) refl (nat_lt (digit
     go false h b k e = cc
 
 -- a text that begins with a numeric character has no sign
-unsigned : (text : List ℕ) → 0 < length (run is_numeric text) → (past_sign text ≡ text) × (starts (λ c. nat_eq c hyphen) text ≡ false)
+unsigned : (text : List ℕ) → 0 < length (run is_numeric text) → (past_sign text ≡ text) × (begins_with (λ c. nat_eq c hyphen) text ≡ false)
 unsigned [] l = absurd (omega arith)
 unsigned (c ∷ cs) l = go (nat_eq c hyphen) refl (is_numeric c) refl l
   where
@@ -91,7 +91,7 @@ is-number [] rest n e = cc
 is-number (c ∷ cs) rest n e = go (nat_eq c hyphen) refl (magnitude (run is_numeric (past_sign (c ∷ cs)))) refl e
   where
     go : (b : Bool) → nat_eq c hyphen ≡ b → (o : Option ℕ) → magnitude (run is_numeric (cond b cs (c ∷ cs))) ≡ o
-        → option_map {U = ℤ × List ℕ} (λ v. (signed b v, past_run is_numeric (cond b cs (c ∷ cs)))) o ≡ Some (n, rest) → IsNumber (c ∷ cs) n rest
+        → option_map {U = ℤ × List ℕ} (λ v. (signed b v, behind_run is_numeric (cond b cs (c ∷ cs)))) o ≡ Some (n, rest) → IsNumber (c ∷ cs) n rest
     go b h None k e = cc
     go true h (Some m) k e =
         let p = pair_inside e in
@@ -117,7 +117,7 @@ item-is {text} {delimiters} {rest} {n} i =
     let q = run-is is_delimiter i.at_delimiters delimiters rest i.run in
     rw (skip-is text i.white i.at_number i.before, number-is i.number, skip-is i.past_number i.gap i.at_delimiters i.between, q.0, q.1) refl
 
-is-item : (text behind : List ℕ) (n : ℤ) → number_front (skip_leading_whitespace text) ≡ Some (n, behind) → IsItem text n (run is_delimiter (skip_leading_whitespace behind)) (past_run is_delimiter (skip_leading_whitespace behind))
+is-item : (text behind : List ℕ) (n : ℤ) → number_front (skip_leading_whitespace text) ≡ Some (n, behind) → IsItem text n (run is_delimiter (skip_leading_whitespace behind)) (behind_run is_delimiter (skip_leading_whitespace behind))
 is-item text behind n e = record {
   white = run is_whitespace text;
   at_number = skip_leading_whitespace text;
@@ -144,7 +144,7 @@ items-lack {text} (suc k) (Here white rest w h) = rw (skip-is text white rest w,
 items-lack {text} (suc k) (Later delimiters behind n d i f h) = rw (item-is i, f, items-lack k h) refl
 
 abbrev behind_item : List ℕ → List ℕ
-behind_item behind = past_run is_delimiter (skip_leading_whitespace behind)
+behind_item behind = behind_run is_delimiter (skip_leading_whitespace behind)
 
 abbrev named_behind : List ℕ → Option NumericDelimiter
 named_behind behind = result_ok (delimiter_read (run is_delimiter (skip_leading_whitespace behind)))
@@ -208,16 +208,16 @@ value-lacks n text h =
 pub is-value : (n : ℤ) (text rest : List ℕ) (v : ValueView) → set_from n (first_delimiter text) text ≡ Some (v, rest) → IsValue n text v rest
 is-value n text rest v e = go (first_delimiter text) refl e
   where
-    deeper : (d : NumericDelimiter) → first_delimiter text ≡ Some d → (m : Option (List Item × List ℕ)) → items_read (past_run is_delimiter text) ≡ m
+    deeper : (d : NumericDelimiter) → first_delimiter text ≡ Some d → (m : Option (List Item × List ℕ)) → items_read (behind_run is_delimiter text) ≡ m
         → option_map {U = ValueView × List ℕ} (λ p. (SetOf ((n, Some d) ∷ p.0), p.1)) m ≡ Some (v, rest) → IsValue n text v rest
     deeper d f None m e = cc
     deeper d f (Some (is, r)) m e =
         let p = pair_inside e in
-        Set (run is_delimiter text) (past_run is_delimiter text) d is f (is-run is_delimiter text) (rw p.1 at (are-items (length (past_run is_delimiter text)) (past_run is_delimiter text) r is m)) (sym p.0)
+        Set (run is_delimiter text) (behind_run is_delimiter text) d is f (is-run is_delimiter text) (rw p.1 at (are-items (length (behind_run is_delimiter text)) (behind_run is_delimiter text) r is m)) (sym p.0)
 
     go : (o : Option NumericDelimiter) → first_delimiter text ≡ o → set_from n o text ≡ Some (v, rest) → IsValue n text v rest
     go None f e = let p = pair_inside e in Alone f (sym p.0) (sym p.1)
-    go (Some d) f e = deeper d f (items_read (past_run is_delimiter text)) refl e
+    go (Some d) f e = deeper d f (items_read (behind_run is_delimiter text)) refl e
 
 pub lacks-value : (n : ℤ) (text : List ℕ) → set_from n (first_delimiter text) text ≡ None → LacksValue text
 lacks-value n text e = go (first_delimiter text) refl e
@@ -230,11 +230,11 @@ lacks-value n text e = go (first_delimiter text) refl e
     go None f e = cc
     go (Some d) f e = record {
       delimiters = run is_delimiter text;
-      behind = past_run is_delimiter text;
+      behind = behind_run is_delimiter text;
       d = d;
       first = f;
       run = is-run is_delimiter text;
-      lacks = lack-items (length (past_run is_delimiter text)) (past_run is_delimiter text) (omega arith) (none_inside _ _ e);
+      lacks = lack-items (length (behind_run is_delimiter text)) (behind_run is_delimiter text) (omega arith) (none_inside _ _ e);
     }
 
 -- the zeros of a prefix
@@ -244,11 +244,11 @@ is_zero c = nat_eq c 48
 pub zero_numeric : (z : ℕ) → nat_eq z 48 ≡ true → is_numeric z ≡ true
 zero_numeric z h = let same : z ≡ 48 = grind (arith, nat_tests) in rw same (digits_numeric 0 (omega arith))
 
-pub next_numeric : (zs r : List ℕ) → list_all is_zero zs ≡ true → starts is_numeric r ≡ true → starts is_numeric (zs ++ r) ≡ true
+pub next_numeric : (zs r : List ℕ) → list_all is_zero zs ≡ true → begins_with is_numeric r ≡ true → begins_with is_numeric (zs ++ r) ≡ true
 next_numeric [] r m s = s
 next_numeric (z ∷ zs) r m s = zero_numeric z (and-both (nat_eq z 48) (list_all is_zero zs) m).0
 
-pub zeros-all : (zs r : List ℕ) → list_all is_zero zs ≡ true → starts is_zero r ≡ false → starts is_numeric r ≡ true → (spare_zeros (zs ++ r) ≡ zs) × (past_zeros (zs ++ r) ≡ r)
+pub zeros-all : (zs r : List ℕ) → list_all is_zero zs ≡ true → begins_with is_zero r ≡ false → begins_with is_numeric r ≡ true → (spare_zeros (zs ++ r) ≡ zs) × (past_zeros (zs ++ r) ≡ r)
 zeros-all [] [] m s h = cc
 zeros-all [] (c ∷ r) m s h = rw s (refl, refl)
 zeros-all (z ∷ zs) r m s h =
@@ -257,11 +257,11 @@ zeros-all (z ∷ zs) r m s h =
     let one : nat_eq z 48 ≡ true = both.0 in
     rw (one, next_numeric zs r both.1 h) (ap (λ v. z ∷ v) more.0, more.1)
 
-last_numeric : (kept r : List ℕ) → list_all is_zero (kept ++ 48 ∷ []) ≡ true → starts is_numeric ((kept ++ 48 ∷ []) ++ r) ≡ true
+last_numeric : (kept r : List ℕ) → list_all is_zero (kept ++ 48 ∷ []) ≡ true → begins_with is_numeric ((kept ++ 48 ∷ []) ++ r) ≡ true
 last_numeric [] r m = zero_numeric 48 refl
 last_numeric (k ∷ kept) r m = zero_numeric k (and-both (nat_eq k 48) (list_all is_zero (kept ++ 48 ∷ [])) m).0
 
-pub zeros-last : (kept r : List ℕ) → list_all is_zero (kept ++ 48 ∷ []) ≡ true → starts is_numeric r ≡ false → (spare_zeros ((kept ++ 48 ∷ []) ++ r) ≡ kept) × (past_zeros ((kept ++ 48 ∷ []) ++ r) ≡ 48 ∷ r)
+pub zeros-last : (kept r : List ℕ) → list_all is_zero (kept ++ 48 ∷ []) ≡ true → begins_with is_numeric r ≡ false → (spare_zeros ((kept ++ 48 ∷ []) ++ r) ≡ kept) × (past_zeros ((kept ++ 48 ∷ []) ++ r) ≡ 48 ∷ r)
 zeros-last [] r m h = rw h (refl, refl)
 zeros-last (k ∷ kept) r m h =
     let both = and-both (nat_eq k 48) (list_all is_zero (kept ++ 48 ∷ [])) m in
@@ -269,11 +269,11 @@ zeros-last (k ∷ kept) r m h =
     let one : nat_eq k 48 ≡ true = both.0 in
     rw (one, last_numeric kept r both.1) (ap (λ v. k ∷ v) more.0, more.1)
 
-pub zeros-none : (r : List ℕ) → starts is_zero r ≡ false → (spare_zeros r ≡ []) × (past_zeros r ≡ r)
+pub zeros-none : (r : List ℕ) → begins_with is_zero r ≡ false → (spare_zeros r ≡ []) × (past_zeros r ≡ r)
 zeros-none [] s = (refl, refl)
 zeros-none (c ∷ r) s = rw s (refl, refl)
 
-keeps-is : {zeros rest kept behind : List ℕ} → KeepsZeros zeros rest kept behind → list_all is_zero zeros ≡ true → starts is_zero rest ≡ false → (spare_zeros (zeros ++ rest) ≡ kept) × (past_zeros (zeros ++ rest) ≡ behind)
+keeps-is : {zeros rest kept behind : List ℕ} → KeepsZeros zeros rest kept behind → list_all is_zero zeros ≡ true → begins_with is_zero rest ≡ false → (spare_zeros (zeros ++ rest) ≡ kept) × (past_zeros (zeros ++ rest) ≡ behind)
 keeps-is {zeros} {rest} (AllZeros h k b) m s = rw (k, b) (zeros-all zeros rest m s h)
 keeps-is {zeros} {rest} (NoZeros h z k b) m s = rw (z, k, b) (zeros-none rest s)
 keeps-is {zeros} {rest} {kept} (ButLast h z b) m s = let ms : list_all is_zero (kept ++ 48 ∷ []) ≡ true = rw z at m in rw (z, b) (zeros-last kept rest ms h)
@@ -287,10 +287,10 @@ zeros-turned z (y ∷ zs) m =
     let same : z ≡ y = grind (arith, nat_tests) in
     ap (λ v. v ∷ (y ∷ zs)) same ∙ ap (λ v. y ∷ v) (zeros-turned y zs both.1)
 
-is-kept : (zs r : List ℕ) → list_all is_zero zs ≡ true → starts is_zero r ≡ false → KeepsZeros zs r (spare_zeros (zs ++ r)) (past_zeros (zs ++ r))
-is-kept zs r m s = go (starts is_numeric r) refl zs m
+is-kept : (zs r : List ℕ) → list_all is_zero zs ≡ true → begins_with is_zero r ≡ false → KeepsZeros zs r (spare_zeros (zs ++ r)) (past_zeros (zs ++ r))
+is-kept zs r m s = go (begins_with is_numeric r) refl zs m
   where
-    go : (b : Bool) → starts is_numeric r ≡ b → (zs : List ℕ) → list_all is_zero zs ≡ true → KeepsZeros zs r (spare_zeros (zs ++ r)) (past_zeros (zs ++ r))
+    go : (b : Bool) → begins_with is_numeric r ≡ b → (zs : List ℕ) → list_all is_zero zs ≡ true → KeepsZeros zs r (spare_zeros (zs ++ r)) (past_zeros (zs ++ r))
     go true h zs m = let q = zeros-all zs r m s h in AllZeros h q.0 q.1
     go false h [] m = let q = zeros-none r s in NoZeros h refl q.0 q.1
     go false h (z ∷ zs) m =
@@ -305,12 +305,12 @@ pub prefixed-is : {text prefix rest : List ℕ} → IsPrefixed text prefix rest 
 prefixed-is {text} {prefix} {rest} h =
     let name = run-is is_affix h.at_name h.name h.at_zeros h.name_run in
     let zeros = keeps-is h.keeps h.zeros_run.members h.zeros_run.longest in
-    let at : past_run is_affix h.at_name ≡ h.zeros ++ h.past_zeros = name.1 ∙ h.zeros_run.joined in
+    let at : behind_run is_affix h.at_name ≡ h.zeros ++ h.past_zeros = name.1 ∙ h.zeros_run.joined in
     rw (skip-is text h.white h.at_name h.before, name.0, at, zeros.0, zeros.1) (sym h.joined, refl)
 
 pub is-prefixed : (text : List ℕ) → IsPrefixed text (prefix_run (skip_leading_whitespace text)) (past_prefix (skip_leading_whitespace text))
 is-prefixed text =
-    let cs : List ℕ = past_run is_affix (skip_leading_whitespace text) in
+    let cs : List ℕ = behind_run is_affix (skip_leading_whitespace text) in
     let z = is-run is_zero cs in
     record {
       white = run is_whitespace text;
@@ -318,12 +318,12 @@ is-prefixed text =
       name = run is_affix (skip_leading_whitespace text);
       at_zeros = cs;
       zeros = run is_zero cs;
-      past_zeros = past_run is_zero cs;
+      past_zeros = behind_run is_zero cs;
       kept = spare_zeros cs;
       before = is-skip text;
       name_run = is-run is_affix (skip_leading_whitespace text);
       zeros_run = z;
-      keeps = rw (← z.joined) at (is-kept (run is_zero cs) (past_run is_zero cs) z.members z.longest);
+      keeps = rw (← z.joined) at (is-kept (run is_zero cs) (behind_run is_zero cs) z.members z.longest);
       joined = refl;
     }
 
@@ -356,7 +356,7 @@ pub is-read : (text : List ℕ) → Reading text (read_from (skip_leading_whites
 is-read text = by_number (number_front (past_prefix (skip_leading_whitespace text))) refl
   where
     finish : (n : ℤ) (past_number past_value : List ℕ) (v : ValueView) → IsNumber (past_prefix (skip_leading_whitespace text)) n past_number → IsValue n (skip_leading_whitespace past_number) v past_value
-        → (left : List ℕ) → past_run is_suffix (skip_leading_whitespace past_value) ≡ left
+        → (left : List ℕ) → behind_run is_suffix (skip_leading_whitespace past_value) ≡ left
         → HasParts text (record { value = v; prefix = affix (encode_utf8_all (prefix_run (skip_leading_whitespace text))); suffix = suffix_with (run is_whitespace past_number) (run is_suffix (skip_leading_whitespace past_value)) }) left
     finish n past_number past_value v number value left e = record {
       prefix = prefix_run (skip_leading_whitespace text);
@@ -398,7 +398,7 @@ is-read text = by_number (number_front (past_prefix (skip_leading_whitespace tex
         } in
         record { ok = λ v k. cc; err = λ f k. let same : NoNumber ≡ f = cc in NoOther (skip_leading_whitespace past_number) first (lacks-value n (skip_leading_whitespace past_number) e) (sym same) }
     by_value n past_number number (Some (v, past_value)) e =
-        by_left _ (past_run is_suffix (skip_leading_whitespace past_value)) (finish n past_number past_value v number (is-value n (skip_leading_whitespace past_number) past_value v e) _ refl)
+        by_left _ (behind_run is_suffix (skip_leading_whitespace past_value)) (finish n past_number past_value v number (is-value n (skip_leading_whitespace past_number) past_value v e) _ refl)
 
     by_number : (o : Option (ℤ × List ℕ)) → number_front (past_prefix (skip_leading_whitespace text)) ≡ o → Reading text (valued (prefix_run (skip_leading_whitespace text)) o)
     by_number None e = record { ok = λ v k. cc; err = λ f k. let same : NoNumber ≡ f = cc in NoFirst (prefix_run (skip_leading_whitespace text)) (past_prefix (skip_leading_whitespace text)) (is-prefixed text) (lacks-number (past_prefix (skip_leading_whitespace text)) e) (sym same) }

@@ -4,16 +4,17 @@ use Rattle.std.specs.Prelude.{option_map, nat_eq, is_some}
 use Rattle.std.specs.Char.{is_whitespace}
 use Rattle.std.specs.Str.{skip_leading_whitespace}
 use Rattle.haya_numbers.specs.declared.numeric.NumericDelimiter.{NumericDelimiter}
-use Rattle.haya_numbers.specs.Characters.{hyphen, is_numeric, is_delimiter, run, past_run, starts}
+use Rattle.haya_text.specs.Characters.{hyphen, is_numeric, run, behind_run, begins_with}
+use Rattle.haya_numbers.specs.Characters.{is_delimiter}
 use Rattle.haya_numbers.specs.Classes.{appended}
 use Rattle.haya_numbers.specs.Numeric.{Item}
 use Rattle.haya_numbers.specs.NumericReading.{magnitude, past_sign, signed, number_front, delimited, item_front, items_front}
 
-pub past_run-le : (p : ℕ → Bool) (cs : List ℕ) → length (past_run p cs) ≤ length cs
+pub past_run-le : (p : ℕ → Bool) (cs : List ℕ) → length (behind_run p cs) ≤ length cs
 past_run-le p [] = omega arith
 past_run-le p (c ∷ cs) = go (p c) (past_run-le p cs)
   where
-    go : (b : Bool) → length (past_run p cs) ≤ length cs → length (cond b (past_run p cs) (c ∷ cs)) ≤ suc (length cs)
+    go : (b : Bool) → length (behind_run p cs) ≤ length cs → length (cond b (behind_run p cs) (c ∷ cs)) ≤ suc (length cs)
     go true h = omega arith
     go false h = omega arith
 
@@ -25,11 +26,11 @@ skip-le (c ∷ cs) = go (is_whitespace c) (skip-le cs)
     go true h = omega arith
     go false h = omega arith
 
-past_run-lt : (p : ℕ → Bool) (cs : List ℕ) → 0 < length (run p cs) → length (past_run p cs) < length cs
+past_run-lt : (p : ℕ → Bool) (cs : List ℕ) → 0 < length (run p cs) → length (behind_run p cs) < length cs
 past_run-lt p [] h = absurd (omega arith)
 past_run-lt p (c ∷ cs) h = go (p c) h
   where
-    go : (b : Bool) → 0 < length (cond b (c ∷ run p cs) []) → length (cond b (past_run p cs) (c ∷ cs)) < suc (length cs)
+    go : (b : Bool) → 0 < length (cond b (c ∷ run p cs) []) → length (cond b (behind_run p cs) (c ∷ cs)) < suc (length cs)
     go true k = omega (arith, past_run-le p cs)
     go false k = absurd (omega arith)
 
@@ -53,10 +54,10 @@ pub number-shorter : (cs rest : List ℕ) (n : ℤ) → number_front cs ≡ Some
 number-shorter cs rest n e = go (magnitude (run is_numeric (past_sign cs))) refl e
   where
     go : (m : Option ℕ) → magnitude (run is_numeric (past_sign cs)) ≡ m
-        → option_map {U = ℤ × List ℕ} (λ v. (signed (starts (λ c. nat_eq c hyphen) cs) v, past_run is_numeric (past_sign cs))) m ≡ Some (n, rest) → length rest < length cs
+        → option_map {U = ℤ × List ℕ} (λ v. (signed (begins_with (λ c. nat_eq c hyphen) cs) v, behind_run is_numeric (past_sign cs))) m ≡ Some (n, rest) → length rest < length cs
     go None h k = cc
     go (Some m) h k =
-        let same : past_run is_numeric (past_sign cs) ≡ rest = ap (λ (p : ℤ × List ℕ). p.1) (some_inside k) in
+        let same : behind_run is_numeric (past_sign cs) ≡ rest = ap (λ (p : ℤ × List ℕ). p.1) (some_inside k) in
         let some = magnitude-nonempty (run is_numeric (past_sign cs)) m h in
         subst (λ (r : List ℕ). length r < length cs) same (omega (arith, past_run-lt is_numeric (past_sign cs) some, past_sign-le cs))
 
@@ -66,7 +67,7 @@ item-shorter cs rest i e = go (number_front (skip_leading_whitespace cs)) refl e
     go : (m : Option (ℤ × List ℕ)) → number_front (skip_leading_whitespace cs) ≡ m → option_map (λ p. delimited p.0 (skip_leading_whitespace p.1)) m ≡ Some (i, rest) → length rest < length cs
     go None h k = cc
     go (Some (n, behind)) h k =
-        let same : past_run is_delimiter (skip_leading_whitespace behind) ≡ rest = ap (λ (p : Item × List ℕ). p.1) (some_inside k) in
+        let same : behind_run is_delimiter (skip_leading_whitespace behind) ≡ rest = ap (λ (p : Item × List ℕ). p.1) (some_inside k) in
         let short = number-shorter (skip_leading_whitespace cs) behind n h in
         subst (λ (r : List ℕ). length r < length cs) same (omega (arith, past_run-le is_delimiter (skip_leading_whitespace behind), skip-le behind, skip-le cs))
 

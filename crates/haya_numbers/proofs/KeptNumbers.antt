@@ -11,7 +11,8 @@ use Rattle.std.proofs.lemmas.Bool.Decides.{nat_tests}
 use Rattle.haya_text.proofs.Tells.{and-both, both-and}
 use Rattle.haya_numbers.specs.declared.numeric.NumericDelimiter.{NumericDelimiter}
 use Rattle.haya_numbers.specs.declared.numeric.NumericDelimiter.TheVariants.{Comma, Ampersand, Hyphen}
-use Rattle.haya_numbers.specs.Characters.{is_numeric, is_delimiter, starts}
+use Rattle.haya_text.specs.Characters.{is_numeric, begins_with}
+use Rattle.haya_numbers.specs.Characters.{is_delimiter}
 use Rattle.haya_numbers.specs.Numeric.{Item, ValueView, Single, SetOf, NumericView}
 use Rattle.haya_numbers.specs.NumericBack.{is_readable, may_follow, items_read_back, signs_are_kept, ends_numbers, suffix_is_kept, is_kept}
 use Rattle.haya_numbers.specs.NumericGrammar.{IsRun, IsNumber, Plain, Negated, IsItem, AreItems, Last, More, KeepsZeros, AllZeros, NoZeros, ButLast, IsValue, Alone, Set, HasParts}
@@ -134,15 +135,15 @@ fits {kept = kept} (Plain digits m r s e) k = rw e (by kept)
     by [] = refl
     by (z ∷ zs) = refl
 fits (Negated behind digits m t r s e) (AllZeros num k b) =
-    absurd (no_hyphen behind (subst (λ (l : List ℕ). starts is_numeric l ≡ true) (sym b ∙ t) num))
+    absurd (no_hyphen behind (subst (λ (l : List ℕ). begins_with is_numeric l ≡ true) (sym b ∙ t) num))
   where
-    no_hyphen : (l : List ℕ) → starts is_numeric (45 ∷ l) ≡ true → ⊥
+    no_hyphen : (l : List ℕ) → begins_with is_numeric (45 ∷ l) ≡ true → ⊥
     no_hyphen l h = let none : is_numeric 45 ≡ false = hyphen_is_not in cc
 fits (Negated behind digits m t r s e) (NoZeros num z k b) = rw k refl
 fits (Negated behind digits m t r s e) (ButLast num z b) = absurd (zero_is_not (sym b ∙ t))
   where
     zero_is_not : {xs ys : List ℕ} → 48 ∷ xs ≡ 45 ∷ ys → ⊥
-    zero_is_not h = let e : true ≡ false = ap (λ l. starts (λ c. nat_eq c 48) l) h in cc
+    zero_is_not h = let e : true ≡ false = ap (λ l. begins_with (λ c. nat_eq c 48) l) h in cc
 
 kept_zeros : {zs past kept behind : List ℕ} → KeepsZeros zs past kept behind → list_all is_zero zs ≡ true → list_all is_zero kept ≡ true
 kept_zeros (AllZeros s k b) h = rw k h
@@ -150,12 +151,12 @@ kept_zeros (NoZeros s z k b) h = rw k refl
 kept_zeros {kept = kept} (ButLast s z b) h = (all-parts is_zero kept (48 ∷ []) (subst (λ (l : List ℕ). list_all is_zero l ≡ true) z h)).0
 
 -- the front of a text begins as the text does
-front_starts : (p : ℕ → Bool) (text front rest : List ℕ) → text ≡ front ++ rest → starts p text ≡ false → starts p front ≡ false
+front_starts : (p : ℕ → Bool) (text front rest : List ℕ) → text ≡ front ++ rest → begins_with p text ≡ false → begins_with p front ≡ false
 front_starts p text [] rest e h = refl
 front_starts p text (c ∷ front) rest e h = rw e at h
 
 -- the suffix of one number stands directly behind its white space
-suffix_is : {text gap suffix : List ℕ} → starts is_whitespace text ≡ false → IsRun is_whitespace text gap suffix → text ≡ suffix
+suffix_is : {text gap suffix : List ℕ} → begins_with is_whitespace text ≡ false → IsRun is_whitespace text gap suffix → text ≡ suffix
 suffix_is {text} {gap = []} h r = r.joined
 suffix_is {text} {gap = g ∷ gap} {suffix} h r =
     let no : is_whitespace g ≡ false = rw r.joined at h in
@@ -170,12 +171,12 @@ items_made (More delimiters behind n d more i f m e) = rw e (by more (items_made
     by [] h = cc
     by (j ∷ rest) h = both-and (is_readable n) (are_made (j ∷ rest)) (readable i.number) h
 
-past_number : {text rest : List ℕ} {n : ℤ} → IsNumber text n rest → starts is_numeric rest ≡ false
+past_number : {text rest : List ℕ} {n : ℤ} → IsNumber text n rest → begins_with is_numeric rest ≡ false
 past_number (Plain digits m r s e) = r.longest
 past_number (Negated behind digits m t r s e) = r.longest
 
 value_made : {n : ℤ} {text rest gap at_suffix suffix : List ℕ} (zeros : List ℕ) {v : ValueView} → IsValue n text v rest → is_readable n ≡ true → zeros_fit zeros n ≡ true
-    → starts is_whitespace text ≡ false → IsRun is_whitespace rest gap at_suffix → at_suffix ≡ suffix → IsMade zeros suffix v
+    → begins_with is_whitespace text ≡ false → IsRun is_whitespace rest gap at_suffix → at_suffix ≡ suffix → IsMade zeros suffix v
 value_made {text = text} zeros (Alone f e same) read fit front run is =
     let whole : text ≡ _ = suffix_is front (rw same at run) ∙ is in
     rw e (read, fit, rw whole at f)

@@ -13,7 +13,7 @@ use Rattle.std.specs.Str.{IsUtf8, chars, skip_leading_whitespace, drop_trailing_
 use Rattle.std.specs.Str.Parse.{AllDigits}
 use lib.Utf8.{scalar, scalars}
 use Rattle.haya_text.proofs.Tells.{and-both, both-and}
-use Rattle.haya_numbers.specs.Characters.{starts}
+use Rattle.haya_text.specs.Characters.{begins_with}
 use Rattle.haya_numbers.specs.Cuts.{is_dash}
 use Rattle.haya_numbers.specs.Numeric.{NumericView, ValueView, Single}
 use Rattle.haya_numbers.specs.NumericGrammar.{IsNumber, Plain, Negated, IsValue, Alone, Set, HasParts}
@@ -66,11 +66,11 @@ end-kept (c ∷ d ∷ cs) h =
     by true = refl
     by false = refl
 
-start-kept : (cs : List ℕ) → starts is_whitespace cs ≡ false → skip_leading_whitespace cs ≡ cs
+start-kept : (cs : List ℕ) → begins_with is_whitespace cs ≡ false → skip_leading_whitespace cs ≡ cs
 start-kept [] h = refl
 start-kept (c ∷ cs) h = rw h refl
 
-kept-start : (cs : List ℕ) → skip_leading_whitespace cs ≡ cs → starts is_whitespace cs ≡ false
+kept-start : (cs : List ℕ) → skip_leading_whitespace cs ≡ cs → begins_with is_whitespace cs ≡ false
 kept-start [] h = refl
 kept-start (c ∷ cs) h = by (is_whitespace c) h
   where
@@ -78,7 +78,7 @@ kept-start (c ∷ cs) h = by (is_whitespace c) h
     by false k = refl
     by true k = absurd (omega (arith, skip-le cs, ap length k))
 
-pub trim-kept : (cs : List ℕ) → starts is_whitespace cs ≡ false → last_passes solid cs ≡ true → trim_chars cs ≡ cs
+pub trim-kept : (cs : List ℕ) → begins_with is_whitespace cs ≡ false → last_passes solid cs ≡ true → trim_chars cs ≡ cs
 trim-kept cs s l = ap drop_trailing_whitespace (start-kept cs s) ∙ end-kept cs l
 
 module _ (p : ℕ → Bool) where
@@ -197,7 +197,7 @@ pub record NumberText (n : NumericView) (text : List ℕ) : Type 0 where
   pub utf8 : IsUtf8 (shown_numeric n)
   pub read : half_read text ≡ Ok n
   pub plain_text : list_all plain text ≡ true
-  pub front : starts is_whitespace text ≡ false
+  pub front : begins_with is_whitespace text ≡ false
   pub back : last_passes solid text ≡ true
   pub some : 0 < length text
   pub escape : suffix_ends_in 92 n.suffix ≡ false → last_passes (λ c. not (nat_eq c 92)) text ≡ true

@@ -12,7 +12,7 @@ use Rattle.std.specs.Str.{IsUtf8, chars}
 use Rattle.std.specs.Char.{encode_utf8}
 use lib.Utf8.{scalar}
 use Rattle.haya_text.proofs.Tells.{and-both, both-and}
-use Rattle.haya_numbers.specs.Characters.{starts}
+use Rattle.haya_text.specs.Characters.{begins_with}
 use Rattle.haya_numbers.specs.Cuts.{dash_split, escaped_split, is_dash}
 use Rattle.haya_numbers.specs.Numeric.{NumericView}
 use Rattle.haya_numbers.specs.NumericBack.{is_readable}
@@ -89,7 +89,7 @@ inner_apart (c ∷ cs) h some = let one = not_true (is_separator c) (and-both (a
         starts_with (x ∷ xs) = x
 
 -- what is read of a text that isn't trimmed, perhaps behind a blank
-part_of : (p : PartView) (text : List ℕ) → starts is_whitespace text ≡ false → last_passes solid text ≡ true → inner_read text ≡ Ok p → (part_read text ≡ Ok p) × (part_read (32 ∷ text) ≡ Ok p)
+part_of : (p : PartView) (text : List ℕ) → begins_with is_whitespace text ≡ false → last_passes solid text ≡ true → inner_read text ≡ Ok p → (part_read text ≡ Ok p) × (part_read (32 ∷ text) ≡ Ok p)
 part_of p text f l h = let t = trim-kept text f l in (ap inner_read t ∙ h, ap inner_read t ∙ h)
 
 page_part : (n : NumericView) (text : List ℕ) → NumberText n text → PartText (SinglePage n) text
@@ -100,7 +100,7 @@ page_part n text t =
     record { utf8 = t.utf8; shown = t.shown; read = both.0; blank = both.1; apart_text = apart_text; some = t.some }
 
 -- the front and the end of two texts joined by a hyphen
-joined_front : (p : ℕ → Bool) (xs ys : List ℕ) → 0 < length xs → starts p xs ≡ false → starts p (xs ++ ys) ≡ false
+joined_front : (p : ℕ → Bool) (xs ys : List ℕ) → 0 < length xs → begins_with p xs ≡ false → begins_with p (xs ++ ys) ≡ false
 joined_front p [] ys some h = absurd (omega arith)
 joined_front p (x ∷ xs) ys some h = h
 

@@ -13,7 +13,7 @@ use Rattle.std.proofs.lemmas.Fmt.{IsAscii-from_digits}
 use Rattle.std.proofs.lemmas.Str.{chars-IsAscii, chars_past_char, encode_ascii, encodes-chars, encodes-IsAscii}
 use Rattle.std.proofs.lemmas.Str.Parse.{IsNumeralModel, numerals_by_value, tells_all_ascii_digits, parse_signed_plain}
 use Rattle.ucd_category.proofs.Computing.{ucd_category}
-use Rattle.haya_numbers.specs.Characters.{is_numeric, run}
+use Rattle.haya_text.specs.Characters.{is_numeric, run}
 use Rattle.haya_numbers.specs.NumericReading.{magnitude}
 use Rattle.haya_numbers.proofs.Runs.{run-first}
 

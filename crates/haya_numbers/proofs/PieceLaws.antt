@@ -3,7 +3,7 @@ use Rattle.std.proofs.Common.{◌≡◌, ℕ, Bool, true, false, cond, ◌||◌,
 use Rattle.std.proofs.lemmas.List.Elements.{All-from_recursion, recursion_from_All}
 use Rattle.std.specs.List.{AllByRecursion, concat}
 use Rattle.std.specs.Prelude.{slice_get, IfSome}
-use Rattle.haya_numbers.specs.Characters.{starts}
+use Rattle.haya_text.specs.Characters.{begins_with}
 use Rattle.haya_numbers.specs.Pieces.{is_separator, onto_pieces, pieces, AreApart, AreItsPieces, IsRun, IsSeparator}
 use Rattle.haya_numbers.proofs.PieceLemmas.{pieces-run, pieces-separator}
 
@@ -14,7 +14,7 @@ Each ps = AllByRecursion (λ p. IsSeparator p ⊎ IsRun p) ps
 -- one character before pieces
 concat-onto_pieces : (c : ℕ) (ps : List (List ℕ)) → concat (onto_pieces c ps) ≡ c ∷ concat ps
 concat-onto_pieces c [] = refl
-concat-onto_pieces c (p ∷ ps) = go (is_separator c || starts is_separator p)
+concat-onto_pieces c (p ∷ ps) = go (is_separator c || begins_with is_separator p)
   where
     go : (b : Bool) → concat (cond b ((c ∷ []) ∷ p ∷ ps) ((c ∷ p) ∷ ps)) ≡ c ∷ (p ++ concat ps)
     go true = refl
@@ -28,12 +28,12 @@ alone c = go (is_separator c) refl
     go false h = inr (λ e. cc, All-from_recursion (λ d. is_separator d ≡ false) (c ∷ []) (h, tt))
 
 -- a piece that does not begin with a separator is a run
-run_of : (p : List ℕ) → IsSeparator p ⊎ IsRun p → starts is_separator p ≡ false → AllByRecursion (λ d. is_separator d ≡ false) p
+run_of : (p : List ℕ) → IsSeparator p ⊎ IsRun p → begins_with is_separator p ≡ false → AllByRecursion (λ d. is_separator d ≡ false) p
 run_of p (inl (c, h, e)) other = let q = rw e at other in cc
 run_of p (inr run) other = recursion_from_All (λ d. is_separator d ≡ false) p run.1
 
 -- a piece that begins with a separator is one
-separator_of : (p : List ℕ) → IsSeparator p ⊎ IsRun p → starts is_separator p ≡ true → IsSeparator p
+separator_of : (p : List ℕ) → IsSeparator p ⊎ IsRun p → begins_with is_separator p ≡ true → IsSeparator p
 separator_of p (inl s) same = s
 separator_of [] (inr run) same = cc
 separator_of (c ∷ cs) (inr run) same = let h = (recursion_from_All (λ d. is_separator d ≡ false) (c ∷ cs) run.1).0 in cc
@@ -48,11 +48,11 @@ one_true false b h = inr h
 
 each-onto_pieces : (c : ℕ) (ps : List (List ℕ)) → Each ps → Each (onto_pieces c ps)
 each-onto_pieces c [] each = (alone c, tt)
-each-onto_pieces c (p ∷ ps) each = go (is_separator c || starts is_separator p) refl
+each-onto_pieces c (p ∷ ps) each = go (is_separator c || begins_with is_separator p) refl
   where
-    go : (b : Bool) → (is_separator c || starts is_separator p) ≡ b → Each (cond b ((c ∷ []) ∷ p ∷ ps) ((c ∷ p) ∷ ps))
+    go : (b : Bool) → (is_separator c || begins_with is_separator p) ≡ b → Each (cond b ((c ∷ []) ∷ p ∷ ps) ((c ∷ p) ∷ ps))
     go true h = (alone c, each)
-    go false h = let both = both_false (is_separator c) (starts is_separator p) h in (inr (λ e. cc, All-from_recursion (λ d. is_separator d ≡ false) (c ∷ p) (both.0, run_of p each.0 both.1)), each.1)
+    go false h = let both = both_false (is_separator c) (begins_with is_separator p) h in (inr (λ e. cc, All-from_recursion (λ d. is_separator d ≡ false) (c ∷ p) (both.0, run_of p each.0 both.1)), each.1)
 
 -- the first piece alone matters to what follows it
 apart-first : (p q : List ℕ) (ps : List (List ℕ)) → (IsSeparator p → IsSeparator q) → AreApart (p ∷ ps) → AreApart (q ∷ ps)
@@ -62,15 +62,15 @@ apart-first p q (r ∷ ps) f (inr s, rest) = (inr s, rest)
 
 apart-onto_pieces : (c : ℕ) (ps : List (List ℕ)) → Each ps → AreApart ps → AreApart (onto_pieces c ps)
 apart-onto_pieces c [] each apart = tt
-apart-onto_pieces c (p ∷ ps) each apart = go (is_separator c || starts is_separator p) refl
+apart-onto_pieces c (p ∷ ps) each apart = go (is_separator c || begins_with is_separator p) refl
   where
-    side : (is_separator c ≡ true) ⊎ (starts is_separator p ≡ true) → IsSeparator (c ∷ []) ⊎ IsSeparator p
+    side : (is_separator c ≡ true) ⊎ (begins_with is_separator p ≡ true) → IsSeparator (c ∷ []) ⊎ IsSeparator p
     side (inl h) = inl (c, h, refl)
     side (inr h) = inr (separator_of p each.0 h)
 
-    go : (b : Bool) → (is_separator c || starts is_separator p) ≡ b → AreApart (cond b ((c ∷ []) ∷ p ∷ ps) ((c ∷ p) ∷ ps))
-    go true h = (side (one_true (is_separator c) (starts is_separator p) h), apart)
-    go false h = apart-first p (c ∷ p) ps (λ s. let both = both_false (is_separator c) (starts is_separator p) h in let q = rw s.2 at both.1 in absurd (let t = s.1 in cc)) apart
+    go : (b : Bool) → (is_separator c || begins_with is_separator p) ≡ b → AreApart (cond b ((c ∷ []) ∷ p ∷ ps) ((c ∷ p) ∷ ps))
+    go true h = (side (one_true (is_separator c) (begins_with is_separator p) h), apart)
+    go false h = apart-first p (c ∷ p) ps (λ s. let both = both_false (is_separator c) (begins_with is_separator p) h in let q = rw s.2 at both.1 in absurd (let t = s.1 in cc)) apart
 
 joined : (text : List ℕ) → concat (pieces text) ≡ text
 joined [] = refl

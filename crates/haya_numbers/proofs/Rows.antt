@@ -6,7 +6,7 @@ use Rattle.std.specs.Str.{chars}
 use Rattle.ucd_category.proofs.Computing.{ucd_category}
 use Rattle.haya_numbers.specs.declared.numeric.NumericDelimiter.TheVariants.{Ampersand, Comma, Hyphen}
 use Rattle.haya_numbers.specs.declared.numeric.NumericError.TheVariants.{NoNumber, UnexpectedCharactersAfterPostfix}
-use Rattle.haya_numbers.specs.Characters.{is_numeric}
+use Rattle.haya_text.specs.Characters.{is_numeric}
 use Rattle.haya_numbers.specs.Numeric.{NumericView, Single, SetOf, without_affixes}
 use Rattle.haya_numbers.specs.NumericBack.{is_kept, value_reads_back}
 use Rattle.haya_numbers.specs.NumericForms.{roman_text}

@@ -4,11 +4,11 @@ use Rattle.std.specs.Prelude.{IfSome, slice_get}
 use Rattle.std.specs.Char.{is_whitespace}
 use Rattle.std.specs.Str.{skip_leading_whitespace}
 use Rattle.std.proofs.lemmas.List.Elements.{All-head, All-tail}
-use Rattle.haya_numbers.specs.Characters.{run, past_run}
+use Rattle.haya_text.specs.Characters.{run, behind_run}
 
 -- a text cut before the first character that fails the test
 pub run_from_cut : (p : ℕ → Bool) (xs front left : List ℕ) → xs ≡ front ++ left → All (λ c. true ≡ p c) front → IfSome (slice_get left 0) (λ c. false ≡ p c)
-    → (front ≡ run p xs) × (left ≡ past_run p xs)
+    → (front ≡ run p xs) × (left ≡ behind_run p xs)
 run_from_cut p xs [] [] e a s = rw e (refl, refl)
 run_from_cut p xs [] (c ∷ cs) e a s = let here : p c ≡ false = sym s in rw (e, here) (refl, refl)
 run_from_cut p xs (c ∷ front) left e a s =
@@ -24,7 +24,3 @@ run-first p (x ∷ cs) ds c e = go (p x) refl e
     go : (b : Bool) → p x ≡ b → cond b (x ∷ run p cs) [] ≡ c ∷ ds → p c ≡ true
     go true h k = let same : x ≡ c = cc in rw (← same) h
     go false h k = cc
-
-pub skip-past_run : (cs : List ℕ) → skip_leading_whitespace cs ≡ past_run is_whitespace cs
-skip-past_run [] = refl
-skip-past_run (c ∷ cs) = ap (λ v. cond (is_whitespace c) v (c ∷ cs)) (skip-past_run cs)

@@ -1,7 +1,8 @@
 -- Where the text of a range is cut, all by characters.
 use Rattle.std.specs.Prelude.{◌==◌, ◌||◌, ◌&&◌, ℕ, Bool, List, [], ◌∷◌, if◌then◌else◌}
 use Rattle.std.specs.List.{onto_first, slice_split}
-use Rattle.haya_numbers.specs.Characters.{en_dash, hyphen}
+use Rattle.haya_text.specs.Characters.{hyphen}
+use Rattle.haya_numbers.specs.Characters.{en_dash}
 
 abbrev pub backslash : ℕ
 backslash = 92

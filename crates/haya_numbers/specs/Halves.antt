@@ -1,6 +1,7 @@
 -- What it is to cut a text into halves at marks, apart from how it is done.
 use Rattle.std.specs.Prelude.{◌≡◌, ◌≢◌, ◌⊎◌, ℕ, List, [], ◌∷◌, ◌++◌}
-use Rattle.haya_numbers.specs.Characters.{en_dash, hyphen}
+use Rattle.haya_text.specs.Characters.{hyphen}
+use Rattle.haya_numbers.specs.Characters.{en_dash}
 use Rattle.haya_numbers.specs.Cuts.{backslash}
 
 -- a hyphen directly behind a backslash

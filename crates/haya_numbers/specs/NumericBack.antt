@@ -4,7 +4,8 @@ use Rattle.std.specs.Char.{is_whitespace}
 use Rattle.std.specs.Str.{chars}
 use Rattle.haya_numbers.specs.declared.numeric.NumericDelimiter.{NumericDelimiter}
 use Rattle.haya_numbers.specs.declared.numeric.NumericDelimiter.TheVariants.{Comma, Ampersand, Hyphen}
-use Rattle.haya_numbers.specs.Characters.{blank, is_delimiter, starts}
+use Rattle.haya_text.specs.Characters.{begins_with}
+use Rattle.haya_numbers.specs.Characters.{blank, is_delimiter}
 use Rattle.haya_numbers.specs.Numeric.{Item, ValueView, Single, SetOf, NumericView}
 
 -- above the least i32, and at most the greatest
@@ -54,7 +55,7 @@ signs_are_kept ((n, Some d) ∷ j ∷ rest) = may_follow d j.0 && signs_are_kept
 
 -- the text begins with neither white space nor a delimiter
 abbrev pub ends_numbers : List ℕ → Bool
-ends_numbers cs = not (starts is_whitespace cs || starts is_delimiter cs)
+ends_numbers cs = not (begins_with is_whitespace cs || begins_with is_delimiter cs)
 
 -- The suffix of a set begins with the white space that is shown behind the first number, which is
 -- a blank before an ampersand, and goes on with neither white space nor a delimiter.

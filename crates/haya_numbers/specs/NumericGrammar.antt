@@ -8,7 +8,8 @@ use Rattle.std.specs.Str.Parse.{digits_value}
 use Rattle.haya_numbers.specs.declared.numeric.NumericDelimiter.{NumericDelimiter}
 use Rattle.haya_numbers.specs.declared.numeric.NumericError.{NumericError}
 use Rattle.haya_numbers.specs.declared.numeric.NumericError.TheVariants.{NoNumber, UnexpectedCharactersAfterPostfix}
-use Rattle.haya_numbers.specs.Characters.{hyphen, zero_digit, is_numeric, is_delimiter, starts}
+use Rattle.haya_text.specs.Characters.{hyphen, is_numeric, begins_with}
+use Rattle.haya_numbers.specs.Characters.{zero_digit, is_delimiter}
 use Rattle.haya_numbers.specs.Numeric.{Item, ValueView, Single, SetOf, NumericView}
 use Rattle.haya_numbers.specs.NumericReading.{delimiter_read, first_delimiter, is_affix, is_suffix, affix, suffix_with}
 
@@ -16,7 +17,7 @@ use Rattle.haya_numbers.specs.NumericReading.{delimiter_read, first_delimiter, i
 pub record IsRun (p : ℕ → Bool) (text front rest : List ℕ) : Type 0 where
   pub joined : text ≡ front ++ rest
   pub members : list_all p front ≡ true
-  pub longest : starts p rest ≡ false
+  pub longest : begins_with p rest ≡ false
 
 -- ASCII digits, at least one, that write a number below 2 ^ 31
 pub record Spells (digits : List ℕ) (n : ℕ) : Type 0 where
@@ -72,11 +73,11 @@ pub data LacksItem : List ℕ → Type 0 where
 -- Of the zeros before the rest, which are the prefix's, and what stands behind them: all, where a
 -- numeric character follows, and otherwise all but the last.
 pub data KeepsZeros : List ℕ → List ℕ → List ℕ → List ℕ → Type 0 where
-  AllZeros : {zeros rest kept behind : List ℕ} → starts is_numeric rest ≡ true → kept ≡ zeros
+  AllZeros : {zeros rest kept behind : List ℕ} → begins_with is_numeric rest ≡ true → kept ≡ zeros
       → behind ≡ rest → KeepsZeros zeros rest kept behind
-  NoZeros : {zeros rest kept behind : List ℕ} → starts is_numeric rest ≡ false → zeros ≡ []
+  NoZeros : {zeros rest kept behind : List ℕ} → begins_with is_numeric rest ≡ false → zeros ≡ []
       → kept ≡ [] → behind ≡ rest → KeepsZeros zeros rest kept behind
-  ButLast : {zeros rest kept behind : List ℕ} → starts is_numeric rest ≡ false
+  ButLast : {zeros rest kept behind : List ℕ} → begins_with is_numeric rest ≡ false
       → zeros ≡ kept ++ zero_digit ∷ [] → behind ≡ zero_digit ∷ rest
       → KeepsZeros zeros rest kept behind
 

@@ -3,7 +3,8 @@ use Rattle.std.specs.Prelude.{ℕ, ℤ, Bool, true, false, List, [], ◌∷◌, 
 use Rattle.std.specs.Fmt.{signed_decimal}
 use Rattle.haya_numbers.specs.declared.numeric.NumericDelimiter.{NumericDelimiter}
 use Rattle.haya_numbers.specs.declared.numeric.NumericDelimiter.TheVariants.{Comma, Ampersand, Hyphen}
-use Rattle.haya_numbers.specs.Characters.{comma, ampersand, hyphen, blank}
+use Rattle.haya_text.specs.Characters.{comma, hyphen}
+use Rattle.haya_numbers.specs.Characters.{ampersand, blank}
 use Rattle.haya_numbers.specs.Numeric.{Item, ValueView, Single, SetOf, NumericView}
 
 -- `as_char`

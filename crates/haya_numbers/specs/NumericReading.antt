@@ -8,7 +8,8 @@ use Rattle.haya_numbers.specs.declared.numeric.NumericDelimiter.{NumericDelimite
 use Rattle.haya_numbers.specs.declared.numeric.NumericDelimiter.TheVariants.{Comma, Ampersand, Hyphen}
 use Rattle.haya_numbers.specs.declared.numeric.NumericError.{NumericError}
 use Rattle.haya_numbers.specs.declared.numeric.NumericError.TheVariants.{NoNumber, UnexpectedCharactersAfterPostfix, NotADelimiter, MissingDelimiter}
-use Rattle.haya_numbers.specs.Characters.{comma, ampersand, hyphen, en_dash, zero_digit, is_numeric, is_delimiter, run, past_run, starts}
+use Rattle.haya_text.specs.Characters.{comma, hyphen, is_numeric, run, behind_run, begins_with}
+use Rattle.haya_numbers.specs.Characters.{ampersand, en_dash, zero_digit, is_delimiter}
 use Rattle.haya_numbers.specs.Numeric.{Item, ValueView, Single, SetOf, NumericView, is_memory}
 
 -- the delimiter that a character is
@@ -38,18 +39,18 @@ is_suffix c = not (is_numeric c || is_whitespace c)
 -- number is its own.
 abbrev pub spare_zeros : List ℕ → List ℕ
 spare_zeros [] = []
-spare_zeros (c ∷ cs) = if c == zero_digit && starts is_numeric cs then c ∷ spare_zeros cs else []
+spare_zeros (c ∷ cs) = if c == zero_digit && begins_with is_numeric cs then c ∷ spare_zeros cs else []
 
 abbrev pub past_zeros : List ℕ → List ℕ
 past_zeros [] = []
-past_zeros (c ∷ cs) = if c == zero_digit && starts is_numeric cs then past_zeros cs else c ∷ cs
+past_zeros (c ∷ cs) = if c == zero_digit && begins_with is_numeric cs then past_zeros cs else c ∷ cs
 
 -- the prefix, and what stands behind it
 abbrev pub prefix_run : List ℕ → List ℕ
-prefix_run cs = run is_affix cs ++ spare_zeros (past_run is_affix cs)
+prefix_run cs = run is_affix cs ++ spare_zeros (behind_run is_affix cs)
 
 abbrev pub past_prefix : List ℕ → List ℕ
-past_prefix cs = past_zeros (past_run is_affix cs)
+past_prefix cs = past_zeros (behind_run is_affix cs)
 
 -- the value of a run: ASCII digits, at least one, below 2 ^ 31
 abbrev pub magnitude : List ℕ → Option ℕ
@@ -69,13 +70,13 @@ signed false n = pos n
 -- the number at the front, and what stands behind it
 abbrev pub number_front : List ℕ → Option (ℤ × List ℕ)
 number_front cs =
-    option_map (λ n. (signed (starts (λ c. c == hyphen) cs) n, past_run is_numeric (past_sign cs)))
+    option_map (λ n. (signed (begins_with (λ c. c == hyphen) cs) n, behind_run is_numeric (past_sign cs)))
     (magnitude (run is_numeric (past_sign cs)))
 
 -- a number of a set with its delimiter: the run behind the number names it
 abbrev pub delimited : ℤ → List ℕ → Item × List ℕ
 delimited n rest =
-    ((n, result_ok (delimiter_read (run is_delimiter rest))), past_run is_delimiter rest)
+    ((n, result_ok (delimiter_read (run is_delimiter rest))), behind_run is_delimiter rest)
 
 -- the next number of a set, with its delimiter, and what stands behind both
 abbrev pub item_front : List ℕ → Option (Item × List ℕ)
@@ -103,7 +104,7 @@ items_read cs = items_front (length cs) cs
 abbrev pub set_from : ℤ → Option NumericDelimiter → List ℕ → Option (ValueView × List ℕ)
 set_from n None rest = Some (Single n, rest)
 set_from n (Some d) rest =
-    option_map (λ p. (SetOf ((n, Some d) ∷ p.0), p.1)) (items_read (past_run is_delimiter rest))
+    option_map (λ p. (SetOf ((n, Some d) ∷ p.0), p.1)) (items_read (behind_run is_delimiter rest))
 
 abbrev pub first_delimiter : List ℕ → Option NumericDelimiter
 first_delimiter [] = None
@@ -133,7 +134,7 @@ suffixed before white (Some (v, rest)) =
       prefix = affix (encode_utf8_all before);
       suffix = suffix_with white (run is_suffix (skip_leading_whitespace rest));
     })
-    (past_run is_suffix (skip_leading_whitespace rest))
+    (behind_run is_suffix (skip_leading_whitespace rest))
 
 abbrev pub valued : List ℕ → Option (ℤ × List ℕ) → Result NumericView NumericError
 valued before None = Err NoNumber

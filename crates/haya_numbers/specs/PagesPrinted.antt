@@ -1,6 +1,7 @@
 -- The bytes that pages are printed as.
 use Rattle.std.specs.Prelude.{ℕ, List, [], ◌∷◌, ◌++◌, flat_map}
-use Rattle.haya_numbers.specs.Characters.{ampersand, blank, comma, hyphen}
+use Rattle.haya_text.specs.Characters.{comma, hyphen}
+use Rattle.haya_numbers.specs.Characters.{ampersand, blank}
 use Rattle.haya_numbers.specs.Numeric.{NumericView}
 use Rattle.haya_numbers.specs.NumericPrinted.{shown_numeric}
 use Rattle.haya_numbers.specs.Pages.{PartView, Ampersand, Comma, EscapedRange, SinglePage, Range}

@@ -2,7 +2,8 @@
 use Rattle.std.specs.Prelude.{◌≡◌, ◌==◌, ◌++◌, ℕ, false, List, [], ◌∷◌, map, length, nat_lt, if◌then◌else◌, Result, Ok, Err, MatchResult}
 use Rattle.std.specs.Result.{result_and, result_map_both}
 use Rattle.std.specs.Str.{skip_leading_whitespace, drop_trailing_whitespace}
-use Rattle.haya_numbers.specs.Characters.{ampersand, comma}
+use Rattle.haya_text.specs.Characters.{comma}
+use Rattle.haya_numbers.specs.Characters.{ampersand}
 use Rattle.haya_numbers.specs.Cuts.{dash_split, escaped_split}
 use Rattle.haya_numbers.specs.Numeric.{NumericView, is_memory}
 use Rattle.haya_numbers.specs.NumericReading.{read_from}

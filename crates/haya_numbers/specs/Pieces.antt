@@ -1,7 +1,8 @@
 -- The pieces that a text of pages is cut into, all by characters.
 use Rattle.std.specs.Prelude.{◌≡◌, ◌≢◌, ◌==◌, ◌||◌, ◌⊎◌, ℕ, Bool, true, false, List, [], ◌∷◌, All, if◌then◌else◌}
 use Rattle.std.specs.List.{concat}
-use Rattle.haya_numbers.specs.Characters.{ampersand, comma, starts}
+use Rattle.haya_text.specs.Characters.{comma, begins_with}
+use Rattle.haya_numbers.specs.Characters.{ampersand}
 
 -- a character that is a piece of its own
 abbrev pub is_separator : ℕ → Bool
@@ -11,7 +12,7 @@ is_separator c = c == comma || c == ampersand
 abbrev pub onto_pieces : ℕ → List (List ℕ) → List (List ℕ)
 onto_pieces c [] = (c ∷ []) ∷ []
 onto_pieces c (p ∷ ps) =
-    if is_separator c || starts is_separator p then (c ∷ []) ∷ p ∷ ps else (c ∷ p) ∷ ps
+    if is_separator c || begins_with is_separator p then (c ∷ []) ∷ p ∷ ps else (c ∷ p) ∷ ps
 
 -- each separator as a piece, and each longest run of other characters
 abbrev pub pieces : List ℕ → List (List ℕ)

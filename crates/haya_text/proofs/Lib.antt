@@ -1,6 +1,7 @@
 pub mod Tells
 pub mod Characters
 pub mod Equal
+pub mod Numerics
 mod Canonical
 mod Folds
 mod Grammars

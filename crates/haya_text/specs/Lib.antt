@@ -1,3 +1,4 @@
+pub mod Characters
 pub mod Chunks
 pub mod Cursor
 pub mod Equality

@@ -5,6 +5,7 @@ ghost use Rattle.std.specs.Char.{encode_utf8};
 ghost use Rattle.std.specs.Str.{chars, encode_utf8_all, skip_leading_whitespace};
 ghost use Rattle.haya_text.specs.Cursor.{Eats, EatsIf, IsBehind, text_len};
 
+use crate::chars::split_char;
 use std::marker::Model;
 
 /// A place in a text. It knows how many bytes stand before it, and what is left.
@@ -122,17 +123,6 @@ impl<'a> Cursor<'a> {
         self.place += self.rest().len() - left.len();
         self.rest = left;
     }
-}
-
-// The first character of a text, and the text behind it.
-fn split_char(text: &str) -> Option<(char, &str)>
-    ensures end { IfNone result (chars text.now ≡ []) }
-    ensures first { IfSome result (λ p. chars text.now ≡ p.0 ∷ chars p.1.now) }
-    ensures bytes { IfSome result (λ p. text.now ≡ encode_utf8 p.0 ++ p.1.now) }
-{
-    let mut characters = text.chars();
-    let first = characters.next()?;
-    Some((first, characters.as_str()))
 }
 
 // The text cut before its first character that isn't accepted.

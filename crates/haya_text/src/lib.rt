@@ -2,6 +2,7 @@
 //! memory.
 #![tactic(auto)]
 
+pub mod chars;
 pub mod cursor;
 mod fault;
 pub mod laws;

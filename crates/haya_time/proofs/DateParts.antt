@@ -9,8 +9,10 @@ use Rattle.std.specs.Str.Parse.{digits_value}
 use Rattle.haya_text.proofs.Tells.{and-both, both-and}
 use Rattle.haya_time.specs.DateForms.{IsBlank, BeginsWith, HasMark, marked, unmarked, HasSign, minus, plus, unsigned, BeginsWithNumber, Opening, OpensWith, BeginsWithPart, calendar_year, with_sign}
 use Rattle.haya_time.specs.DateReading.{behind_first, behind, number_of, Number, number_before, number_at, mark_of, mark_at, sign_by, sign_at, opening_with, opening_by, opening_after_sign, opening_after_mark, opening_at, part_by, part_behind, part_at}
-use Rattle.haya_time.specs.DateText.{hyphen, plus_sign, tilde, run, behind_run, is_numeric}
-use Rattle.haya_time.proofs.DateCharacters.{digit_low, digit_high, digit-numeric, digit-white}
+use Rattle.haya_text.specs.Characters.{hyphen, run, behind_run, is_numeric}
+use Rattle.haya_time.specs.DateText.{plus_sign, tilde}
+use Rattle.haya_text.proofs.Numerics.{digit_low, digit_high, digit-numeric, run-behind_run, behind_run-stops, behind_run-of, run-none, none-run}
+use Rattle.haya_time.proofs.DateCharacters.{digit-white}
 
 -- ---- white space
 
@@ -87,38 +89,14 @@ starts-behind c low text s (inr h) =
 
 -- ---- numbers
 
-run-whole : (cs : List ℕ) → run cs ++ behind_run cs ≡ cs
-run-whole [] = refl
-run-whole (c ∷ cs) = by_kind (is_numeric c) refl (run-whole cs)
-  where
-    by_kind : (b : Bool) → is_numeric c ≡ b → run cs ++ behind_run cs ≡ cs → run (c ∷ cs) ++ behind_run (c ∷ cs) ≡ c ∷ cs
-    by_kind true h ih = rw h (ap (λ t. c ∷ t) ih)
-    by_kind false h ih = rw h refl
-
-run-behind_run : (cs : List ℕ) → run (behind_run cs) ≡ []
-run-behind_run [] = refl
-run-behind_run (c ∷ cs) = by_kind (is_numeric c) refl (run-behind_run cs)
-  where
-    by_kind : (b : Bool) → is_numeric c ≡ b → run (behind_run cs) ≡ [] → run (behind_run (c ∷ cs)) ≡ []
-    by_kind true h ih = rw h ih
-    by_kind false h ih = rw (h, h) refl
-
-stopped-run : (cs : List ℕ) → run cs ≡ [] → behind_run cs ≡ cs
-stopped-run [] h = refl
-stopped-run (c ∷ cs) h = by_kind (is_numeric c) refl h
-  where
-    by_kind : (b : Bool) → is_numeric c ≡ b → cond b (c ∷ run cs) [] ≡ [] → cond b (behind_run cs) (c ∷ cs) ≡ c ∷ cs
-    by_kind true i h = cc
-    by_kind false i h = refl
-
-digits-run : (ds rest : List ℕ) → all_ascii_digits ds ≡ true → run rest ≡ [] → run (ds ++ rest) ≡ ds
+digits-run : (ds rest : List ℕ) → all_ascii_digits ds ≡ true → run is_numeric rest ≡ [] → run is_numeric (ds ++ rest) ≡ ds
 digits-run [] rest a r = r
 digits-run (d ∷ ds) rest a r =
     let p = and-both (is_ascii_digit d) (all_ascii_digits ds) a in
     rw (digit-numeric d p.0) (ap (λ t. d ∷ t) (digits-run ds rest p.1 r))
 
-digits-behind_run : (ds rest : List ℕ) → all_ascii_digits ds ≡ true → run rest ≡ [] → behind_run (ds ++ rest) ≡ rest
-digits-behind_run [] rest a r = stopped-run rest r
+digits-behind_run : (ds rest : List ℕ) → all_ascii_digits ds ≡ true → run is_numeric rest ≡ [] → behind_run is_numeric (ds ++ rest) ≡ rest
+digits-behind_run [] rest a r = behind_run-of is_numeric [] rest refl (none-run is_numeric rest r)
 digits-behind_run (d ∷ ds) rest a r =
     let p = and-both (is_ascii_digit d) (all_ascii_digits ds) a in
     rw (digit-numeric d p.0) (digits-behind_run ds rest p.1 r)
@@ -143,12 +121,13 @@ spells cs rest n h = by_test (all_ascii_digits cs) refl (nat_le (length cs) 4) h
 pub number-begins : (text : List ℕ) (n : Number) → number_at text ≡ Some n → BeginsWithNumber text n.count n.value n.rest
 number-begins text n h =
     let front : List ℕ = skip_leading_whitespace text in
-    let s = spells (run front) (behind_run front) n h in
+    let s = spells (run is_numeric front) (behind_run is_numeric front) n h in
     record {
-      digits = run front;
-      stands = begins (run front) text n.rest (sym (run-whole front) ∙ ap (λ t. run front ++ t) s.follows);
+      digits = run is_numeric front;
+      stands = begins (run is_numeric front) text n.rest (run-behind_run is_numeric front ∙ ap (λ t. run is_numeric front ++ t) s.follows);
       ascii = s.ascii;
-      longest = ap run (sym s.follows) ∙ run-behind_run front;
+      longest = ap (run is_numeric) (sym s.follows)
+          ∙ run-none is_numeric (behind_run is_numeric front) (behind_run-stops is_numeric front);
       counted = s.counted;
       valued = s.valued;
     }
@@ -157,9 +136,9 @@ number_of-digits : (cs : List ℕ) → all_ascii_digits cs ≡ true → length c
 number_of-digits cs a high = let t : nat_le (length cs) 4 ≡ true = grind (arith, nat_tests) in rw (a, t) refl
 
 abbrev number_front : List ℕ → Option Number
-number_front front = number_before (number_of (run front)) (behind_run front)
+number_front front = number_before (number_of (run is_numeric front)) (behind_run is_numeric front)
 
-digits-number : (digits text rest : List ℕ) → all_ascii_digits digits ≡ true → run rest ≡ [] → 1 ≤ length digits → length digits ≤ 4 → BeginsWith digits text rest
+digits-number : (digits text rest : List ℕ) → all_ascii_digits digits ≡ true → run is_numeric rest ≡ [] → 1 ≤ length digits → length digits ≤ 4 → BeginsWith digits text rest
     → number_at text ≡ Some (record { count = length digits; value = digits_value 10 digits; rest = rest })
 digits-number [] text rest a r low high b = absurd (omega arith)
 digits-number (d ∷ ds) text rest a r low high b =

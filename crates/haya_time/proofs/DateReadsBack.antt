@@ -16,8 +16,9 @@ use Rattle.haya_time.specs.DateForms.{HasMark, marked, unmarked, HasSign, minus,
 use Rattle.haya_time.specs.DatePrinted.{padded_decimal, mark_text, year_digits, part_text, parts_text, date_text}
 use Rattle.haya_time.specs.DateReadBack.{is_on_calendar, ReadsBack}
 use Rattle.haya_time.specs.DateReading.{date_read}
-use Rattle.haya_time.specs.DateText.{hyphen, tilde, digit_zero, run}
-use Rattle.haya_time.proofs.DateCharacters.{hyphen-numeric}
+use Rattle.haya_text.specs.Characters.{is_numeric, hyphen, run}
+use Rattle.haya_time.specs.DateText.{tilde, digit_zero}
+use Rattle.haya_text.proofs.Numerics.{hyphen-numeric}
 use Rattle.haya_time.proofs.DateReadings.{reads-read}
 
 -- ---- padded digits
@@ -53,7 +54,7 @@ digits_of width n some short small =
       tell = zeros-value (width - length (decimal n)) (decimal n) ∙ (decimal_is_IsNumeral n small).1;
     }
 
-digits-number : (ds rest : List ℕ) (width n : ℕ) → Digits ds width n → run rest ≡ [] → BeginsWithNumber (ds ++ rest) width n rest
+digits-number : (ds rest : List ℕ) (width n : ℕ) → Digits ds width n → run is_numeric rest ≡ [] → BeginsWithNumber (ds ++ rest) width n rest
 digits-number ds rest width n d stops = record {
   digits = ds;
   stands = record { blank = []; white = refl; joined = refl };
@@ -84,7 +85,7 @@ opening_text approximate y rest = mark_text approximate tilde ++ (mark_text (is_
 abbrev opening_of : Bool → ℤ → List ℕ → Opening
 opening_of approximate y rest = record { approximate = approximate; count = 4; year = y; rest = rest }
 
-opening-text : (approximate : Bool) (y : ℤ) (rest : List ℕ) → unsigned_abs y ≤ 9999 → run rest ≡ [] → OpensWith (opening_text approximate y rest) (opening_of approximate y rest)
+opening-text : (approximate : Bool) (y : ℤ) (rest : List ℕ) → unsigned_abs y ≤ 9999 → run is_numeric rest ≡ [] → OpensWith (opening_text approximate y rest) (opening_of approximate y rest)
 opening-text approximate y rest near stops =
     let digits = digits_of 4 (unsigned_abs y) (omega arith) (omega arith) (omega arith) in
     record {
@@ -98,7 +99,7 @@ opening-text approximate y rest near stops =
       named = ap (λ v. Some v) (year-sign y);
     }
 
-part-text : (n : ℕ) (rest : List ℕ) → n + 1 < 100 → run rest ≡ [] → BeginsWithPart (part_text n ++ rest) (n + 1) rest
+part-text : (n : ℕ) (rest : List ℕ) → n + 1 < 100 → run is_numeric rest ≡ [] → BeginsWithPart (part_text n ++ rest) (n + 1) rest
 part-text n rest short stops =
     let digits = digits_of 2 (n + 1) (omega arith) (omega arith) (omega arith) in
     record {
@@ -110,10 +111,10 @@ part-text n rest short stops =
       high = omega arith;
     }
 
-hyphen-stops : (rest : List ℕ) → run (hyphen ∷ rest) ≡ []
+hyphen-stops : (rest : List ℕ) → run is_numeric (hyphen ∷ rest) ≡ []
 hyphen-stops rest = rw hyphen-numeric refl
 
-parts-stop : (m d : Option ℕ) → run (parts_text m d) ≡ []
+parts-stop : (m d : Option ℕ) → run is_numeric (parts_text m d) ≡ []
 parts-stop None d = refl
 parts-stop (Some m) None = hyphen-stops (padded_decimal 2 (m + 1))
 parts-stop (Some m) (Some d) = hyphen-stops (padded_decimal 2 (m + 1) ++ part_text d)

@@ -14,7 +14,8 @@ use Rattle.std.specs.Str.{IsAscii, chars}
 use Rattle.std.specs.Str.Parse.{AllDigits}
 use Rattle.haya_time.specs.declared.duration.Duration.{Duration}
 use Rattle.haya_time.specs.declared.duration.range.DurationRange.{DurationRange}
-use Rattle.haya_time.specs.DurationText.{colon, comma, hyphen, run, is_numeric, begins_with, number, colons}
+use Rattle.haya_text.specs.Characters.{comma, hyphen, run, is_numeric, begins_with}
+use Rattle.haya_time.specs.DurationText.{colon, number, colons}
 use Rattle.haya_time.specs.DurationBack.{reads_back, range_reads_back}
 use Rattle.haya_time.specs.DurationPrint.{padded_number, days_text, hours_text, fraction_text, duration_text, same_duration, range_text}
 use Rattle.haya_time.specs.DurationReading.{duration_read, range_read}

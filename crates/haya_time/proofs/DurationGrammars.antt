@@ -7,12 +7,13 @@ use Rattle.std.specs.Char.{is_ascii_digit, is_whitespace, digit_value}
 use Rattle.std.specs.List.{list_all}
 use Rattle.std.specs.Str.{skip_leading_whitespace}
 use Rattle.haya_time.specs.declared.duration.Duration.{Duration}
-use Rattle.haya_time.specs.DurationText.{colon, is_numeric, begins_with, run, behind_run, number, strip_sign, colons}
+use Rattle.haya_text.specs.Characters.{is_numeric, begins_with, run, behind_run}
+use Rattle.haya_time.specs.DurationText.{colon, number, strip_sign, colons}
 use Rattle.haya_time.specs.DurationReading.{digits_at, sign_tail, with_colon, long_number, two_number, long_at, two_at, two_colon_at, minutes_at, hours_at, days_at, clock_at}
 use Rattle.haya_time.specs.DurationValues.{clock, from_hours, from_minutes}
 use Rattle.haya_time.specs.DurationGrammar.{IsNumber, IsSign, IsValue, AreMinutes, AreHours, AreDays, IsClock}
 use Rattle.haya_time.proofs.DurationNumbers.{both, digit_is, digit_small}
-use Rattle.haya_time.proofs.DurationScans.{run-behind_run, digits-run}
+use Rattle.haya_text.proofs.Numerics.{digit-numeric, run-behind_run, all-run, run-of, behind_run-of, skip-behind_run}
 
 -- optional values
 
@@ -37,44 +38,10 @@ mapped f (Some x) y h = record { x = x; was = refl; gives = cc }
 pub some_pair : {A B : Type 0} (p q : A × B) → Some p ≡ Some q → (p.0 ≡ q.0) × (p.1 ≡ q.1)
 some_pair p q h = let e : p ≡ q = cc in (ap (λ x. x.0) e, ap (λ x. x.1) e)
 
--- characters
-
-digit_category : (d : ℕ) → d < 10 → is_numeric (48 + d) ≡ true
-unfolding ucd_category
-digit_category zero l = refl
-digit_category (suc zero) l = refl
-digit_category (suc (suc zero)) l = refl
-digit_category (suc (suc (suc zero))) l = refl
-digit_category (suc (suc (suc (suc zero)))) l = refl
-digit_category (suc (suc (suc (suc (suc zero))))) l = refl
-digit_category (suc (suc (suc (suc (suc (suc zero)))))) l = refl
-digit_category (suc (suc (suc (suc (suc (suc (suc zero))))))) l = refl
-digit_category (suc (suc (suc (suc (suc (suc (suc (suc zero)))))))) l = refl
-digit_category (suc (suc (suc (suc (suc (suc (suc (suc (suc zero))))))))) l = refl
-digit_category (suc (suc (suc (suc (suc (suc (suc (suc (suc (suc d)))))))))) l = absurd (omega arith)
-
-pub digit-numeric : (c : ℕ) → is_ascii_digit c ≡ true → is_numeric c ≡ true
-digit-numeric c h =
-    let value : digit_value c < 10 = digit_small c h in
-    let same : 48 + digit_value c ≡ c = omega (arith, digit_is c h) in
-    ap is_numeric (sym same) ∙ digit_category (digit_value c) value
-
 pub digit-no_space : (c : ℕ) → is_ascii_digit c ≡ true → is_whitespace c ≡ false
 digit-no_space c h = grind (arith, nat_tests)
 
 -- white space at the front
-
-pub all-run : (p : ℕ → Bool) (cs : List ℕ) → list_all p (run p cs) ≡ true
-all-run p [] = refl
-all-run p (c ∷ cs) = go (p c) refl (all-run p cs)
-  where
-    go : (b : Bool) → p c ≡ b → list_all p (run p cs) ≡ true → list_all p (run p (c ∷ cs)) ≡ true
-    go true h rest = rw (h, h) rest
-    go false h rest = rw h refl
-
-pub skip-behind_run : (cs : List ℕ) → skip_leading_whitespace cs ≡ behind_run is_whitespace cs
-skip-behind_run [] = refl
-skip-behind_run (c ∷ cs) = ap (λ x. cond (is_whitespace c) x (c ∷ cs)) (skip-behind_run cs)
 
 -- a text is white space and what is left of it
 pub space-cut : (text : List ℕ) → text ≡ run is_whitespace text ++ skip_leading_whitespace text
@@ -86,30 +53,6 @@ skip-gap [] (c ∷ cs) h s = rw s refl
 skip-gap (c ∷ cs) rest h s =
     let p = both (is_whitespace c) (list_all is_whitespace cs) h in
     rw p.0 (skip-gap cs rest p.1 s)
-
--- runs
-
-pub run-of : (p : ℕ → Bool) (front rest : List ℕ) → list_all p front ≡ true → begins_with p rest ≡ false → run p (front ++ rest) ≡ front
-run-of p [] [] h s = refl
-run-of p [] (c ∷ cs) h s = rw s refl
-run-of p (c ∷ cs) rest h s =
-    let q = both (p c) (list_all p cs) h in
-    rw q.0 (ap (λ x. c ∷ x) (run-of p cs rest q.1 s))
-
-pub behind_run-of : (p : ℕ → Bool) (front rest : List ℕ) → list_all p front ≡ true → begins_with p rest ≡ false → behind_run p (front ++ rest) ≡ rest
-behind_run-of p [] [] h s = refl
-behind_run-of p [] (c ∷ cs) h s = rw s refl
-behind_run-of p (c ∷ cs) rest h s =
-    let q = both (p c) (list_all p cs) h in
-    rw q.0 (behind_run-of p cs rest q.1 s)
-
-pub behind_run-stops : (p : ℕ → Bool) (cs : List ℕ) → begins_with p (behind_run p cs) ≡ false
-behind_run-stops p [] = refl
-behind_run-stops p (c ∷ cs) = go (p c) refl (behind_run-stops p cs)
-  where
-    go : (b : Bool) → p c ≡ b → begins_with p (behind_run p cs) ≡ false → begins_with p (behind_run p (c ∷ cs)) ≡ false
-    go true h rest = rw h rest
-    go false h rest = rw (h, h) refl
 
 no_digit : (rest : List ℕ) → begins_with is_numeric rest ≡ false → begins_with is_ascii_digit rest ≡ false
 no_digit [] h = refl
@@ -133,7 +76,7 @@ number-of text ds rest h some = go (begins_with is_numeric (behind_run is_ascii_
       cut = space-cut text ∙ ap (λ x. run is_whitespace text ++ x) (run-behind_run is_ascii_digit front ∙ (λ i. sym d i ++ sym r i));
       space = all-run is_whitespace text;
       some = some;
-      ascii = rw d (digits-run front);
+      ascii = rw d (all-run is_ascii_digit front);
       whole = rw r n;
     }
 

@@ -9,12 +9,13 @@ use Rattle.haya_time.specs.declared.duration.Duration.{Duration}
 use Rattle.haya_time.specs.declared.duration.range.DurationRange.{DurationRange}
 use Rattle.haya_time.specs.declared.duration.reading.DurationError.{DurationError}
 use Rattle.haya_time.specs.declared.duration.reading.DurationError.TheVariants.{Malformed, TooLarge}
-use Rattle.haya_time.specs.DurationText.{comma, hyphen, is_empty, run, behind_run}
+use Rattle.haya_text.specs.Characters.{comma, hyphen, run, behind_run}
+use Rattle.haya_time.specs.DurationText.{is_empty}
 use Rattle.haya_time.specs.DurationReading.{digits_at, sign_tail, clock_at, Front, fraction_front, with_fraction, front_at, is_ended, check_bounds, duration_read, is_start, range_to, range_from, range_read}
 use Rattle.haya_time.specs.DurationValues.{milliseconds, is_too_large}
 use Rattle.haya_time.specs.DurationGrammar.{IsSign, IsClock, IsFraction, IsDuration, ReadsAs, ReadsTooLarge, IsStart, HasTwoTexts, IsOneDuration, ReadsAsRange, HasLargeStart, RangeTooLarge}
-use Rattle.haya_time.proofs.DurationScans.{run-behind_run}
-use Rattle.haya_time.proofs.DurationGrammars.{Through, through, number-of, number-at, sign-of, sign-at, clock-of, clock-at, all-run, space-cut, skip-gap, behind_run-of, behind_run-stops}
+use Rattle.haya_text.proofs.Numerics.{run-behind_run, all-run, behind_run-of, behind_run-stops}
+use Rattle.haya_time.proofs.DurationGrammars.{Through, through, number-of, number-at, sign-of, sign-at, clock-of, clock-at, space-cut, skip-gap}
 
 -- the duration at the front
 

@@ -6,16 +6,9 @@ use Rattle.std.proofs.Math.Seq.{take-append_seam, drop-append_seam}
 use Rattle.std.specs.Char.{is_ascii_digit}
 use Rattle.std.specs.Str.{IsUtf8, IsAscii, IsCharBoundary, chars, encode_utf8_all, skip_leading_whitespace, trim_start}
 use Rattle.std.specs.List.{list_all}
-use Rattle.haya_time.specs.DurationText.{is_numeric, begins_with, run, behind_run}
+use Rattle.haya_text.specs.Characters.{is_numeric, begins_with, run, behind_run}
+use Rattle.haya_text.proofs.Numerics.{run-behind_run}
 use Rattle.haya_time.specs.DurationReading.{digits_at}
-
-pub run-behind_run : (p : ℕ → Bool) (cs : List ℕ) → cs ≡ run p cs ++ behind_run p cs
-run-behind_run p [] = refl
-run-behind_run p (c ∷ cs) = go (p c) refl (run-behind_run p cs)
-  where
-    go : (b : Bool) → p c ≡ b → cs ≡ run p cs ++ behind_run p cs → c ∷ cs ≡ run p (c ∷ cs) ++ behind_run p (c ∷ cs)
-    go true h rest = rw h (ap (λ v. c ∷ v) rest)
-    go false h rest = rw h refl
 
 pub IsAscii-run : (cs : List ℕ) → IsAscii (run is_ascii_digit cs)
 IsAscii-run [] i = omega arith
@@ -62,11 +55,3 @@ digits-none text front rest e f h = rw (← e, ← f, h) refl
 
 pub digits-some : (text front rest digits tail : List ℕ) → front ≡ skip_leading_whitespace text → rest ≡ behind_run is_ascii_digit front → begins_with is_numeric rest ≡ false → digits ≡ run is_ascii_digit front → tail ≡ rest → digits_at text ≡ Some (digits, tail)
 digits-some text front rest digits tail e f h d t = rw (← e, ← f, h, d, t) refl
-
-pub digits-run : (cs : List ℕ) → list_all is_ascii_digit (run is_ascii_digit cs) ≡ true
-digits-run [] = refl
-digits-run (c ∷ cs) = go (is_ascii_digit c) refl (digits-run cs)
-  where
-    go : (b : Bool) → is_ascii_digit c ≡ b → list_all is_ascii_digit (run is_ascii_digit cs) ≡ true → list_all is_ascii_digit (run is_ascii_digit (c ∷ cs)) ≡ true
-    go true h rest = rw (h, h) rest
-    go false h rest = rw h refl

@@ -8,7 +8,8 @@ use Rattle.haya_time.specs.declared.date.Date.{Date}
 use Rattle.haya_time.specs.declared.date.DateError.{DateError}
 use Rattle.haya_time.specs.declared.date.DateError.TheVariants.{UnknownFormat, MonthOutOfBounds, DayOutOfBounds}
 use Rattle.haya_time.specs.DateCalendar.{is_month, has_day}
-use Rattle.haya_time.specs.DateText.{hyphen, plus_sign, tilde, run}
+use Rattle.haya_text.specs.Characters.{is_numeric, hyphen, run}
+use Rattle.haya_time.specs.DateText.{plus_sign, tilde}
 
 -- white space and nothing else
 abbrev pub IsBlank : List ℕ → Type 0
@@ -37,7 +38,7 @@ pub record BeginsWithNumber (text : List ℕ) (count value : ℕ) (rest : List �
   pub digits : List ℕ
   pub stands : BeginsWith digits text rest
   pub ascii : all_ascii_digits digits ≡ true
-  pub longest : run rest ≡ []
+  pub longest : run is_numeric rest ≡ []
   pub counted : length digits ≡ count
   pub valued : digits_value 10 digits ≡ value
 

@@ -3,7 +3,8 @@ use Rattle.std.specs.Prelude.{◌≡◌, String, string_bytes, ℕ, ◌+◌, ◌
 use Rattle.std.specs.Fmt.{decimal, signed_decimal}
 use Rattle.std.specs.Int.{is_negative}
 use Rattle.haya_time.specs.declared.date.Date.{Date}
-use Rattle.haya_time.specs.DateText.{hyphen, digit_zero, tilde}
+use Rattle.haya_text.specs.Characters.{hyphen}
+use Rattle.haya_time.specs.DateText.{digit_zero, tilde}
 
 -- the text has these bytes
 abbrev pub HasText : {A : Type 0} → List ℕ → String A → Type 0

@@ -9,7 +9,8 @@ use Rattle.haya_time.specs.declared.date.DateError.{DateError}
 use Rattle.haya_time.specs.declared.date.DateError.TheVariants.{UnknownFormat, MonthOutOfBounds, DayOutOfBounds}
 use Rattle.haya_time.specs.DateCalendar.{is_month, has_day}
 use Rattle.haya_time.specs.DateForms.{Opening, calendar_year, with_sign, date_with}
-use Rattle.haya_time.specs.DateText.{hyphen, plus_sign, tilde, run, behind_run}
+use Rattle.haya_text.specs.Characters.{is_numeric, hyphen, run, behind_run}
+use Rattle.haya_time.specs.DateText.{plus_sign, tilde}
 use Rattle.std.specs.Prelude.{ℤ}
 
 -- what follows the character, if the text begins with it
@@ -40,7 +41,7 @@ number_before (Some n) rest = Some (record { count = n.0; value = n.1; rest = re
 abbrev pub number_at : List ℕ → Option Number
 number_at text =
     let front = skip_leading_whitespace text in
-    number_before (number_of (run front)) (behind_run front)
+    number_before (number_of (run is_numeric front)) (behind_run is_numeric front)
 
 -- whether a mark or a minus stands there, and what follows
 abbrev pub mark_of : List ℕ → Option (List ℕ) → Bool × List ℕ

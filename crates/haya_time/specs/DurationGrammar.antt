@@ -4,7 +4,8 @@ use Rattle.std.specs.Char.{is_ascii_digit, is_whitespace}
 use Rattle.std.specs.List.{list_all}
 use Rattle.haya_time.specs.declared.duration.Duration.{Duration}
 use Rattle.haya_time.specs.declared.duration.range.DurationRange.{DurationRange}
-use Rattle.haya_time.specs.DurationText.{colon, comma, hyphen, is_numeric, begins_with, number, colons}
+use Rattle.haya_text.specs.Characters.{comma, hyphen, is_numeric, begins_with}
+use Rattle.haya_time.specs.DurationText.{colon, number, colons}
 use Rattle.haya_time.specs.DurationValues.{clock, from_hours, from_minutes, milliseconds, is_too_large}
 
 -- the text is white space, these digits, and the rest, which begins with no numeric character

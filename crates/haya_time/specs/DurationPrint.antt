@@ -3,7 +3,8 @@ use Rattle.std.specs.Prelude.{ℕ, ◌-◌, nat_lt, Bool, ◌||◌, ◌&&◌, �
 use Rattle.std.specs.Fmt.{decimal}
 use Rattle.haya_time.specs.declared.duration.Duration.{Duration}
 use Rattle.haya_time.specs.declared.duration.range.DurationRange.{DurationRange}
-use Rattle.haya_time.specs.DurationText.{colon, comma, hyphen}
+use Rattle.haya_text.specs.Characters.{comma, hyphen}
+use Rattle.haya_time.specs.DurationText.{colon}
 
 -- the number in at least so many digits
 abbrev pub padded_number : ℕ → ℕ → List ℕ

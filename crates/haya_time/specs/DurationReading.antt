@@ -7,7 +7,8 @@ use Rattle.haya_time.specs.declared.duration.range.DurationRange.{DurationRange}
 use Rattle.haya_time.specs.declared.duration.reading.DurationError.{DurationError}
 use Rattle.haya_time.specs.declared.duration.reading.DurationError.TheVariants.{Malformed, TooLarge}
 use Rattle.haya_time.specs.DurationValues.{clock, from_hours, from_minutes, milliseconds, is_too_large}
-use Rattle.haya_time.specs.DurationText.{colon, comma, hyphen, is_numeric, begins_with, is_empty, run, behind_run, number, strip_sign, colons}
+use Rattle.haya_text.specs.Characters.{comma, hyphen, is_numeric, begins_with, run, behind_run}
+use Rattle.haya_time.specs.DurationText.{colon, is_empty, number, strip_sign, colons}
 
 -- what is read at the front of a text, and what follows it
 abbrev pub ReadAt : Type 0 → Type 0

@@ -6,7 +6,8 @@ ghost use Rattle.std.specs.Char.{is_whitespace};
 ghost use Rattle.std.specs.Result.{result_ok};
 ghost use Rattle.std.specs.Str.{chars, encode_utf8_all, skip_leading_whitespace};
 ghost use Rattle.haya_text.specs.Cursor.{text_len};
-ghost use Rattle.haya_numbers.specs.Characters.{is_numeric, is_delimiter, run, past_run, starts};
+ghost use Rattle.haya_text.specs.Characters.{is_numeric, run, behind_run, begins_with};
+ghost use Rattle.haya_numbers.specs.Characters.{is_delimiter};
 ghost use Rattle.haya_numbers.specs.Classes.{has, appended, own_zeros};
 ghost use Rattle.haya_numbers.specs.Numeric.{value_view, affix_view, numeric_view, is_memory};
 ghost use Rattle.haya_numbers.specs.NumericReading.{magnitude, number_front, delimiter_read};
@@ -17,9 +18,10 @@ ghost use Rattle.haya_numbers.specs.NumericReading.{IsFaultOf};
 ghost use Rattle.haya_numbers.specs.declared.numeric.NumericError.TheVariants.{NoNumber};
 ghost use Rattle.haya_numbers.specs.declared.numeric.NumericError.TheVariants.{OutOfMemory};
 
-use crate::characters::{is_delimiter, is_numeric};
+use crate::characters::is_delimiter;
 use crate::{Numeric, NumericDelimiter, NumericError, NumericValue};
 use haya_text::ReadText;
+use haya_text::chars::is_numeric;
 use haya_text::cursor::Cursor;
 use std::alloc::Global;
 
@@ -53,7 +55,7 @@ impl Class {
 // Takes the characters of that class that stand next.
 fn eat_run<'a>(cursor: &mut Cursor<'a>, class: Class) -> &'a str
     ensures run { chars result.now ≡ run (has class) cursor.old.rest }
-    ensures rest { cursor.new.rest ≡ past_run (has class) cursor.old.rest }
+    ensures rest { cursor.new.rest ≡ behind_run (has class) cursor.old.rest }
     ensures same_text { text_len cursor.new ≡ text_len cursor.old }
 {
     cursor.eat_while(
@@ -83,7 +85,7 @@ fn own_zeros(zeros: &str, cursor: &Cursor) -> usize
 
 // Whether a numeric character is next.
 fn is_next_numeric(cursor: &Cursor) -> bool
-    ensures { result ≡ starts is_numeric cursor.now.rest }
+    ensures { result ≡ begins_with is_numeric cursor.now.rest }
 {
     match cursor.peek() {
         Some(next) => is_numeric(next),
@@ -106,7 +108,7 @@ fn split_prefix(text: &str) -> (&str, &str)
 fn eat_magnitude(cursor: &mut Cursor) -> Result<i32, NumericError>
     ensures value { IfOk result (λ n. (m : ℕ) × (n ≡ pos m)
         × (magnitude (run is_numeric cursor.old.rest) ≡ Some m)) }
-    ensures rest { cursor.new.rest ≡ past_run is_numeric cursor.old.rest }
+    ensures rest { cursor.new.rest ≡ behind_run is_numeric cursor.old.rest }
     ensures fault { IfErr result (λ e. (e ≡ NoNumber)
         × (magnitude (run is_numeric cursor.old.rest) ≡ None)) }
 {
@@ -131,7 +133,7 @@ fn eat_number(cursor: &mut Cursor) -> Result<i32, NumericError>
 // Takes the delimiter characters that stand next. They name a delimiter, or none.
 fn eat_delimiter(cursor: &mut Cursor) -> Option<NumericDelimiter>
     ensures named { result ≡ result_ok (delimiter_read (run is_delimiter cursor.old.rest)) }
-    ensures rest { cursor.new.rest ≡ past_run is_delimiter cursor.old.rest }
+    ensures rest { cursor.new.rest ≡ behind_run is_delimiter cursor.old.rest }
 {
     let characters = eat_run(cursor, Class::Delimiter);
     characters.parse::<NumericDelimiter>().ok()

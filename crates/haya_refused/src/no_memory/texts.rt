@@ -5,6 +5,7 @@ use crate::marks::Row;
 use crate::shown::{Wanted, is_shown};
 use crate::texts::{string, text_of};
 use haya_text::ChunkKind::{Math, Normal, Verbatim};
+use haya_text::chars::{is_numeric, split_char};
 use haya_text::cursor::Cursor;
 use haya_text::*;
 use std::alloc::{AllocError, Global};
@@ -142,4 +143,20 @@ fn cursors(rt: HostRuntime) {
     let calls = "Cursor::new Cursor::fork Cursor::eat_whitespace Cursor::eat_while Cursor::eat_if \
         Cursor::peek Cursor::eat Cursor::place Cursor::rest";
     takes_none(&rt, calls, " abcde", goes);
+}
+
+// The characters of a text that are numeric, and then one that isn't.
+fn begins_numeric(text: &str) -> bool {
+    let Some((digit, rest)) = split_char(text) else {
+        return false;
+    };
+    match split_char(rest) {
+        Some((letter, "")) => is_numeric(digit) && !is_numeric(letter),
+        _ => false,
+    }
+}
+
+#[test]
+fn characters(rt: HostRuntime) {
+    takes_none(&rt, "is_numeric split_char", "½b", begins_numeric);
 }

@@ -1,7 +1,7 @@
 //! Dates and their years as texts.
 ghost use Rattle.std.specs.Prelude.{◌≡◌, ◌+◌, IfOk, Some, unsigned_abs, false, true};
 ghost use Rattle.std.specs.Int.{is_negative};
-ghost use Rattle.haya_time.specs.DateText.{hyphen};
+ghost use Rattle.haya_text.specs.Characters.{hyphen};
 ghost use Rattle.haya_time.specs.DatePrinted.{HasText, mark_text, date_text, year_digits};
 ghost use Rattle.haya_time.specs.DatePrinted.{part_text, designated_year, year_text, era_before};
 

@@ -10,12 +10,13 @@ ghost use Rattle.haya_time.specs.DateReading.{part_at, date_at_end, with_day, wi
 ghost use Rattle.haya_time.specs.DateReading.{date_read};
 ghost use Rattle.haya_time.specs.DateSteps.{number_view, number_with_rest, opening_view};
 ghost use Rattle.haya_time.specs.DateSteps.{with_digit, with_digits};
-ghost use Rattle.haya_time.specs.DateText.{run, behind_run};
+ghost use Rattle.haya_text.specs.Characters.{is_numeric, run, behind_run};
 
 use super::calendar::{has_day, is_month, is_on_calendar};
 use super::number::Number;
-use super::text::{behind, is_blank, is_numeric, skip_whitespace, split_char};
+use super::text::{behind, is_blank, skip_whitespace};
 use super::{Date, DateError};
+use haya_text::chars::{is_numeric, split_char};
 use std::str::FromStr;
 
 // What a date's text begins with: perhaps a tilde, then a year of two or four
@@ -206,10 +207,10 @@ fn take_number(text: &str) -> Option<(Number, &str)>
 // The number that the run of numeric characters at the front spells, and what follows it.
 #[tactic(auto, using(crate::proofs::DateNumbers::spelled))]
 fn take_run(text: &str) -> (Option<Number>, &str)
-    ensures none { IfNone result.0 (number_of (run (chars text.now)) ≡ None) }
+    ensures none { IfNone result.0 (number_of (run is_numeric (chars text.now)) ≡ None) }
     ensures some { IfSome result.0
-        (λ n. number_of (run (chars text.now)) ≡ Some (n.count, n.value)) }
-    ensures rest { chars result.1.now ≡ behind_run (chars text.now) }
+        (λ n. number_of (run is_numeric (chars text.now)) ≡ Some (n.count, n.value)) }
+    ensures rest { chars result.1.now ≡ behind_run is_numeric (chars text.now) }
 {
     let mut rest = text;
     let mut number = Some(Number { count: 0, value: 0 });

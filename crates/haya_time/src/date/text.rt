@@ -1,34 +1,11 @@
 //! Characters at the front of a text.
-ghost use Rattle.std.specs.Prelude.{◌≡◌, ◌∷◌, [], IfNone, IfSome, Some, None};
+ghost use Rattle.std.specs.Prelude.{◌≡◌, IfNone, IfSome, Some, None};
 ghost use Rattle.std.specs.Char.{is_whitespace};
 ghost use Rattle.std.specs.List.{list_all};
 ghost use Rattle.std.specs.Str.{chars, skip_leading_whitespace};
 ghost use Rattle.haya_time.specs.DateReading.{behind};
-ghost use Rattle.haya_time.specs.DateText.{is_numeric};
 
-use unicode::properties::GeneralCategory;
-
-// Whether the general category of a character is one for numbers.
-pub(super) fn is_numeric(c: char) -> bool
-    ensures { result ≡ is_numeric c }
-{
-    matches!(
-        GeneralCategory::for_char(c),
-        GeneralCategory::DecimalNumber
-            | GeneralCategory::LetterNumber
-            | GeneralCategory::OtherNumber
-    )
-}
-
-// The first character of a text, and the text behind it.
-pub(super) fn split_char(text: &str) -> Option<(char, &str)>
-    ensures end { IfNone result (chars text.now ≡ []) }
-    ensures first { IfSome result (λ p. chars text.now ≡ p.0 ∷ chars p.1.now) }
-{
-    let mut characters = text.chars();
-    let first = characters.next()?;
-    Some((first, characters.as_str()))
-}
+use haya_text::chars::split_char;
 
 // The text behind its white space.
 pub(super) fn skip_whitespace(text: &str) -> &str

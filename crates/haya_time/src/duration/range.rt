@@ -2,7 +2,7 @@
 ghost use Rattle.std.specs.Prelude.{◌≡◌, unwrap_or};
 ghost use Rattle.std.specs.Str.{chars};
 ghost use Rattle.haya_time.specs.DurationBack.{range_reads_back};
-ghost use Rattle.haya_time.specs.DurationText.{hyphen};
+ghost use Rattle.haya_text.specs.Characters.{hyphen};
 ghost use Rattle.haya_time.specs.DurationReading.{sign_tail, longer_range, range_read};
 
 use super::front::Front;

@@ -4,35 +4,12 @@ ghost use Rattle.std.specs.Prelude.{IfNone, IfSome, MatchOption, length};
 ghost use Rattle.std.specs.Char.{encode_utf8, is_ascii_digit};
 ghost use Rattle.std.specs.List.{list_all};
 ghost use Rattle.std.specs.Str.{chars, skip_leading_whitespace};
-ghost use Rattle.haya_time.specs.DurationText.{behind_run, colons, hyphen, is_empty, is_numeric};
-ghost use Rattle.haya_time.specs.DurationText.{run, begins_with};
+ghost use Rattle.haya_text.specs.Characters.{behind_run, hyphen, is_numeric};
+ghost use Rattle.haya_time.specs.DurationText.{colons, is_empty};
+ghost use Rattle.haya_text.specs.Characters.{run, begins_with};
 ghost use Rattle.haya_time.specs.DurationReading.{sign_tail, digits_at};
 
-use unicode::properties::GeneralCategory;
-
-// Whether a character is of the general category Nd, Nl or No.
-fn is_numeric(c: char) -> bool
-    ensures { result ≡ is_numeric c }
-{
-    matches!(
-        GeneralCategory::for_char(c),
-        GeneralCategory::DecimalNumber
-            | GeneralCategory::LetterNumber
-            | GeneralCategory::OtherNumber
-    )
-}
-
-// The first character of a text, and the text behind it.
-fn split_char(text: &str) -> Option<(char, &str)>
-    ensures end { IfNone result (chars text.now ≡ []) }
-    ensures first { IfSome result (λ p. chars text.now ≡ p.0 ∷ chars p.1.now) }
-    ensures bytes { IfSome result (λ p. text.now ≡ encode_utf8 p.0 ++ p.1.now) }
-    ensures shorter { IfSome result (λ p. length p.1.now + 1 ≤ length text.now) }
-{
-    let mut characters = text.chars();
-    let first = characters.next()?;
-    Some((first, characters.as_str()))
-}
+use haya_text::chars::{is_numeric, split_char};
 
 // Whether a text has no characters.
 pub(crate) fn is_at_end(text: &str) -> bool

@@ -3,7 +3,7 @@ use denote.Text.{Utf8}
 use denote.Shadow.{shadow}
 use Rattle.std.specs.Char.{is_ascii_digit}
 use Rattle.std.specs.Str.{chars}
-use Rattle.haya_time.specs.DurationText.{behind_run}
+use Rattle.haya_text.specs.Characters.{behind_run}
 use Rattle.haya_time.proofs.duration.scan.skip_digits.Given as goal
 
 abbrev pub invariant-digits : goal.invariant-digits

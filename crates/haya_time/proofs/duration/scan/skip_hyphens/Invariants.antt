@@ -2,7 +2,7 @@ use Rattle.std.proofs.Common.{◌≡◌, length, ◌==◌}
 use denote.Text.{Utf8}
 use denote.Shadow.{shadow}
 use Rattle.std.specs.Str.{chars}
-use Rattle.haya_time.specs.DurationText.{behind_run, hyphen}
+use Rattle.haya_text.specs.Characters.{behind_run, hyphen}
 use Rattle.haya_time.proofs.duration.scan.skip_hyphens.Given as goal
 
 abbrev pub invariant-hyphens : goal.invariant-hyphens

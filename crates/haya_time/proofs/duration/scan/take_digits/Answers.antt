@@ -2,7 +2,8 @@ use Rattle.std.proofs.Common.{sym, ◌∙◌, ap}
 use Rattle.std.specs.Char.{is_ascii_digit}
 use Rattle.std.specs.List.{list_all}
 use Rattle.std.specs.Str.{chars}
-use Rattle.haya_time.proofs.DurationScans.{cut_boundary, take-cut, drop-cut, digits-none, digits-some, digits-run}
+use Rattle.haya_time.proofs.DurationScans.{cut_boundary, take-cut, drop-cut, digits-none, digits-some}
+use Rattle.haya_text.proofs.Numerics.{all-run}
 use Rattle.haya_time.proofs.duration.scan.take_digits.Goals as goal
 
 pub split_at-requires : goal.split_at-requires
@@ -20,4 +21,4 @@ returns-clause-cases c =
 
 pub returns-clause-digits : goal.returns-clause-digits
 returns-clause-digits c =
-    ap (list_all is_ascii_digit) (c.split_at.ensures.front ∙ take-cut _ _ _ c.skip_digits-rest.ensures.cut) ∙ digits-run (chars c.skip_space-text.result.now)
+    ap (list_all is_ascii_digit) (c.split_at.ensures.front ∙ take-cut _ _ _ c.skip_digits-rest.ensures.cut) ∙ all-run is_ascii_digit (chars c.skip_space-text.result.now)

@@ -1,7 +1,7 @@
 use Rattle.std.proofs.Common.{rules, ◌≡◌, ◌++◌, arith, ap, length, length-append}
 use Rattle.std.proofs.lemmas.Str.{chars_past_char, length-encode, len_utf8_bounds}
 use Rattle.std.specs.Char.{encode_utf8}
-use Rattle.haya_time.proofs.duration.scan.split_char.Goals as goal
+use Rattle.haya_text.proofs.chars.split_char.Goals as goal
 
 pub returns-clause-first : goal.returns-clause-first
 returns-clause-first c =
