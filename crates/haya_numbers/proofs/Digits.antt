@@ -8,7 +8,6 @@ use Rattle.std.specs.Str.Parse.{AllDigits, IsNumeral}
 use Rattle.std.proofs.lemmas.Bool.Decides.{nat_tests}
 use Rattle.std.proofs.lemmas.Fmt.{decimal_is_IsNumeral, first_decimal, decimal_digit}
 use Rattle.std.proofs.lemmas.Str.Parse.{digit_from_value}
-use Rattle.ucd_category.proofs.Computing.{ucd_category}
 use Rattle.haya_text.proofs.Numerics.{digits_numeric}
 use Rattle.haya_text.specs.Characters.{hyphen, is_numeric, run, behind_run, begins_with}
 use Rattle.haya_numbers.specs.Characters.{zero_digit, is_delimiter}

@@ -1,8 +1,6 @@
 -- The longest runs at the front of a text.
 use Rattle.std.proofs.Common.{◌≡◌, ℕ, Bool, true, false, List, [], ◌∷◌, ◌++◌, refl, ap, sym, All, cond}
 use Rattle.std.specs.Prelude.{IfSome, slice_get}
-use Rattle.std.specs.Char.{is_whitespace}
-use Rattle.std.specs.Str.{skip_leading_whitespace}
 use Rattle.std.proofs.lemmas.List.Elements.{All-head, All-tail}
 use Rattle.haya_text.specs.Characters.{run, behind_run}
 
