@@ -1,9 +1,8 @@
 -- The computed readings find the parts of the grammar, and no others.
-use Rattle.std.proofs.Common.{◌≡◌, ℕ, ◌+◌, ◌^◌, ◌<◌, ◌≤◌, ◌==◌, inl, inr, nat_lt, nat_le, Bool, true, false, cond, List, [], ◌∷◌, ◌++◌, length, zero, suc, refl, ap, sym, ◌∙◌, arith, Option, Some, None}
+use Rattle.std.proofs.Common.{◌≡◌, ℕ, ◌^◌, ◌<◌, ◌≤◌, ◌==◌, inl, inr, nat_lt, nat_le, Bool, true, false, List, [], ◌∷◌, ◌++◌, length, refl, ap, sym, ◌∙◌, arith, Option, Some, None}
 use Rattle.std.proofs.lemmas.Bool.Decides.{nat_tests}
 use Rattle.std.specs.Prelude.{option_map, option_and_then}
-use Rattle.ucd_category.proofs.Computing.{ucd_category}
-use Rattle.std.specs.Char.{is_ascii_digit, is_whitespace, digit_value}
+use Rattle.std.specs.Char.{is_ascii_digit, is_whitespace}
 use Rattle.std.specs.List.{list_all}
 use Rattle.std.specs.Str.{skip_leading_whitespace}
 use Rattle.haya_time.specs.declared.duration.Duration.{Duration}
@@ -12,7 +11,7 @@ use Rattle.haya_time.specs.DurationText.{colon, number, strip_sign, colons}
 use Rattle.haya_time.specs.DurationReading.{digits_at, sign_tail, with_colon, long_number, two_number, long_at, two_at, two_colon_at, minutes_at, hours_at, days_at, clock_at}
 use Rattle.haya_time.specs.DurationValues.{clock, from_hours, from_minutes}
 use Rattle.haya_time.specs.DurationGrammar.{IsNumber, IsSign, IsValue, AreMinutes, AreHours, AreDays, IsClock}
-use Rattle.haya_time.proofs.DurationNumbers.{both, digit_is, digit_small}
+use Rattle.haya_time.proofs.DurationNumbers.{both}
 use Rattle.haya_text.proofs.Numerics.{digit-numeric, run-behind_run, all-run, run-of, behind_run-of, skip-behind_run}
 
 -- optional values

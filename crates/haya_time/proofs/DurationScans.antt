@@ -5,7 +5,6 @@ use Rattle.std.proofs.lemmas.Str.{encodes-chars, encodes-append, encodes-IsAscii
 use Rattle.std.proofs.Math.Seq.{take-append_seam, drop-append_seam}
 use Rattle.std.specs.Char.{is_ascii_digit}
 use Rattle.std.specs.Str.{IsUtf8, IsAscii, IsCharBoundary, chars, encode_utf8_all, skip_leading_whitespace, trim_start}
-use Rattle.std.specs.List.{list_all}
 use Rattle.haya_text.specs.Characters.{is_numeric, begins_with, run, behind_run}
 use Rattle.haya_text.proofs.Numerics.{run-behind_run}
 use Rattle.haya_time.specs.DurationReading.{digits_at}
