@@ -14,8 +14,8 @@ use std::alloc::Global;
 use std::collections::HashMap;
 use std::marker::Model;
 
-/// A selector compiled once. It may be asked of entries of any lifetime, so that an entry can be let
-/// go before the next is there. By value it is the selector.
+/// A selector compiled once. It may be asked of entries of any lifetime, so that an entry can be
+/// let go before the next is there. By value it is the selector.
 ///
 /// ```
 /// let selector = CompiledSelector::new(alloc, &Selector::parse(alloc, "a:book")?)?;
@@ -88,8 +88,8 @@ impl CompiledSelector {
     }
 }
 
-/// A selector compiled once, to be asked of entries that all stay: what was allocated for one is used
-/// for the next. By value it is the selector.
+/// A selector compiled once, to be asked of entries that all stay: what was allocated for one is
+/// used for the next. By value it is the selector.
 ///
 /// ```
 /// let mut selector = PreparedSelector::new(alloc, &Selector::parse(alloc, "a:book")?)?;

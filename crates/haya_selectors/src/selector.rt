@@ -71,8 +71,8 @@ impl Selector {
         expr(alloc, &mut tokens)
     }
 
-    /// The byte of a text at which it has its first fault, or `None` where it is a selector: where an
-    /// unknown type begins, and of any other fault where what is wanted is missing, behind white
+    /// The byte of a text at which it has its first fault, or `None` where it is a selector: where
+    /// an unknown type begins, and of any other fault where what is wanted is missing, behind white
     /// space. That may be the end of the text. The only error is `OutOfMemory`.
     ///
     /// ```

@@ -385,8 +385,8 @@ fn asked_of_one_after_another(rt: HostRuntime) {
     drop(web);
 }
 
-// What a selector answers at a new article over these parents, which is let go at once: `no`, or the
-// key that `a` is bound to.
+// What a selector answers at a new article over these parents, which is let go at once: `no`, or
+// the key that `a` is bound to.
 fn key_at_new(
     rt: &(impl Abort + AllocGlobal),
     compiled: &CompiledSelector,
