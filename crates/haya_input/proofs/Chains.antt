@@ -1,17 +1,15 @@
--- Entries as rows: what stays when an entry is put behind the parents of another, or in the
--- library.
-use Rattle.std.proofs.Common.{◌≡◌, ℕ, suc, ◌+◌, List, [], ◌∷◌, ◌++◌, Result, Ok, Err, length, map, get_or, set, zero, refl, sym, ap, ◌∙◌, append_assoc, append-nil, length-append, subst, arith}
-use Rattle.std.specs.Prelude.{IsOkAnd}
-use Rattle.std.proofs.lemmas.List.{map-append}
-use Rattle.std.proofs.lemmas.List.Sums.{fold-append}
-use Rattle.hayagriva.specs.Library.{push}
+-- Entries as rows: what stays when an entry is put behind the parents of another, or is closed.
+use Rattle.std.proofs.Common.{◌≡◌, ◌≤◌, ℕ, suc, ◌+◌, List, [], ◌∷◌, ◌++◌, Result, Ok, Err, length, map, get_or, set, zero, refl, sym, ap, ◌∙◌, append_assoc, append-nil, length-append, subst, slice_get, min, arith}
+use Rattle.std.specs.Prelude.{IsOkAnd, OnOk, option_to_list}
+use Rattle.std.proofs.lemmas.List.{length-map, map-append}
 use Rattle.hayagriva.specs.Lookups.{add_parent}
 use Rattle.hayagriva.specs.Tree.{Tree, Trees, Fields, node, trees, tree_list, no_trees, one_more, fields, view, with_fields}
 use Rattle.hayagriva.specs.declared.Entry.{Entry}
 use Rattle.haya_lines.specs.Line.{Row, leaf, row_at}
 use Rattle.haya_lines.specs.declared.fault.LineFault.{LineFault}
 use Rattle.haya_input.specs.Input.{rows_of, rows_of_all}
-use Rattle.haya_input.specs.Chain.{HoldsRows, OpensEntry, Stands, chain_rows}
+use Rattle.haya_input.specs.Chain.{LastOf, OpensEntry, Stands, TakesRow, chain_rows, left_rows, opened_rows}
+use Rattle.haya_input.specs.Opened.{Opened}
 
 pub rows_of_all-append : (d : ℕ) (ts us : List Tree) → rows_of_all d (trees (ts ++ us)) ≡ rows_of_all d (trees ts) ++ rows_of_all d (trees us)
 rows_of_all-append d [] us = refl
@@ -39,14 +37,6 @@ chain_rows-leaf d (t ∷ ts) f =
     ap (λ l. rows_of d t ++ l) (chain_rows-leaf (d + 1) ts f) ∙ sym (append_assoc (rows_of d t) (chain_rows (d + 1) ts) _)
     ∙ ap (λ n. (rows_of d t ++ chain_rows (d + 1) ts) ++ record { depth = n; fields = f } ∷ []) deeper
 
--- the entry of depth 0, once it has all its parents
-push-entry : (rows : List Row) (library : List Tree) (t : Tree) → HoldsRows rows library (t ∷ []) → HoldsRows rows (push t library) []
-push-entry rows library t h = record {
-  entries = h.entries ++ t ∷ [];
-  of_entries = ap (push t) h.of_entries ∙ sym (fold-append (λ done t. push t done) [] h.entries (t ∷ []));
-  same = h.same ∙ sym (rows_of_all-append 0 h.entries (t ∷ [])) ∙ sym (append-nil (rows_of_all 0 (trees (h.entries ++ t ∷ []))));
-}
-
 with_last : {X : Type 0} (v : X → Tree) (d : ℕ) (items : List X) (n : ℕ) (x next : X) (parent : Tree) → n + 1 ≡ length items
     → v next ≡ add_parent parent (v (get_or items n x)) → chain_rows d (map v items ++ parent ∷ []) ≡ chain_rows d (map v (set items n next))
 with_last v d [] n x next parent last is = absurd (omega arith)
@@ -55,54 +45,58 @@ with_last v d (y ∷ z ∷ more) zero x next parent last is = absurd (omega arit
 with_last v d (y ∷ []) (suc n) x next parent last is = absurd (omega arith)
 with_last v d (y ∷ z ∷ more) (suc n) x next parent last is = ap (λ l. rows_of d (v y) ++ l) (with_last v (d + 1) (z ∷ more) n x next parent (omega arith) is)
 
--- where the chain is seen by v: its last entry gets a parent
-pub put-parent : {X : Type 0} (v : X → Tree) (items : List X) (n : ℕ) (x next : X) (parent : Tree) → n + 1 ≡ length items
-    → v next ≡ add_parent parent (v (get_or items n x)) → (rows : List Row) (library : List Tree)
-    → HoldsRows rows library (map v items ++ parent ∷ []) → HoldsRows rows library (map v (set items n next))
-put-parent v items n x next parent last is rows library h = record {
-  entries = h.entries;
-  of_entries = h.of_entries;
-  same = h.same ∙ ap (λ l. rows_of_all 0 (trees h.entries) ++ l) (with_last v 0 items n x next parent last is);
+-- where the chain is seen by v: its last entry is put behind the parents of the one before it
+pub last-put : {X : Type 0} (v : X → Tree) (items all : List X) (n : ℕ) (x next parent : X) → n + 1 ≡ length items → map v all ≡ map v (items ++ parent ∷ [])
+    → v next ≡ add_parent (v parent) (v (get_or items n x)) → chain_rows 0 (map v (set items n next)) ≡ chain_rows 0 (map v all)
+last-put v items all n x next parent last same is =
+    sym (with_last v 0 items n x next (v parent) last is) ∙ ap (chain_rows 0) (sym (map-append v items (parent ∷ [])) ∙ sym same)
+
+-- or closed, where there is none
+pub one-closed : {X : Type 0} (v : X → Tree) (items all : List X) → length items ≡ 1 → map v all ≡ map v items → left_rows (map v items) [] ≡ chain_rows 0 (map v all)
+one-closed v [] all one same = absurd (omega arith)
+one-closed v (y ∷ []) all one same = append-nil (rows_of 0 (v y) ++ []) ∙ ap (chain_rows 0) (sym same)
+one-closed v (y ∷ z ∷ more) all one same = absurd (omega arith)
+
+-- one entry or none
+pub listed_first : {X : Type 0} (xs : List X) → length xs ≤ 1 → option_to_list (slice_get xs 0) ≡ xs
+listed_first [] few = refl
+listed_first (x ∷ []) few = refl
+listed_first (x ∷ y ∷ xs) few = absurd (omega arith)
+
+-- what a reader holds, where at most one entry is closed
+pub rows-listed : {X : Type 0} (v : X → Tree) (closed chain : List X) → length closed ≤ 1
+    → opened_rows (record { chain = map v chain; closed = slice_get (map v closed) 0 }) ≡ left_rows (map v closed) (map v chain)
+rows-listed v closed chain few = ap (λ l. left_rows l (map v chain)) (listed_first (map v closed) (omega (arith, few, length-map closed v)))
+
+nothing_left : {X : Type 0} (v : X → Tree) (chain : List X) → length chain ≡ 0 → map v chain ≡ []
+nothing_left v [] none = refl
+nothing_left v (x ∷ chain) none = absurd (omega arith)
+
+-- where nothing is left open
+pub all_closed : {A E X : Type 0} (r : Result A E) (v : X → Tree) (old : List Tree) (n : ℕ) (closed chain : List X) → OnOk r (length chain ≡ min 0 n)
+    → OnOk r (left_rows (map v closed) (map v chain) ≡ chain_rows 0 old) → length closed ≤ 1 → OnOk r (LastOf old (record { chain = map v chain; closed = slice_get (map v closed) 0 }))
+all_closed (Ok a) v old n closed chain none kept few = record {
+  none = nothing_left v chain (omega (arith, none));
+  rows = rows-listed v closed chain few ∙ kept;
 }
+all_closed (Err e) v old n closed chain none kept few = tt
 
--- and a chain of none is followed by an entry of depth 0
-pub put-push : {X : Type 0} (v : X → Tree) (items : List X) (t : Tree) → length items ≡ 0 → (rows : List Row) (library : List Tree)
-    → HoldsRows rows library (map v items ++ t ∷ []) → HoldsRows rows (push t library) (map v items)
-put-push v [] t none rows library h = push-entry rows library t h
-put-push v (x ∷ xs) t none rows library h = absurd (omega arith)
-
--- and an entry without parents follows, deeper than the others
-push-leaf : (chain : List Tree) (row : Row) → length chain ≡ row.depth → (rows : List Row) (library : List Tree)
-    → HoldsRows rows library chain → HoldsRows (rows ++ row ∷ []) library (chain ++ leaf row.fields ∷ [])
-push-leaf chain row deep rows library h =
-    let depth : 0 + length chain ≡ row.depth = omega arith in
-    record {
-      entries = h.entries;
-      of_entries = h.of_entries;
-      same =
-          ap (λ l. l ++ row ∷ []) h.same ∙ append_assoc (rows_of_all 0 (trees h.entries)) (chain_rows 0 chain) (row ∷ [])
-          ∙ ap (λ n. rows_of_all 0 (trees h.entries) ++ (chain_rows 0 chain ++ record { depth = n; fields = row.fields } ∷ [])) (sym depth)
-          ∙ ap (λ l. rows_of_all 0 (trees h.entries) ++ l) (sym (chain_rows-leaf 0 chain row.fields));
-    }
-
--- what holds of the row that was read, whose entry was opened behind the others of a chain
-module _ (read : Result Row LineFault) (d : ℕ) (of_fields : Result Fields LineFault) (closed next : List Tree)
-    (head : read ≡ row_at d of_fields) (deep : length closed ≡ d) (opens : OpensEntry of_fields closed next) where
-  pub taken-depth : (n : ℕ) → n ≡ length next → IsOkAnd read (λ row. n ≡ row.depth + 1)
-  taken-depth n same = rw head (by of_fields opens)
-    where
-      by : (r : Result Fields LineFault) → OpensEntry r closed next → IsOkAnd (row_at d r) (λ row. n ≡ row.depth + 1)
-      by (Ok f) h = omega (arith, same, ap length h, length-append closed (leaf f ∷ []))
-      by (Err e) h = absurd h
-
-  pub taken-rows : (library chain next_library : List Tree) → ((rows : List Row) → HoldsRows rows library chain → HoldsRows rows next_library closed)
-      → IsOkAnd read (λ row. (rows : List Row) → HoldsRows rows library chain → HoldsRows (rows ++ row ∷ []) next_library next)
-  taken-rows library chain next_library kept = rw head (by of_fields opens)
-    where
-      by : (r : Result Fields LineFault) → OpensEntry r closed next
-          → IsOkAnd (row_at d r) (λ row. (rows : List Row) → HoldsRows rows library chain → HoldsRows (rows ++ row ∷ []) next_library next)
-      by (Ok f) h = λ rows held. rw h (push-leaf closed (record { depth = d; fields = f }) deep rows next_library (kept rows held))
-      by (Err e) h = absurd h
+-- what holds of the row that was read, whose entry was opened behind those that are left of a chain
+pub row_taken : (read : Result Row LineFault) (d : ℕ) (of_fields : Result Fields LineFault) (chain left closed : List Tree) (now : Opened)
+    → read ≡ row_at d of_fields → length left ≡ d → OpensEntry of_fields left now.chain → left_rows closed left ≡ chain_rows 0 chain → option_to_list now.closed ≡ closed
+    → IsOkAnd read (λ row. TakesRow row chain now)
+row_taken read d of_fields chain left closed now head deep opens kept same = rw head (by of_fields opens)
+  where
+    by : (r : Result Fields LineFault) → OpensEntry r left now.chain → IsOkAnd (row_at d r) (λ row. TakesRow row chain now)
+    by (Ok f) h =
+        let depth : 0 + length left ≡ d = omega (arith, deep) in
+        record {
+          depth = omega (arith, deep, ap length h, length-append left (leaf f ∷ []));
+          rows =
+              rw (same, h) (ap (λ l. rows_of_all 0 (trees closed) ++ l) (chain_rows-leaf 0 left f) ∙ sym (append_assoc (rows_of_all 0 (trees closed)) (chain_rows 0 left) _)
+              ∙ ap (λ l. l ++ record { depth = 0 + length left; fields = f } ∷ []) kept ∙ ap (λ n. chain_rows 0 chain ++ record { depth = n; fields = f } ∷ []) depth);
+        }
+    by (Err e) h = absurd h
 
 -- ---- an entry behind others
 set_behind : {X : Type 0} (olds : List X) (e next : X) → set (olds ++ e ∷ []) (length olds) next ≡ olds ++ next ∷ []

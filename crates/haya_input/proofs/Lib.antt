@@ -1,4 +1,5 @@
 mod Chains
+pub mod Takings
 mod Progress
 mod InputRows
 pub mod OneLibrary

@@ -1,7 +1,7 @@
 -- A library's text in parts: its lines, and the rows that they read as.
 use Rattle.std.proofs.Common.{◌≡◌, ℕ, suc, ◌+◌, ◌≤◌, Bool, true, false, cond, ◌&&◌, List, [], ◌∷◌, ◌++◌, length, map, Option, None, Some, Result, Ok, Err, refl, sym, ap, ◌∙◌, append-nil, arith}
 use Rattle.std.specs.Char.{is_ascii_digit}
-use Rattle.std.specs.Prelude.{◌==◌, All, filter, nat_le, nat_lt, ok_or}
+use Rattle.std.specs.Prelude.{◌==◌, All, nat_le, nat_lt, ok_or}
 use Rattle.std.specs.List.{AllPairs, AllZip, concat, flat_map, list_all, onto_first, slice_split}
 use Rattle.std.specs.Str.Lines.{lines, lines_of_parts, strip_carriage_return}
 use Rattle.std.specs.Str.Parse.{digits_value}

@@ -1,3 +1,4 @@
+pub mod Opened
 pub mod Chain
 pub mod Input
 pub mod Parts

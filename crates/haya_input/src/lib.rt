@@ -4,6 +4,8 @@
 mod fault;
 pub mod laws;
 mod library_text;
+mod open_entries;
 
 pub use fault::InputFault;
 pub use library_text::read_library;
+pub use open_entries::OpenEntries;

@@ -6,12 +6,14 @@ use Rattle.haya_selectors.specs.declared.selector.SelectorError.{SelectorError}
 use Rattle.haya_selectors.specs.Cut.{cut}
 use Rattle.haya_selectors.specs.Descent.{Outcome, Read, Failed, read, read_names, enough, selector_or_fault, selector_read}
 use Rattle.haya_selectors.specs.Fault.{Fault, fault}
-use Rattle.haya_selectors.specs.Grammar.{ExprForm}
+use Rattle.haya_selectors.specs.Grammar.{ExprForm, Fails}
+use Rattle.haya_selectors.specs.Parser.{Gives}
 use Rattle.haya_selectors.specs.Reading.{IsRead, TextFails, TextGives}
 use Rattle.haya_selectors.specs.ReadingLaws.{Has, HasNames, OneListOutcome, OneOutcome, TextHas, OneReading, IsComputed}
 use Rattle.haya_selectors.specs.Syntax.{Syntax, syntax}
 use Rattle.haya_selectors.specs.Token.{Token, AreTokens}
 use Rattle.haya_selectors.proofs.OneCut.{cut_is, only_cut}
+use Rattle.haya_selectors.proofs.Parsing.{of_part}
 use Rattle.haya_selectors.proofs.Runs.{names_fail, names_run, same_outcome}
 use Rattle.haya_selectors.proofs.Totals.{has_names_read, has_read}
 
@@ -49,6 +51,11 @@ one_reading text = (selector_read text, reading_has text, only_reading text)
 
 pub is_computed : IsComputed
 is_computed text r = (λ e. subst (TextHas text) e (reading_has text), λ h. sym (only_reading text r h))
+
+-- what the parser gives for the tokens of a text
+pub text_gives : (text : List ℕ) (ts rest : List Token) (r : Result Selector SelectorError) → AreTokens ts text → Gives ExprForm ts rest r → TextGives text r
+text_gives text ts rest (Ok s) a h = record { tokens = ts; rest = rest; cut = a; reads = h }
+text_gives text ts rest (Err e) a h = let whole : (f : Fault) → Fails ExprForm ts f → TextFails text f = λ f k. record { tokens = ts; cut = a; fails = k } in of_part whole _ h
 
 -- what a reader answers for a text is its computed reading
 pub is_read : (text : List ℕ) (result : Result Selector SelectorError) → TextGives text result → IsRead text result

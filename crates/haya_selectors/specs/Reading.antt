@@ -1,5 +1,6 @@
 -- What the characters of a text read as.
-use Rattle.std.specs.Prelude.{◌≡◌, ℕ, List, IfErr, IfOk, IfSome, Result, Ok, Err}
+use Rattle.std.specs.Prelude.{◌≡◌, ℕ, List, IfErr, IfOk, IfSome, IsErr, IsOk, Option, Some, None, Result, Ok, Err}
+use Rattle.std.specs.Str.{IsCharBoundary, chars}
 use Rattle.haya_selectors.specs.declared.selector.Selector.{Selector}
 use Rattle.haya_selectors.specs.declared.selector.SelectorError.{SelectorError}
 use Rattle.haya_selectors.specs.Descent.{selector_read}
@@ -38,3 +39,12 @@ IfReads text P = IfOk (selector_read text) P
 
 abbrev pub IfFails : List ℕ → (Fault → Type 0) → Type 0
 IfFails text P = IfErr (selector_read text) P
+
+-- a place is told exactly where the characters are no selector
+abbrev pub IsFaultTold : List ℕ → Option ℕ → Type 0
+IsFaultTold text None = IsOk (selector_read text)
+IsFaultTold text (Some place) = IsErr (selector_read text)
+
+-- and it is one of the text, where a character begins or the text ends
+abbrev pub IsFaultPlace : List ℕ → Option ℕ → Type 0
+IsFaultPlace text told = IsFaultTold (chars text) told × IfSome told (IsCharBoundary text)

@@ -24,5 +24,5 @@ mod tries;
 mod try_clone;
 
 pub use bound_select::BoundSelect;
-pub use prepared::PreparedSelector;
+pub use prepared::{CompiledSelector, PreparedSelector};
 pub use selector::{Selector, SelectorError};

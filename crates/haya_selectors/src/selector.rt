@@ -1,8 +1,9 @@
 //! Selectors, and the texts that they are read from.
-ghost use Rattle.std.specs.Prelude.{◌≡◌};
+ghost use Rattle.std.specs.Prelude.{◌≡◌, ℕ, IfOk, List};
 ghost use Rattle.std.specs.Str.{chars};
 ghost use Rattle.haya_selectors.specs.declared.selector.SelectorError.TheVariants as fault;
-ghost use Rattle.haya_selectors.specs.Reading.{IsRead, TextGives};
+ghost use Rattle.haya_selectors.specs.Reading.{IsFaultPlace, IsFaultTold, IsRead};
+ghost use Rattle.haya_selectors.specs.Reading.{TextGives};
 
 use crate::parse::expr;
 use crate::token::Tokens;
@@ -68,6 +69,48 @@ impl Selector {
     {
         let mut tokens = Tokens::new(text);
         expr(alloc, &mut tokens)
+    }
+
+    /// The byte of a text at which it has its first fault, or `None` where it is a selector: where
+    /// an unknown type begins, and of any other fault where what is wanted is missing, behind white
+    /// space. That may be the end of the text. The only error is `OutOfMemory`.
+    ///
+    /// ```
+    /// Selector::fault_place(alloc, "article > periodcal[issn]")? // Some(10)
+    /// ```
+    pub fn fault_place(alloc: Global, text: &str) -> Result<Option<usize>, OutOfMemory>
+        ensures { IfOk result (IsFaultPlace text.now) }
+    {
+        let mut tokens = Tokens::new(text);
+        let read = expr(alloc, &mut tokens);
+        let Some(place) = place_of_fault(read, &mut tokens)? else {
+            return Ok(None);
+        };
+        let is_boundary = text.is_char_boundary(place);
+        Ok(Some(if is_boundary { place } else { text.len() }))
+    }
+}
+
+// Where what was read of a text has a fault, if it has one, before these tokens that are left.
+fn place_of_fault(
+    read: Result<Selector, SelectorError>,
+    tokens: &mut Tokens<'_>,
+) -> Result<Option<usize>, OutOfMemory>
+    ensures { (text : List ℕ) → IsRead text read → IfOk result (IsFaultTold text) }
+{
+    match read {
+        Ok(_) => Ok(None),
+        // An identifier is as long in lower case, and was taken.
+        Err(SelectorError::UnknownEntryType(name)) => {
+            Ok(Some(tokens.place().saturating_sub(name.len())))
+        }
+        Err(
+            SelectorError::MissingValue
+            | SelectorError::MalformedAttribute
+            | SelectorError::MissingComma
+            | SelectorError::UnbalancedParens,
+        ) => Ok(Some(tokens.place_of_next())),
+        Err(SelectorError::OutOfMemory) => Err(OutOfMemory),
     }
 }
 

@@ -70,6 +70,17 @@ impl<'a> Tokens<'a> {
         }
     }
 
+    // How many bytes of the text stand before what is left.
+    pub(crate) fn place(&self) -> usize {
+        self.cursor.place()
+    }
+
+    // How many bytes of the text stand before the next token, or before the end.
+    pub(crate) fn place_of_next(&mut self) -> usize {
+        self.cursor.eat_whitespace();
+        self.cursor.place()
+    }
+
     // Takes the next token. `None` at the end.
     fn next(&mut self) -> Option<Lexeme<'a>>
         ensures { MatchOption result ((self.old ≡ []) × (self.new ≡ []))

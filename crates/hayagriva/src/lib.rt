@@ -9,7 +9,9 @@ mod query;
 pub use hash_keys::HashKeys;
 pub use haya_assignment::{Assignment, least_assignment};
 pub use haya_entry::{Entry, Steps};
-pub use haya_selectors::{BoundSelect, PreparedSelector, Selector, SelectorError};
+pub use haya_selectors::{
+    BoundSelect, CompiledSelector, PreparedSelector, Selector, SelectorError,
+};
 pub use haya_text::{OutOfMemory, ReadFault, ReadText};
 pub use library::{Entries, IntoEntries, Keys, Library};
 pub use query::{Hit, Query};

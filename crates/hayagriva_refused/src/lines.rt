@@ -3,12 +3,15 @@ use crate::calls::{asks, takes_none};
 use crate::marks::Memory::Taken;
 use crate::marks::Row;
 use crate::works::{below, english, entry};
-use haya_input::{InputFault, read_library};
+use haya_input::{InputFault, OpenEntries, read_library};
 use haya_printing::{LinesError, entry_lines};
 use haya_text::OutOfMemory;
 use hayagriva::types::EntryType::{Blog, Book};
 use hayagriva::{Entry, HashKeys};
 use std::alloc::Global;
+
+const OPEN_ENTRIES: &str = "OpenEntries::new OpenEntries::take_line OpenEntries::end \
+    OpenEntries::closed OpenEntries::take_closed";
 
 const LINES: &str = "0\ta\tbook\tlanguage=en\n1\tb\tblog\n";
 
@@ -32,6 +35,26 @@ fn is_read(alloc: Global, work: &Entry) -> Result<bool, OutOfMemory> {
     }
 }
 
+fn take_lines(alloc: Global, entries: &mut OpenEntries) -> Result<(), InputFault> {
+    for line in LINES.lines() {
+        entries.take_line(alloc, line, 1)?;
+    }
+    entries.end()
+}
+
+// Whether the lines, taken one after another, close the entry.
+fn are_taken(alloc: Global, work: &Entry) -> Result<bool, OutOfMemory> {
+    let mut entries = OpenEntries::new(alloc);
+    let answer = take_lines(alloc, &mut entries);
+    let is_closed = entries.closed() == Some(work);
+    drop(entries.take_closed());
+    drop(entries);
+    match answer {
+        Ok(()) => Ok(is_closed),
+        Err(_) => Err(OutOfMemory),
+    }
+}
+
 fn are_from(_given: ()) -> bool {
     InputFault::from(OutOfMemory) == InputFault::OutOfMemory
         && matches!(LinesError::from(OutOfMemory), LinesError::OutOfMemory)
@@ -43,6 +66,7 @@ fn lines(rt: HostRuntime) {
     let about = "a work with a parent";
     asks(&rt, Row("entry_lines", about, Taken), &work, are_lines);
     asks(&rt, Row("read_library", about, Taken), &work, is_read);
+    asks(&rt, Row(OPEN_ENTRIES, about, Taken), &work, are_taken);
     takes_none(&rt, "InputFault::from LinesError::from", (), are_from);
     drop(work);
 }

@@ -6,7 +6,9 @@ use crate::shown::is_debugged;
 use crate::works::{below, dated, entry, selector, string, with_url};
 use haya_text::OutOfMemory;
 use hayagriva::types::EntryType::{Article, Blog, Book, Periodical, Web};
-use hayagriva::{BoundSelect, Entry, PreparedSelector, Selector, SelectorError, Steps};
+use hayagriva::{
+    BoundSelect, CompiledSelector, Entry, PreparedSelector, Selector, SelectorError, Steps,
+};
 use std::alloc::Global;
 use std::io::Print;
 use std::process::Abort;
@@ -39,6 +41,20 @@ pub(crate) fn is_copied(alloc: Global, original: &Selector) -> Result<bool, OutO
     let is_equal = copy == *original;
     drop(copy);
     Ok(is_equal)
+}
+
+// Whether the first fault of a text has this place.
+fn is_fault_place(
+    alloc: Global,
+    (text, wanted): (&str, Option<usize>),
+) -> Result<bool, OutOfMemory> {
+    Ok(Selector::fault_place(alloc, text)? == wanted)
+}
+
+// Whether a selector is compiled.
+fn is_compiled(alloc: Global, selector: &Selector) -> Result<bool, OutOfMemory> {
+    drop(CompiledSelector::new(alloc, selector)?);
+    Ok(true)
 }
 
 /// Whether a selector is prepared.
@@ -146,6 +162,23 @@ fn fault_is_copied(alloc: Global, fault: &SelectorError) -> Result<bool, OutOfMe
 
 fn is_from(_given: ()) -> bool {
     SelectorError::from(OutOfMemory) == SelectorError::OutOfMemory
+}
+
+// Texts, the place of the first fault, if any, and whether finding it takes memory.
+const PLACES: &[(&str, Option<usize>, Memory)] = &[
+    ("*", None, NotTaken),
+    ("!(book) web", None, Taken),
+    ("", Some(0), NotTaken),
+    ("A", Some(0), Taken),
+    ("(a:book | web) > (blog", Some(22), Taken),
+];
+
+#[test]
+fn places(rt: HostRuntime) {
+    for (text, place, memory) in PLACES {
+        let row = Row("Selector::fault_place", *text, *memory);
+        asks(&rt, row, (*text, *place), is_fault_place);
+    }
 }
 
 #[test]
@@ -332,6 +365,30 @@ fn apply_prepared<'e>(
     }
 }
 
+// Applies a compiled selector.
+fn is_applied(
+    _alloc: Global,
+    (compiled, entry, holds): (&CompiledSelector, &Entry, bool),
+) -> Result<bool, OutOfMemory> {
+    let found = compiled.apply(entry, &mut Steps::new())?;
+    let is_wanted = found.is_some() == holds;
+    drop(found);
+    Ok(is_wanted)
+}
+
+fn compile_each(rt: &(impl Abort + AllocGlobal + Print), entry: &Entry) {
+    for (text, holds, _, memory) in APPLIED {
+        let selector = selector(rt, *text);
+        let row = Row("CompiledSelector::new", *text, Taken);
+        asks(rt, row, &selector, is_compiled);
+        let compiled = CompiledSelector::new(rt.alloc(), &selector).expect(rt, "memory");
+        drop(selector);
+        let row = Row("CompiledSelector::apply", *text, *memory);
+        asks(rt, row, (&compiled, entry, *holds), is_applied);
+        drop(compiled);
+    }
+}
+
 fn prepare_each(rt: &(impl Abort + AllocGlobal + Print), entry: &Entry) {
     for (text, holds, _, memory) in APPLIED {
         let selector = selector(rt, *text);
@@ -353,6 +410,13 @@ fn prepare_each(rt: &(impl Abort + AllocGlobal + Print), entry: &Entry) {
         drop(prepared);
         drop(selector);
     }
+}
+
+#[test]
+fn compiled(rt: HostRuntime) {
+    let entry = article(&rt);
+    compile_each(&rt, &entry);
+    drop(entry);
 }
 
 #[test]

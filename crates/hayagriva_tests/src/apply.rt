@@ -1,7 +1,7 @@
 //! Selectors at worked entries. What loops holds an entry by reference alone.
 use crate::works::{below, dated, entry, selector, string, with_url};
 use hayagriva::types::EntryType;
-use hayagriva::{BoundSelect, Entry, PreparedSelector, Selector, Steps};
+use hayagriva::{BoundSelect, CompiledSelector, Entry, PreparedSelector, Selector, Steps};
 use std::process::Abort;
 
 #[derive(Clone, Copy)]
@@ -383,4 +383,46 @@ fn asked_of_one_after_another(rt: HostRuntime) {
     assert_eq!(rt; keys.as_str(), "noweb-");
     drop(article);
     drop(web);
+}
+
+// What a selector answers at a new article over these parents, which is let go at once: `no`, or
+// the key that `a` is bound to.
+fn key_at_new(
+    rt: &(impl Abort + AllocGlobal),
+    compiled: &CompiledSelector,
+    parents: &[Work],
+    steps: &mut Steps,
+) -> String {
+    let entry = article(rt, parents);
+    let key = match compiled.apply(&entry, steps).expect(rt, "memory") {
+        Some(map) => string(rt, map.get("a").map_or("-", |bound| bound.key())),
+        None => string(rt, "no"),
+    };
+    drop(entry);
+    key
+}
+
+// Each row: the parents of an entry, what is bound at it, and the calls.
+const LET_GO: &[(&[Work], &str, u64)] = &[
+    (&[Work::Blog], "blog", 6),
+    (&[], "no", 6),
+    (&[Work::Book, Work::Blog], "blog", 7),
+    (&[Work::Book], "no", 8),
+];
+
+// An entry that a compiled selector was asked of may be let go before the next one is made.
+#[test]
+fn asked_of_entries_that_are_let_go(rt: HostRuntime) {
+    let read = selector(&rt, "article > (a:blog | web)");
+    let compiled = CompiledSelector::new(rt.alloc(), &read).expect(&rt, "memory");
+    drop(read);
+    for (parents, wanted, calls) in LET_GO {
+        let mut steps = Steps::new();
+        let key = key_at_new(&rt, &compiled, *parents, &mut steps);
+        assert!(rt;
+            key.as_str() == *wanted && steps.seen() == *calls,
+            "{wanted}"
+        );
+    }
+    drop(compiled);
 }

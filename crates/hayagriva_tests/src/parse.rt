@@ -40,6 +40,42 @@ fn faults(rt: HostRuntime) {
     }
 }
 
+// Texts, and where each has its first fault, if any.
+const PLACES: &[(&str, Option<usize>)] = &[
+    ("", Some(0)),
+    ("   ", Some(3)),
+    ("book", None),
+    ("book >", Some(6)),
+    ("book > ", Some(7)),
+    ("book >  | web", Some(8)),
+    ("()", Some(1)),
+    (":book", Some(0)),
+    ("é", Some(0)),
+    ("book > é", Some(7)),
+    ("book\u{a0}>\u{a0}|", Some(9)),
+    ("book[", Some(5)),
+    ("book[ *]", Some(6)),
+    ("book[doi,,url]", Some(9)),
+    ("book[date", Some(9)),
+    ("book[date  url]", Some(11)),
+    ("(book | blog", Some(12)),
+    ("(book  web)", Some(7)),
+    ("A", Some(0)),
+    ("article > periodcal[issn]", Some(10)),
+    ("a:b:book", Some(2)),
+    ("books & (Books)", Some(0)),
+    ("book & (web | Books)", Some(14)),
+    ("book web[", None),
+];
+
+#[test]
+fn places_of_faults(rt: HostRuntime) {
+    for (text, wanted) in PLACES {
+        let place = Selector::fault_place(rt.alloc(), *text).expect(&rt, "memory");
+        assert!(rt; place == *wanted, "{text}");
+    }
+}
+
 // Selectors with bracket lists, and what follows a selector.
 const LISTS_AND_RESTS: &[Row] = &[
     ("book[date,]", "Ok(Attr(Entry(Book), [\"date\"]))"),

@@ -3,7 +3,7 @@ use Rattle.haya_entry.specs.Tree.{view}
 use Rattle.haya_selectors.specs.Nodes.{slot_names}
 use Rattle.haya_selectors.specs.Root.{compiled_syntax}
 use Rattle.haya_selectors.proofs.Lasts.{found_is_bound, last_is_bound}
-use Rattle.haya_selectors.proofs.prepared.PreparedSelector.apply.Goals as goal
+use Rattle.haya_selectors.proofs.prepared.CompiledSelector.apply_over.Goals as goal
 
 pub returns-clause-answer : goal.returns-clause-answer
 returns-clause-answer c =

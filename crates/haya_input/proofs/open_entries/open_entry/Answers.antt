@@ -5,7 +5,7 @@ use Rattle.hayagriva.specs.Tree.{fields, new_entry}
 use Rattle.haya_lines.specs.Line.{fields_read}
 use Rattle.haya_lines.specs.LineReading.{IsFaultOf}
 use Rattle.haya_input.proofs.Chains.{opened, opened-view}
-use Rattle.haya_input.proofs.library_text.open.Goals as goal
+use Rattle.haya_input.proofs.open_entries.open_entry.Goals as goal
 
 pub returns-in-Some-clause-opened : goal.returns-in-Some-clause-opened
 returns-in-Some-clause-opened c =
