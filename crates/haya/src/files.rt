@@ -1,56 +1,65 @@
 //! Reads the input: files, and standard input.
-ghost use Rattle.std.specs.Prelude.{◌≡◌, IfOk, OnOk, string_bytes};
+ghost use Rattle.std.specs.Prelude.{◌≡◌, ◌<◌, ℕ, List, Option, Ok, Some, length};
+ghost use Rattle.std.specs.Prelude.{IfOk, OnOk, string_bytes};
 ghost use Rattle.std.specs.Io.KnownBytes.{Consumes, IsAtEnd};
 
 use crate::fault::StartFault;
+use crate::progress::Progress;
 use haya_command::Input;
 use std::alloc::Global;
 use std::fs::File;
 use std::io;
-use std::io::Read;
+use std::io::{Read, Write};
 use std::rt::Files;
 
 /// The texts of these files in their order, of standard input for `-` or where there is no file.
-pub fn read_files<F: Files, R: Read>(
+pub fn read_files<F: Files, R: Read, E: Write>(
     alloc: Global,
     rt: &F,
     files: &[String],
     stdin: &mut R,
+    progress: &mut Progress<'_, E>,
 ) -> Result<Vec<Input>, StartFault> {
     let mut inputs = Vec::new(alloc);
     if files.is_empty() {
-        inputs.push(read_input(alloc, "standard input", stdin)?)?;
+        inputs.push(read_input(alloc, "standard input", stdin, progress)?)?;
     }
     for file in files {
-        inputs.push(read_file(alloc, rt, file.as_str(), stdin)?)?;
+        inputs.push(read_file(alloc, rt, file.as_str(), stdin, progress)?)?;
     }
     Ok(inputs)
 }
 
 // The text of a file, or of standard input.
-fn read_file<F: Files, R: Read>(
+fn read_file<F: Files, R: Read, E: Write>(
     alloc: Global,
     rt: &F,
     name: &str,
     stdin: &mut R,
+    progress: &mut Progress<'_, E>,
 ) -> Result<Input, StartFault> {
     if name == "-" {
-        return read_input(alloc, "standard input", stdin);
+        return read_input(alloc, "standard input", stdin, progress);
     }
     match File::open(rt, name) {
-        Ok(mut file) => read_input(alloc, name, &mut file),
+        Ok(mut file) => read_input(alloc, name, &mut file, progress),
         Err(error) => Err(cannot_read(alloc, name, error)),
     }
 }
 
 // All that a reader has left, which is called so.
-fn read_input<R: Read>(alloc: Global, name: &str, reader: &mut R) -> Result<Input, StartFault>
+fn read_input<R: Read, E: Write>(
+    alloc: Global,
+    name: &str,
+    reader: &mut R,
+    progress: &mut Progress<'_, E>,
+) -> Result<Input, StartFault>
     ensures text { IfOk result (λ input.
         Consumes (R.remaining reader.old) (R.remaining reader.new) (string_bytes input.text)) }
     ensures end { OnOk result (IsAtEnd (R.remaining reader.new)) }
     ensures name { IfOk result (λ input. string_bytes input.name ≡ name.now) }
 {
-    let bytes = match read_all(alloc, reader) {
+    let bytes = match read_all(alloc, reader, progress) {
         Ok(bytes) => bytes,
         Err(error) => return Err(cannot_read(alloc, name, error)),
     };
@@ -62,7 +71,11 @@ fn read_input<R: Read>(alloc: Global, name: &str, reader: &mut R) -> Result<Inpu
 }
 
 // All bytes that a reader has left. A read that is only interrupted is tried again.
-fn read_all<R: Read>(alloc: Global, reader: &mut R) -> io::Result<Vec<u8>>
+fn read_all<R: Read, E: Write>(
+    alloc: Global,
+    reader: &mut R,
+    progress: &mut Progress<'_, E>,
+) -> io::Result<Vec<u8>>
     ensures bytes { IfOk result (λ bytes.
         Consumes (R.remaining reader.old) (R.remaining reader.new) bytes.items) }
     ensures end { OnOk result (IsAtEnd (R.remaining reader.new)) }
@@ -70,17 +83,40 @@ fn read_all<R: Read>(alloc: Global, reader: &mut R) -> io::Result<Vec<u8>>
     let mut bytes = Vec::new(alloc);
     let mut chunk = [0u8; 65536];
     'reads: for _ in 0..u64::MAX {
-        match reader.read(&mut chunk) {
-            Ok(0) => return Ok(bytes),
-            Ok(n) => bytes.extend_from_slice(&chunk[..n])?,
-            Err(error) => {
-                if error.kind() != io::ErrorKind::Interrupted {
-                    return Err(error);
-                }
-            }
+        match read_more(reader, &mut chunk, &mut bytes)? {
+            Some(0) => return Ok(bytes),
+            Some(taken) => progress.add(taken),
+            None => {}
         }
     }
     Err(io::Error::from(io::ErrorKind::Other))
+}
+
+// Reads once, and puts what it takes behind the bytes: how many there are, 0 at the end, and none
+// where the read was interrupted.
+fn read_more<R: Read>(
+    reader: &mut R,
+    chunk: &mut [u8],
+    bytes: &mut Vec<u8>,
+) -> io::Result<Option<usize>>
+    requires { 0 < length chunk.old }
+    ensures bytes { OnOk result ((start : Option (List ℕ)) →
+        Consumes start (R.remaining reader.old) bytes.old.items →
+        Consumes start (R.remaining reader.new) bytes.new.items) }
+    ensures end { result ≡ Ok (Some 0) → IsAtEnd (R.remaining reader.new) }
+{
+    match reader.read(chunk) {
+        Ok(taken) => {
+            bytes.extend_from_slice(&chunk[..taken])?;
+            Ok(Some(taken))
+        }
+        Err(error) => {
+            if error.kind() == io::ErrorKind::Interrupted {
+                return Ok(None);
+            }
+            Err(error)
+        }
+    }
 }
 
 // What is said where the file that is called so can't be read.

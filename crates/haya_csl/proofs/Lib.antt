@@ -1,2 +1,4 @@
+mod ListTurns
 mod Lists
+mod MadeLemmas
 mod Pieces

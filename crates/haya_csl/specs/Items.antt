@@ -36,9 +36,12 @@ pub record DraftView : Type 0 where
   pub series : List Tree
   pub original : List Tree
 
+-- an entry without parents
+abbrev pub draft_of : Tree → DraftView
+draft_of own = record { own = own; host = []; venue = []; series = []; original = [] }
+
 abbrev pub new_draft : List ℕ → EntryType → DraftView
-new_draft key kind =
-    record { own = new_entry key kind; host = []; venue = []; series = []; original = [] }
+new_draft key kind = draft_of (new_entry key kind)
 
 -- an entry in these parents, and they alone where there is none
 abbrev pub below : List Tree → List Tree → List Tree

@@ -37,6 +37,11 @@ abbrev pub said_of : Json → Result Bool Refusal
 said_of (json.boolean b) = Ok b
 said_of j = and_then (bytes_of j) (λ text. Ok (bytes_eq text (codes "1")))
 
+-- a text, but where it is empty
+abbrev pub unless_empty : List ℕ → Option (List ℕ)
+unless_empty [] = None
+unless_empty (b ∷ bs) = Some (b ∷ bs)
+
 -- what makes of a value and a name the name after its part is set
 abbrev pub PartSetter : Type 0
 PartSetter = Json → NameView → Result NameView Refusal
@@ -45,17 +50,18 @@ abbrev pub part_setter : {V : Type 0} → (Json → Result V Refusal) → (V →
     → PartSetter
 part_setter read put j n = and_then (read j) (λ v. Ok (put v n))
 
+-- the text of a part, none where it is empty
+abbrev pub part_of : Json → Result (Option (List ℕ)) Refusal
+part_of j = and_then (plain_of j) (λ text. Ok (unless_empty text))
+
 abbrev pub part_table : List (List ℕ × PartSetter)
 part_table =
     (codes "family", part_setter plain_of (λ v n. record n { family = Some v }))
-    ∷ (codes "given", part_setter plain_of (λ v n. record n { given = Some v }))
-    ∷ (codes "suffix", part_setter plain_of (λ v n. record n { suffix = Some v }))
-    ∷ (
-      codes "non-dropping-particle",
-      part_setter plain_of (λ v n. record n { non_dropping = Some v }),
-    )
-    ∷ (codes "dropping-particle", part_setter plain_of (λ v n. record n { dropping = Some v }))
-    ∷ (codes "literal", part_setter plain_of (λ v n. record n { literal = Some v }))
+    ∷ (codes "given", part_setter part_of (λ v n. record n { given = v }))
+    ∷ (codes "suffix", part_setter part_of (λ v n. record n { suffix = v }))
+    ∷ (codes "non-dropping-particle", part_setter part_of (λ v n. record n { non_dropping = v }))
+    ∷ (codes "dropping-particle", part_setter part_of (λ v n. record n { dropping = v }))
+    ∷ (codes "literal", part_setter part_of (λ v n. record n { literal = v }))
     ∷ (codes "comma-suffix", part_setter said_of (λ v n. record n { comma_suffix = v }))
     ∷ []
 

@@ -6,7 +6,7 @@ ghost use Rattle.haya_people.specs.Roles.{role_view};
 ghost use Rattle.haya_json.specs.Refusal.{IsFaultOf};
 ghost use Rattle.haya_csl.specs.Draft.{draft_view};
 ghost use Rattle.haya_csl.specs.Fields.{role_setter, setter_of};
-ghost use Rattle.haya_csl.specs.Items.{below, entry_made, first_set, made, new_draft};
+ghost use Rattle.haya_csl.specs.Items.{below, draft_of, entry_made, first_set, made};
 ghost use Rattle.haya_csl.specs.Items.{parent_set, set_at};
 ghost use Rattle.haya_json.specs.declared.fault.Fault.TheVariants as fault;
 ghost use Rattle.haya_csl.specs.declared.members.Level.TheVariants.{Own};
@@ -31,18 +31,17 @@ pub(crate) struct Draft {
 }
 
 impl Draft {
-    /// An entry of this type, without parents.
-    pub(crate) fn new(alloc: Global, key: &str, kind: EntryType) -> Result<Draft, OutOfMemory>
-        ensures { IfOk result (λ d. draft_view d ≡ new_draft key.now kind) }
+    /// Of this entry, without parents.
+    pub(crate) fn new(alloc: Global, own: Entry) -> Draft
+        ensures { draft_view result ≡ draft_of (view own) }
     {
-        let own = Entry::new(alloc, key, kind)?;
-        Ok(Draft {
+        Draft {
             own,
             host: Vec::new(alloc),
             venue: Vec::new(alloc),
             series: Vec::new(alloc),
             original: Vec::new(alloc),
-        })
+        }
     }
 
     /// Sets a field of one of the entries to what the value reads as.
@@ -94,8 +93,9 @@ impl Draft {
     }
 
     /// The item's own entry, with the parents that were made.
-    pub(crate) fn into_entry(self) -> Result<Entry, OutOfMemory>
-        ensures { IfOk result (λ entry. view entry ≡ entry_made (draft_view self)) }
+    pub(crate) fn into_entry(self) -> Result<Entry, Fault>
+        ensures made { IfOk result (λ entry. view entry ≡ entry_made (draft_view self)) }
+        ensures memory { IfErr result (λ e. e ≡ fault.OutOfMemory) }
     {
         let mut own = self.own;
         let parents = below(self.host, below(self.venue, self.series));
@@ -104,10 +104,10 @@ impl Draft {
                 own.set_parents(parents);
                 Ok(own)
             }
-            Err(error) => {
+            Err(_) => {
                 // By a call: at an exit, the drop of an entry is proved field by field.
                 drop(own);
-                Err(error)
+                Err(Fault::OutOfMemory)
             }
         }
     }

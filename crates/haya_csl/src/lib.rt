@@ -10,6 +10,7 @@ mod libraries;
 mod markup;
 mod members;
 mod names;
-mod passed_over;
+mod turns;
+mod unique;
 
 pub use libraries::read_csl_json;

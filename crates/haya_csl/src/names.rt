@@ -5,9 +5,9 @@ ghost use Rattle.haya_people.specs.Person.{person_view};
 ghost use Rattle.haya_json.specs.Parts.{items_of};
 ghost use Rattle.haya_json.specs.Refusal.{IsFaultOf};
 ghost use Rattle.haya_csl.specs.NameParts.{parts_view};
-ghost use Rattle.haya_csl.specs.Names.{name_by, name_of, names_of, no_parts, particles, parts_set};
-ghost use Rattle.haya_csl.specs.Names.{person_of_parts, said_of, whole_name, with_named_part};
-ghost use Rattle.haya_csl.specs.Names.{with_part};
+ghost use Rattle.haya_csl.specs.Names.{name_by, name_of, names_of, no_parts, part_of, particles};
+ghost use Rattle.haya_csl.specs.Names.{parts_set, person_of_parts, said_of, whole_name};
+ghost use Rattle.haya_csl.specs.Names.{with_named_part, with_part};
 
 use haya_json::Why;
 use haya_json::reading::{Fault, FromJson, read_text};
@@ -118,16 +118,29 @@ impl NameParts {
     {
         match name {
             "family" => self.family = Some(FromJson::from_json(alloc, json)?),
-            "given" => self.given = Some(FromJson::from_json(alloc, json)?),
-            "suffix" => self.suffix = Some(FromJson::from_json(alloc, json)?),
-            "non-dropping-particle" => self.non_dropping = Some(FromJson::from_json(alloc, json)?),
-            "dropping-particle" => self.dropping = Some(FromJson::from_json(alloc, json)?),
-            "literal" => self.literal = Some(FromJson::from_json(alloc, json)?),
+            "given" => self.given = read_part(alloc, json)?,
+            "suffix" => self.suffix = read_part(alloc, json)?,
+            "non-dropping-particle" => self.non_dropping = read_part(alloc, json)?,
+            "dropping-particle" => self.dropping = read_part(alloc, json)?,
+            "literal" => self.literal = read_part(alloc, json)?,
             "comma-suffix" => self.comma_suffix = read_said(alloc, json)?,
             _ => {}
         }
         Ok(())
     }
+}
+
+// The text of a part, none where it is empty.
+fn read_part(alloc: Global, json: &Value<'_>) -> Result<Option<String>, Fault>
+    ensures ok { IfOk result (λ part.
+        part_of (value_view json.now) ≡ Ok (option_map string_bytes part)) }
+    ensures fault { IfErr result (IsFaultOf (part_of (value_view json.now))) }
+{
+    let text = read_text(alloc, json)?;
+    if text.is_empty() {
+        return Ok(None);
+    }
+    Ok(Some(String::from_str(alloc, text)?))
 }
 
 /// Whether the value is true, or a 1 in its place.

@@ -48,7 +48,7 @@ const ROWS: &[(&str, &str, &[(&str, &str)], u8, &str, &str)] = &[
     ("*", "s", &[CSL], 2, "", CSL_FAULT),
     ("*", "f", &[JSON], 2, "", "haya: c.json: line 1: shape\n"),
     ("*", "", &[LINES, BAD], 2, "", BAD_FAULT),
-    ("(", "", &[LINES], 2, "", "haya: (\n      missing value\n"),
+    ("(", "", &[LINES], 2, "", "haya: (\n       ^ missing value\n"),
     ("book > Artcle", "", &[LINES], 2, "", TYPE_FAULT),
     ("artcle:* > artcle", "", &[LINES], 2, "", LATER_TYPE_FAULT),
     ("*[isnb, doi]", "", &[LINES], 1, "", NAME_NOTE),

@@ -26,6 +26,15 @@ const ROWS: &[(&str, &str)] = &[
     ),
     // the members of the objects inside values aren't counted
     (r#"[{"id": "a", "author": [{"family": "F", "x": 1}]}]"#, ""),
+    // nor are those of an object with many members
+    (
+        concat!(
+            r#"[{"id":"a","x":{"b":1,"c":1,"d":1,"e":1,"f":1,"g":1,"h":1,"i":1,"j":1,"k":1,"#,
+            r#""l":1,"m":1,"n":1,"o":1,"p":1,"q":1,"r":1,"s":1,"t":1,"u":1,"v":1,"w":1,"#,
+            r#""x":1,"y":1,"z":1,"A":1,"B":1,"C":1,"D":1,"E":1,"F":1,"G":1,"H":1,"I":1}}]"#,
+        ),
+        "x 1, ",
+    ),
     // case tells names apart
     (r#"[{"id": "a", "doi": "1", "DOI": "1"}]"#, "doi 1, "),
 ];

@@ -10,6 +10,29 @@ const REFUSED: &[(&str, &str)] = &[
         r#"[{"id":"a","x":{"y":1,"y":2}}]"#,
         "an object has a member twice",
     ),
+    // of all faults, that the text is no JSON is told first, and then that a member comes twice
+    (r#"[{},{"id":"a","type":"x"},{]"#, "no JSON"),
+    (r#"[{"id":"a","id":"b"},{]"#, "no JSON"),
+    (r#"[{"id":"a"}"#, "no JSON"),
+    (r#"[{"id":"a"}]]"#, "no JSON"),
+    (r#"[{}][]"#, "no JSON"),
+    (
+        r#"[{},{"id":"a"},{"id":"b","id":"b"}]"#,
+        "an object has a member twice",
+    ),
+    (
+        r#"[{"id":"a","author":[{"family":"F","family":"G"}]},{}]"#,
+        "an object has a member twice",
+    ),
+    (
+        r#"["a",[{"x":1},{"y":[{"z":1,"\u007a":2}]}]]"#,
+        "an object has a member twice",
+    ),
+    (
+        r#"{"items":[{}],"x":1,"x":1}"#,
+        "an object has a member twice",
+    ),
+    (WIDE, "an object has a member twice"),
     ("1", ": expected a list"),
     ("null", ": expected a list"),
     ("{}", ": expected a list"),
@@ -147,6 +170,13 @@ const REFUSED: &[(&str, &str)] = &[
         "/0/original-date/date-parts: not read as a date",
     ),
 ];
+
+// An item with many members, of which one comes twice.
+const WIDE: &str = concat!(
+    r#"[{"id":"a","b":1,"c":1,"d":1,"e":1,"f":1,"g":1,"h":1,"i":1,"j":1,"k":1,"l":1,"m":1,"#,
+    r#""n":1,"o":1,"p":1,"q":1,"r":1,"s":1,"t":1,"u":1,"v":1,"w":1,"x":1,"y":1,"z":1,"#,
+    r#""A":1,"B":1,"C":1,"D":1,"E":1,"F":1,"G":1,"H":1,"I":1,"J":1,"K":1,"b":1}]"#,
+);
 
 // Whether the text is refused with this message.
 fn refuses(rt: &(impl Abort + AllocGlobal), text: &str, wanted: &str) -> bool {

@@ -75,6 +75,19 @@ const VALUES: &[(&str, &str)] = &[
         r#""author":"ACM""#,
     ),
     (r#""author":[{"family":1984}]"#, r#""author":"1984""#),
+    // as Mendeley writes them: parts that are empty are none
+    (
+        r#""author":[{"dropping-particle":"","family":"N","given":"G","non-dropping-particle":"","parse-names":false,"suffix":""}]"#,
+        r#""author":"N, G""#,
+    ),
+    (
+        r#""author":[{"dropping-particle":"","family":"WHO","given":"","non-dropping-particle":"","parse-names":false,"suffix":""}]"#,
+        r#""author":"WHO""#,
+    ),
+    (
+        r#""author":[{"family":"Berg","dropping-particle":"","non-dropping-particle":"van","literal":""}]"#,
+        r#""author":"van Berg""#,
+    ),
     // dates
     (
         r#""issued":{"date-parts":[[2014,5,1]]}"#,
@@ -155,6 +168,12 @@ const VALUES: &[(&str, &str)] = &[
         r#""date":2015"#,
     ),
     (r#""issued":{"literal":"last spring"}"#, ""),
+    // as Zotero writes them
+    (
+        r#""issued":{"date-parts":[["2009",3]],"season":"1"}"#,
+        r#""date":{"year":2009,"month":2,"season":1}"#,
+    ),
+    (r#""issued":{"date-parts":[[]],"literal":"n.d."}"#, ""),
     (r#""issued":{}"#, ""),
 ];
 

@@ -1,0 +1,235 @@
+//! The items of a list, read one after another, and the library that is made of them.
+ghost use Rattle.std.specs.Prelude.{◌≡◌, ◌↔◌, ℕ, List, Err, None, Some, option_map, IfErr, IfOk};
+ghost use Rattle.std.specs.Prelude.{IfSome, IsTrue, MatchOption, OnOk};
+ghost use Rattle.json.specs.Json.{Items, no_items};
+ghost use Rattle.json.specs.Strict.{HasUniqueKeys};
+ghost use Rattle.json.specs.Value.{value_view};
+ghost use Rattle.haya_csl.specs.Ignored.{IsPassedOver};
+ghost use Rattle.haya_csl.specs.Libraries.{DescribesAsCsl, IsCslErrorOf};
+ghost use Rattle.haya_csl.specs.Made.{IsErrorWith, IsMadeBut, IsMadeOf, IsMadeOfText};
+ghost use Rattle.haya_csl.specs.Made.{MakesEntry, TakesItem};
+ghost use Rattle.haya_csl.specs.Turns.{first_and_left, items_left};
+
+use crate::items::read_item;
+use crate::unique::has_unique_names;
+use haya_json::reading::Fault;
+use haya_json::{Ignored, ReadError};
+use haya_text::OutOfMemory;
+use hayagriva::Library;
+use json::{Error, Reader, Scratch, Token, Value};
+use std::alloc::Global;
+
+// How deep an item of a list may nest: one less than the text.
+const ITEM_DEPTH: usize = 127;
+
+// What is made of items that are read one after another, of which none is kept.
+#[derive(Drop)]
+struct Made {
+    // The entries of the items before the first that is refused.
+    library: Library,
+    // What is passed over of these items.
+    ignored: Ignored,
+    // Why the first that is refused is refused.
+    fault: Option<Fault>,
+    // Whether no object in any item has a member twice.
+    are_unique: bool,
+}
+
+/// The library of a text that begins as a list, and what is passed over of it. None is of any other
+/// text.
+pub(crate) fn read_list_text(
+    alloc: Global,
+    text: &str,
+    scratch: &mut Scratch,
+) -> Result<Option<(Library, Ignored)>, ReadError>
+    ensures library { IfOk result (λ r. IfSome r (λ read. DescribesAsCsl text.now read.0)) }
+    ensures ignored { IfOk result (λ r. IfSome r (λ read. IsPassedOver text.now read.1)) }
+    ensures error { IfErr result (IsCslErrorOf text.now) }
+{
+    match made_of(alloc, text, scratch) {
+        Ok(Some(made)) => match made.into_read() {
+            Ok(read) => Ok(Some(read)),
+            Err(error) => Err(error),
+        },
+        Ok(None) => Ok(None),
+        Err(error) => Err(error),
+    }
+}
+
+// What is made of the items of a text that begins as a list.
+fn made_of(alloc: Global, text: &str, scratch: &mut Scratch) -> Result<Option<Made>, ReadError>
+    ensures made { IfOk result (λ r. IfSome r (IsMadeOfText text.now)) }
+    ensures error { IfErr result (IsCslErrorOf text.now) }
+{
+    let Ok(mut reader) = Reader::new(text, scratch) else {
+        return Err(ReadError::OutOfMemory);
+    };
+    let Some(Token::BeginArray) = reader.next() else {
+        return Ok(None);
+    };
+    let made = match read_items(alloc, &mut reader) {
+        Ok(Some(made)) => made,
+        Ok(None) => return Err(ReadError::NotJson),
+        Err(_) => return Err(ReadError::OutOfMemory),
+    };
+    match reader.next() {
+        None => Ok(Some(made)),
+        Some(_) => {
+            drop(made);
+            Err(ReadError::NotJson)
+        }
+    }
+}
+
+// What is made of all items of a list. None is where it is no list of JSON values.
+fn read_items(alloc: Global, reader: &mut Reader<'_>) -> Result<Option<Made>, OutOfMemory>
+    ensures { IfOk result (λ r. MatchOption r (items_left reader.old ≡ None)
+        (λ made. (place : ℕ) ×
+        IsMadeOf (Some (no_items, reader.new)) (items_left reader.old) place made)) }
+{
+    let mut made = Made::new(alloc);
+    let mut names = Vec::new(alloc);
+    'items: for place in 0..usize::MAX {
+        let item = match next_item(alloc, reader) {
+            Ok(Some(item)) => item,
+            Ok(None) => return Ok(Some(made)),
+            Err(Error::Invalid) => return Ok(None),
+            Err(_) => return Err(OutOfMemory),
+        };
+        made.take(alloc, &item, place, &mut names)?;
+    }
+    // No text has as many items.
+    Err(OutOfMemory)
+}
+
+// The next item of a list, or none at its end.
+fn next_item<'a>(alloc: Global, reader: &mut Reader<'a>) -> Result<Option<Value<'a>>, Error>
+    ensures item { IfOk result (λ next. items_left reader.old
+        ≡ first_and_left (option_map value_view next) reader.new) }
+    ensures invalid { result ≡ Err Error.Invalid → items_left reader.old ≡ None }
+{
+    if reader.take_end_array() {
+        return Ok(None);
+    }
+    match Value::read(alloc, reader, ITEM_DEPTH) {
+        Ok(item) => Ok(Some(item)),
+        Err(error) => Err(error),
+    }
+}
+
+impl Made {
+    // Of no items.
+    #[tactic(auto, using(haya_json::proofs::Tallies::counted_from_none))]
+    fn new(alloc: Global) -> Made
+        ensures { (items : Items) → IsMadeBut items items 0 result }
+    {
+        Made {
+            library: Library::new(alloc),
+            ignored: Ignored::new(alloc),
+            fault: None,
+            are_unique: true,
+        }
+    }
+
+    // Takes one more item, at this place of the list.
+    fn take<'a>(
+        &mut self,
+        alloc: Global,
+        item: &Value<'a>,
+        place: usize,
+        names: &mut Vec<&'a str>,
+    ) -> Result<(), OutOfMemory>
+        ensures { OnOk result (TakesItem (value_view item.now) place self.old self.new) }
+    {
+        self.check_names(item, names)?;
+        self.add_entry(alloc, item, place)
+    }
+
+    // Sees whether the item has a member twice.
+    fn check_names<'a>(
+        &mut self,
+        item: &Value<'a>,
+        names: &mut Vec<&'a str>,
+    ) -> Result<(), OutOfMemory>
+        ensures unique { OnOk result (IsTrue self.new.are_unique
+            ↔ (IsTrue self.old.are_unique × HasUniqueKeys (value_view item.now))) }
+        ensures same { OnOk result
+            (self.new ≡ record self.old { are_unique = self.new.are_unique }) }
+    {
+        if self.are_unique {
+            self.are_unique = has_unique_names(item, names)?;
+        }
+        Ok(())
+    }
+
+    // Makes the item's entry, where none is refused so far.
+    fn add_entry(
+        &mut self,
+        alloc: Global,
+        item: &Value<'_>,
+        place: usize,
+    ) -> Result<(), OutOfMemory>
+        ensures entry { OnOk result (MakesEntry (value_view item.now) place self.old self.new) }
+        ensures same { OnOk result (self.new.are_unique ≡ self.old.are_unique) }
+    {
+        if self.fault.is_some() {
+            return Ok(());
+        }
+        match read_item(alloc, &self.library, item, &mut self.ignored) {
+            Ok(entry) => self.library.insert(entry),
+            Err(fault) => self.refuse(fault.in_item(place)),
+        }
+    }
+
+    // Keeps why an item is refused.
+    fn refuse(&mut self, fault: Fault) -> Result<(), OutOfMemory>
+        ensures { OnOk result (self.new ≡ record self.old { fault = Some fault }) }
+    {
+        match fault {
+            Fault::OutOfMemory => Err(OutOfMemory),
+            Fault::Refused(path, why) => {
+                self.fault = Some(Fault::Refused(path, why));
+                Ok(())
+            }
+        }
+    }
+
+    // What is read in the end, where these were all items.
+    fn into_read(self) -> Result<(Library, Ignored), ReadError>
+        ensures library { IfOk result (λ read.
+            (text : List ℕ) → IsMadeOfText text self → DescribesAsCsl text read.0) }
+        ensures ignored { IfOk result (λ read.
+            (text : List ℕ) → IsMadeOfText text self → IsPassedOver text read.1) }
+        ensures error { IfErr result (λ e.
+            (text : List ℕ) → IsMadeOfText text self → IsCslErrorOf text e) }
+    {
+        let Made {
+            library,
+            ignored,
+            fault,
+            are_unique,
+        } = self;
+        if !are_unique {
+            // By a call: at an exit, the drop of a library is proved field by field.
+            drop(library);
+            return Err(ReadError::NameTwice);
+        }
+        match fault {
+            None => Ok((library, ignored)),
+            Some(fault) => {
+                drop(library);
+                Err(error_of(fault))
+            }
+        }
+    }
+}
+
+// The error of a text with this fault.
+fn error_of(fault: Fault) -> ReadError
+    ensures { IsErrorWith fault result }
+{
+    match fault {
+        Fault::Refused(path, why) => ReadError::Refused(path, why),
+        Fault::OutOfMemory => ReadError::OutOfMemory,
+    }
+}
