@@ -117,7 +117,7 @@ delimiter-shown (Some Comma) = ((44 ∷ 32 ∷ [], (refl, refl)), refl)
 delimiter-shown (Some Ampersand) = ((32 ∷ 38 ∷ 32 ∷ [], (refl, refl)), refl)
 delimiter-shown (Some Hyphen) = ((8211 ∷ [], (refl, refl)), refl)
 
-signed_ascii : (n : ℤ) → is_readable n ≡ true → IsAscii (signed_decimal n)
+pub signed_ascii : (n : ℤ) → is_readable n ≡ true → IsAscii (signed_decimal n)
 signed_ascii (pos m) h = let small : m < 2 ^ 31 = grind (arith, nat_tests) in IsAscii-signed (pos m) (omega arith)
 signed_ascii (negsuc m) h = let small : suc m < 2 ^ 31 = grind (arith, nat_tests) in IsAscii-signed (negsuc m) (omega arith)
 
@@ -144,7 +144,7 @@ items-shown ((n, Some d) ∷ j ∷ is) t h =
     ∙ ap (λ v. item_chars (n, Some d) ++ v) (items-shown (j ∷ is) t more.1)
 
 -- each number takes a character at least
-signed_nonempty : (n : ℤ) → is_readable n ≡ true → 0 < length (signed_decimal n)
+pub signed_nonempty : (n : ℤ) → is_readable n ≡ true → 0 < length (signed_decimal n)
 signed_nonempty (pos m) h = let small : m < 2 ^ 31 = grind (arith, nat_tests) in decimal_nonempty m (omega arith)
 signed_nonempty (negsuc m) h = omega arith
 
@@ -206,7 +206,7 @@ module _ (name zeros : List ℕ) (n : ℤ) (rest : List ℕ) (affixes : list_all
           let none : is_affix z ≡ false = rw one refl in
           (none, b.0 ∙ ap (λ v. (z ∷ zs) ++ v) own.1 ∙ append-nil (z ∷ zs), b.1 ∙ own.2)
 
-  skip-front : (name : List ℕ) → begins_with is_whitespace name ≡ false → skip_leading_whitespace (name ++ (zeros ++ (signed_decimal n ++ rest))) ≡ name ++ (zeros ++ (signed_decimal n ++ rest))
+  pub skip-front : (name : List ℕ) → begins_with is_whitespace name ≡ false → skip_leading_whitespace (name ++ (zeros ++ (signed_decimal n ++ rest))) ≡ name ++ (zeros ++ (signed_decimal n ++ rest))
   skip-front (c ∷ cs) s = rw s refl
   skip-front [] s = by zeros all
     where
@@ -217,7 +217,7 @@ module _ (name zeros : List ℕ) (n : ℤ) (rest : List ℕ) (affixes : list_all
           let same : z ≡ 48 = grind (arith, nat_tests) in
           rw same refl
 
-  read-first : read_from (skip_leading_whitespace (name ++ (zeros ++ (signed_decimal n ++ rest)))) ≡ valued (name ++ zeros) (Some (n, rest))
+  pub read-first : read_from (skip_leading_whitespace (name ++ (zeros ++ (signed_decimal n ++ rest)))) ≡ valued (name ++ zeros) (Some (n, rest))
   read-first =
       let z = front_zeros zeros all fit in
       let f = runs-front is_affix name (zeros ++ (signed_decimal n ++ rest)) affixes z.0 in
@@ -232,7 +232,7 @@ suffix_apart c h = by (is_numeric c) (is_whitespace c) h
     by false true h = cc
     by true b h = cc
 
-suffix_alone : (suffix : List ℕ) → list_all is_suffix suffix ≡ true → (skip_leading_whitespace suffix ≡ suffix) × (run is_suffix suffix ≡ suffix) × (behind_run is_suffix suffix ≡ [])
+pub suffix_alone : (suffix : List ℕ) → list_all is_suffix suffix ≡ true → (skip_leading_whitespace suffix ≡ suffix) × (run is_suffix suffix ≡ suffix) × (behind_run is_suffix suffix ≡ [])
 suffix_alone suffix m =
     let whole = append-nil suffix in
     let r = rw whole at (runs-front is_suffix suffix [] m refl) in
@@ -249,7 +249,7 @@ with_affixes before white suffix v = record { value = v; prefix = affix (encode_
 ended-suffix : (before white suffix : List ℕ) (v : ValueView) → list_all is_suffix suffix ≡ true → suffixed before white (Some (v, suffix)) ≡ Ok (with_affixes before white suffix v)
 ended-suffix before white suffix v m = let s = suffix_alone suffix m in rw (s.0, s.1, s.2) refl
 
-same_suffix : (white shown suffix : List ℕ) → (suffix ≢ [] → shown ≡ white) → suffix_with shown suffix ≡ suffix_with white suffix
+pub same_suffix : (white shown suffix : List ℕ) → (suffix ≢ [] → shown ≡ white) → suffix_with shown suffix ≡ suffix_with white suffix
 same_suffix white shown [] h = refl
 same_suffix white shown (c ∷ cs) h = ap (λ w. suffix_with w (c ∷ cs)) (h (λ e. cc))
 
@@ -259,7 +259,7 @@ module _ (white suffix : List ℕ) (space : list_all is_whitespace white ≡ tru
   suffix_starts [] m = (refl, refl)
   suffix_starts (c ∷ cs) m = suffix_apart c (and-both (is_suffix c) (list_all is_suffix cs) m).0
 
-  behind : (cs : List ℕ) → suffix ≡ cs → (begins_with is_numeric (behind_value white cs) ≡ false) × (skip_leading_whitespace (behind_value white cs) ≡ cs) × (cs ≢ [] → run is_whitespace (behind_value white cs) ≡ white)
+  pub behind : (cs : List ℕ) → suffix ≡ cs → (begins_with is_numeric (behind_value white cs) ≡ false) × (skip_leading_whitespace (behind_value white cs) ≡ cs) × (cs ≢ [] → run is_whitespace (behind_value white cs) ≡ white)
   behind [] e = (refl, refl, λ no. absurd (no refl))
   behind (c ∷ cs) e =
       let own = suffix_starts (c ∷ cs) (rw e at members) in
@@ -271,11 +271,11 @@ module _ (white suffix : List ℕ) (space : list_all is_whitespace white ≡ tru
       by (x ∷ w) f g = f
 
 -- the characters of affixes
-affix-shown : (bs : List ℕ) → text_or_nothing (affix bs) ≡ bs
+pub affix-shown : (bs : List ℕ) → text_or_nothing (affix bs) ≡ bs
 affix-shown [] = refl
 affix-shown (b ∷ bs) = refl
 
-chars-suffix : (white suffix : List ℕ) → scalars (white ++ suffix) ≡ true → chars (text_or_nothing (suffix_with white suffix)) ≡ behind_value white suffix
+pub chars-suffix : (white suffix : List ℕ) → scalars (white ++ suffix) ≡ true → chars (text_or_nothing (suffix_with white suffix)) ≡ behind_value white suffix
 chars-suffix white [] u = chars-nil
 chars-suffix white (c ∷ cs) u = chars-encodes (white ++ c ∷ cs) u
 

@@ -17,7 +17,7 @@ use Rattle.haya_numbers.specs.contracts.numeric.NumericPartialEq.TheImpl as nume
 use Rattle.haya_numbers.specs.Numeric.{Item, ValueView, Single, SetOf, NumericView, value_view, numeric_view}
 use Rattle.haya_text.proofs.Tells.{Same, Tells, Same-both, Same-along, lists-tell, options-tell, strings-tell}
 
-ints-tell : (m n : ℤ) → Same (int_eq m n) m n
+pub ints-tell : (m n : ℤ) → Same (int_eq m n) m n
 ints-tell m n = (λ h. go (int_cmp m n) (int_ranked m n (int_cmp m n) refl) h, λ h. rw h (int_eq_equiv.refl n))
   where
     go : (o : Ordering) → MatchOrdering o (m <ℤ n) (m ≡ n) (n <ℤ m) → is_eq o ≡ true → m ≡ n

@@ -10,9 +10,9 @@ use Rattle.haya_numbers.specs.Classes.{appended}
 use Rattle.haya_numbers.specs.Numeric.{Item}
 use Rattle.haya_numbers.specs.NumericReading.{magnitude, past_sign, signed, number_front, delimited, item_front, items_front}
 
-pub past_run-le : (p : ℕ → Bool) (cs : List ℕ) → length (behind_run p cs) ≤ length cs
-past_run-le p [] = omega arith
-past_run-le p (c ∷ cs) = go (p c) (past_run-le p cs)
+pub behind_run-le : (p : ℕ → Bool) (cs : List ℕ) → length (behind_run p cs) ≤ length cs
+behind_run-le p [] = omega arith
+behind_run-le p (c ∷ cs) = go (p c) (behind_run-le p cs)
   where
     go : (b : Bool) → length (behind_run p cs) ≤ length cs → length (cond b (behind_run p cs) (c ∷ cs)) ≤ suc (length cs)
     go true h = omega arith
@@ -26,12 +26,12 @@ skip-le (c ∷ cs) = go (is_whitespace c) (skip-le cs)
     go true h = omega arith
     go false h = omega arith
 
-past_run-lt : (p : ℕ → Bool) (cs : List ℕ) → 0 < length (run p cs) → length (behind_run p cs) < length cs
-past_run-lt p [] h = absurd (omega arith)
-past_run-lt p (c ∷ cs) h = go (p c) h
+behind_run-lt : (p : ℕ → Bool) (cs : List ℕ) → 0 < length (run p cs) → length (behind_run p cs) < length cs
+behind_run-lt p [] h = absurd (omega arith)
+behind_run-lt p (c ∷ cs) h = go (p c) h
   where
     go : (b : Bool) → 0 < length (cond b (c ∷ run p cs) []) → length (cond b (behind_run p cs) (c ∷ cs)) < suc (length cs)
-    go true k = omega (arith, past_run-le p cs)
+    go true k = omega (arith, behind_run-le p cs)
     go false k = absurd (omega arith)
 
 past_sign-le : (cs : List ℕ) → length (past_sign cs) ≤ length cs
@@ -59,7 +59,7 @@ number-shorter cs rest n e = go (magnitude (run is_numeric (past_sign cs))) refl
     go (Some m) h k =
         let same : behind_run is_numeric (past_sign cs) ≡ rest = ap (λ (p : ℤ × List ℕ). p.1) (some_inside k) in
         let some = magnitude-nonempty (run is_numeric (past_sign cs)) m h in
-        subst (λ (r : List ℕ). length r < length cs) same (omega (arith, past_run-lt is_numeric (past_sign cs) some, past_sign-le cs))
+        subst (λ (r : List ℕ). length r < length cs) same (omega (arith, behind_run-lt is_numeric (past_sign cs) some, past_sign-le cs))
 
 pub item-shorter : (cs rest : List ℕ) (i : Item) → item_front cs ≡ Some (i, rest) → length rest < length cs
 item-shorter cs rest i e = go (number_front (skip_leading_whitespace cs)) refl e
@@ -69,7 +69,7 @@ item-shorter cs rest i e = go (number_front (skip_leading_whitespace cs)) refl e
     go (Some (n, behind)) h k =
         let same : behind_run is_delimiter (skip_leading_whitespace behind) ≡ rest = ap (λ (p : Item × List ℕ). p.1) (some_inside k) in
         let short = number-shorter (skip_leading_whitespace cs) behind n h in
-        subst (λ (r : List ℕ). length r < length cs) same (omega (arith, past_run-le is_delimiter (skip_leading_whitespace behind), skip-le behind, skip-le cs))
+        subst (λ (r : List ℕ). length r < length cs) same (omega (arith, behind_run-le is_delimiter (skip_leading_whitespace behind), skip-le behind, skip-le cs))
 
 -- one more number of a set, where a delimiter follows it
 pub items-more : (set : List Item) (i : Item) (d : NumericDelimiter) (most : ℕ) (cs rest : List ℕ) → item_front cs ≡ Some (i, rest) → i.1 ≡ Some d → length cs ≤ most

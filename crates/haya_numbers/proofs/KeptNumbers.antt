@@ -36,16 +36,16 @@ module _ (p : ℕ → Bool) where
   all-append [] ys h k = k
   all-append (x ∷ xs) ys h k = let both = and-both (p x) (list_all p xs) h in both-and (p x) (list_all p (xs ++ ys)) both.0 (all-append xs ys both.1 k)
 
-  run-all : {q : ℕ → Bool} {text front rest : List ℕ} → IsRun q text front rest → list_all p text ≡ true → (list_all p front ≡ true) × (list_all p rest ≡ true)
+  pub run-all : {q : ℕ → Bool} {text front rest : List ℕ} → IsRun q text front rest → list_all p text ≡ true → (list_all p front ≡ true) × (list_all p rest ≡ true)
   run-all {q} {text} {front} {rest} r h = all-parts front rest (subst (λ (l : List ℕ). list_all p l ≡ true) r.joined h)
 
-  number-all : {text rest : List ℕ} {n : ℤ} → IsNumber text n rest → list_all p text ≡ true → list_all p rest ≡ true
+  pub number-all : {text rest : List ℕ} {n : ℤ} → IsNumber text n rest → list_all p text ≡ true → list_all p rest ≡ true
   number-all (Plain digits m r s e) h = (run-all r h).1
   number-all (Negated behind digits m t r s e) h =
       let after = subst (λ (l : List ℕ). list_all p l ≡ true) t h in
       (run-all r (and-both (p 45) (list_all p behind) after).1).1
 
-  item-all : {text delimiters rest : List ℕ} {n : ℤ} → IsItem text n delimiters rest → list_all p text ≡ true → list_all p rest ≡ true
+  pub item-all : {text delimiters rest : List ℕ} {n : ℤ} → IsItem text n delimiters rest → list_all p text ≡ true → list_all p rest ≡ true
   item-all i h = (run-all i.run (run-all i.between (number-all i.number (run-all i.before h).1)).1).1
 
   items-all : {text rest : List ℕ} {items : List Item} → AreItems text items rest → list_all p text ≡ true → list_all p rest ≡ true
@@ -117,7 +117,7 @@ pub record WasRead (n : NumericView) : Type 0 where
   pub is : n ≡ with_affixes (name ++ zeros) white suffix n.value
   pub made : IsMade zeros suffix n.value
 
-readable : {text rest : List ℕ} {n : ℤ} → IsNumber text n rest → is_readable n ≡ true
+pub readable : {text rest : List ℕ} {n : ℤ} → IsNumber text n rest → is_readable n ≡ true
 readable (Plain digits m r s e) =
     let small : m < 2 ^ 31 = omega (arith, s.value, s.small) in
     rw e (grind (arith, nat_tests))
@@ -128,7 +128,7 @@ readable (Negated behind digits m t r s e) = let small : m < 2 ^ 31 = omega (ari
     by (suc m) h = grind (arith, nat_tests)
 
 -- only a number from 0 on stands behind zeros
-fits : {text rest zs past kept : List ℕ} {n : ℤ} → IsNumber text n rest → KeepsZeros zs past kept text → zeros_fit kept n ≡ true
+pub fits : {text rest zs past kept : List ℕ} {n : ℤ} → IsNumber text n rest → KeepsZeros zs past kept text → zeros_fit kept n ≡ true
 fits {kept = kept} (Plain digits m r s e) k = rw e (by kept)
   where
     by : (zs : List ℕ) → zeros_fit zs (pos m) ≡ true
@@ -151,7 +151,7 @@ kept_zeros (NoZeros s z k b) h = rw k refl
 kept_zeros {kept = kept} (ButLast s z b) h = (all-parts is_zero kept (48 ∷ []) (subst (λ (l : List ℕ). list_all is_zero l ≡ true) z h)).0
 
 -- the front of a text begins as the text does
-front_starts : (p : ℕ → Bool) (text front rest : List ℕ) → text ≡ front ++ rest → begins_with p text ≡ false → begins_with p front ≡ false
+pub front_starts : (p : ℕ → Bool) (text front rest : List ℕ) → text ≡ front ++ rest → begins_with p text ≡ false → begins_with p front ≡ false
 front_starts p text [] rest e h = refl
 front_starts p text (c ∷ front) rest e h = rw e at h
 
@@ -212,6 +212,9 @@ part_affixes cs n u h =
 pub parts_are : (cs : List ℕ) (n : NumericView) → (h : HasParts cs n []) → n ≡ with_affixes (h.prefixed.name ++ h.prefixed.kept) h.white h.suffix n.value
 parts_are cs n h = rw (← h.prefixed.joined, ← h.prefix_bytes, ← h.suffix_bytes) refl
 
+pub parts_made : (cs : List ℕ) (n : NumericView) (h : HasParts cs n []) → IsMade h.prefixed.kept h.suffix n.value
+parts_made cs n h = value_made h.prefixed.kept h.value (readable h.number) (fits h.number h.prefixed.keeps) h.between.longest h.before_suffix (h.suffix_run.joined ∙ append-nil h.suffix)
+
 pub was_read : (cs : List ℕ) (n : NumericView) → scalars cs ≡ true → HasParts cs n [] → WasRead n
 was_read cs n u h = record {
   name = h.prefixed.name;
@@ -220,7 +223,7 @@ was_read cs n u h = record {
   suffix = h.suffix;
   affixes = part_affixes cs n u h;
   is = parts_are cs n h;
-  made = value_made h.prefixed.kept h.value (readable h.number) (fits h.number h.prefixed.keeps) h.between.longest h.before_suffix (h.suffix_run.joined ∙ append-nil h.suffix);
+  made = parts_made cs n h;
 }
 
 -- ---- what is read again

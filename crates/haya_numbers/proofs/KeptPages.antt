@@ -15,12 +15,13 @@ use lib.Utf8.{scalar, scalars}
 use Rattle.haya_text.proofs.Tells.{and-both, both-and}
 use Rattle.haya_text.specs.Characters.{begins_with}
 use Rattle.haya_numbers.specs.Cuts.{is_dash}
-use Rattle.haya_numbers.specs.Numeric.{NumericView, ValueView, Single}
+use Rattle.haya_numbers.specs.Numeric.{NumericView, ValueView, Single, single_number}
 use Rattle.haya_numbers.specs.NumericGrammar.{IsNumber, Plain, Negated, IsValue, Alone, Set, HasParts}
-use Rattle.haya_numbers.specs.NumericPrinted.{shown_numeric}
+use Rattle.haya_numbers.specs.NumericPrinted.{shown_numeric, text_or_nothing}
 use Rattle.haya_numbers.specs.NumericReading.{first_delimiter, is_suffix, suffix_with, read_from}
+use Rattle.haya_numbers.specs.NumericRoundTrip.{exact_text}
 use Rattle.haya_numbers.specs.Pages.{fault_of}
-use Rattle.haya_numbers.specs.PagesBack.{ends_in, suffix_ends_in}
+use Rattle.haya_numbers.specs.PagesBack.{ends_in, is_from_zero, suffix_ends_in}
 use Rattle.haya_numbers.specs.PagesReading.{trim_chars, half_read}
 use Rattle.haya_numbers.specs.Pieces.{is_separator}
 use Rattle.haya_numbers.proofs.Backs.{AreAffixes, behind_value, single_text, single-read, single-shown, single-skip, single-utf8, suffix_apart, with_affixes, zeros_fit}
@@ -70,7 +71,7 @@ start-kept : (cs : List ℕ) → begins_with is_whitespace cs ≡ false → skip
 start-kept [] h = refl
 start-kept (c ∷ cs) h = rw h refl
 
-kept-start : (cs : List ℕ) → skip_leading_whitespace cs ≡ cs → begins_with is_whitespace cs ≡ false
+pub kept-start : (cs : List ℕ) → skip_leading_whitespace cs ≡ cs → begins_with is_whitespace cs ≡ false
 kept-start [] h = refl
 kept-start (c ∷ cs) h = by (is_whitespace c) h
   where
@@ -147,7 +148,7 @@ plain_all (c ∷ cs) h =
     let both = and-both (plain c) (list_all plain cs) h in
     both-and (apart c) (list_all apart cs) (not_false (is_separator c) (plain-apart c both.0).0) (plain_all cs both.1)
 
-digits-plain : (p : ℕ → Bool) → ((c : ℕ) → 48 ≤ c → c ≤ 57 → p c ≡ true) → (ds : List ℕ) → AllDigits 10 ds → list_all p ds ≡ true
+pub digits-plain : (p : ℕ → Bool) → ((c : ℕ) → 48 ≤ c → c ≤ 57 → p c ≡ true) → (ds : List ℕ) → AllDigits 10 ds → list_all p ds ≡ true
 digits-plain p each [] h = refl
 digits-plain p each (d ∷ ds) h =
     let r : IsInRange 48 57 d = digit_from_value d h.0 in
@@ -200,16 +201,23 @@ pub record NumberText (n : NumericView) (text : List ℕ) : Type 0 where
   pub front : begins_with is_whitespace text ≡ false
   pub back : last_passes solid text ≡ true
   pub some : 0 < length text
+  pub exact : exact_text n ≡ shown_numeric n
+  pub from_zero : is_from_zero (single_number n) ≡ true
   pub escape : suffix_ends_in 92 n.suffix ≡ false → last_passes (λ c. not (nat_eq c 92)) text ≡ true
 
-numeral : (k : ℕ) → k < 2 ^ 31 → AllDigits 10 (decimal k)
+alone_from_zero : (k : ℕ) (p s : Option (List ℕ)) → is_from_zero (single_number (record { value = Single (pos k); prefix = p; suffix = s })) ≡ true
+alone_from_zero k None None = refl
+alone_from_zero k None (Some s) = refl
+alone_from_zero k (Some p) s = refl
+
+pub numeral : (k : ℕ) → k < 2 ^ 31 → AllDigits 10 (decimal k)
 numeral k small = (decimal_is_IsNumeral k (omega arith)).0.1
 
-behind-all : (p : ℕ → Bool) (white suffix : List ℕ) → list_all p white ≡ true → list_all p suffix ≡ true → list_all p (behind_value white suffix) ≡ true
+pub behind-all : (p : ℕ → Bool) (white suffix : List ℕ) → list_all p white ≡ true → list_all p suffix ≡ true → list_all p (behind_value white suffix) ≡ true
 behind-all p white [] w s = refl
 behind-all p white (c ∷ cs) w s = all-append p white (c ∷ cs) w s
 
-solid_suffix : (cs : List ℕ) → list_all is_suffix cs ≡ true → list_all solid cs ≡ true
+pub solid_suffix : (cs : List ℕ) → list_all is_suffix cs ≡ true → list_all solid cs ≡ true
 solid_suffix [] h = refl
 solid_suffix (c ∷ cs) h =
     let both = and-both (is_suffix c) (list_all is_suffix cs) h in
@@ -300,6 +308,8 @@ module _ (name zeros white suffix : List ℕ) (a : AreAffixes name zeros white s
         front = front;
         back = back;
         some = joined_some name _ (joined_some zeros _ (longer (decimal k) nonempty));
+        exact = sym (append_assoc (text_or_nothing number.prefix) (decimal k) (text_or_nothing number.suffix));
+        from_zero = alone_from_zero k number.prefix number.suffix;
         escape = λ e. ap (last_passes (λ c. not (nat_eq c 92))) (sym (append_assoc name zeros (decimal k ++ behind_value white suffix)))
             ∙ last_of (λ c. not (nat_eq c 92)) digit-other k small (name ++ zeros) white suffix (suffix_escape white suffix a.behind_text e);
       }
@@ -308,7 +318,7 @@ module _ (name zeros white suffix : List ℕ) (a : AreAffixes name zeros white s
       longer [] h = absurd (omega arith)
       longer (d ∷ ds) h = omega arith
 
-inside_half : (r : Result NumericView _) (n : NumericView) → result_map_both (λ m. m) fault_of r ≡ Ok n → r ≡ Ok n
+pub inside_half : (r : Result NumericView _) (n : NumericView) → result_map_both (λ m. m) fault_of r ≡ Ok n → r ≡ Ok n
 inside_half (Ok m) n h = let same : m ≡ n = cc in ap Ok same
 inside_half (Err e) n h = cc
 

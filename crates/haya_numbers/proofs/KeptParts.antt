@@ -70,14 +70,14 @@ unescaped_range (c ∷ d ∷ cs) ys h last k =
     let other = not_hyphen d (plain-apart d (and-both (plain d) (list_all plain cs) rest).0).1 in
     rw (other, and_false (nat_eq c 92), unescaped_range (d ∷ cs) ys rest last k) refl
 
-cut_once : (cs : List ℕ) → escaped_split cs ≡ cs ∷ [] → cut_read cs ≡ halves_read Range (dash_split cs)
+pub cut_once : (cs : List ℕ) → escaped_split cs ≡ cs ∷ [] → cut_read cs ≡ halves_read Range (dash_split cs)
 cut_once cs h = rw h refl
 
-undashed : (cs : List ℕ) → list_all plain cs ≡ true → dash_split cs ≡ cs ∷ []
+pub undashed : (cs : List ℕ) → list_all plain cs ≡ true → dash_split cs ≡ cs ∷ []
 undashed cs h = slice_split_none is_dash cs (All-from_recursion (λ c. is_dash c ≡ false) cs (no_dashes cs h))
 
 -- a text without separators that isn't empty is cut
-inner_apart : (cs : List ℕ) → list_all apart cs ≡ true → 0 < length cs → inner_read cs ≡ cut_read cs
+pub inner_apart : (cs : List ℕ) → list_all apart cs ≡ true → 0 < length cs → inner_read cs ≡ cut_read cs
 inner_apart [] h some = absurd (omega arith)
 inner_apart (c ∷ cs) h some = let one = not_true (is_separator c) (and-both (apart c) (list_all apart cs) h).0 in inner-cut (c ∷ cs) (λ e. cc) (λ e. no 38 cs e one refl) (λ e. no 44 cs e one refl)
   where
@@ -92,7 +92,7 @@ inner_apart (c ∷ cs) h some = let one = not_true (is_separator c) (and-both (a
 part_of : (p : PartView) (text : List ℕ) → begins_with is_whitespace text ≡ false → last_passes solid text ≡ true → inner_read text ≡ Ok p → (part_read text ≡ Ok p) × (part_read (32 ∷ text) ≡ Ok p)
 part_of p text f l h = let t = trim-kept text f l in (ap inner_read t ∙ h, ap inner_read t ∙ h)
 
-page_part : (n : NumericView) (text : List ℕ) → NumberText n text → PartText (SinglePage n) text
+pub page_part : (n : NumericView) (text : List ℕ) → NumberText n text → PartText (SinglePage n) text
 page_part n text t =
     let apart_text = plain_all text t.plain_text in
     let read : inner_read text ≡ Ok (SinglePage n) = inner_apart text apart_text t.some ∙ cut_once text (unescaped text t.plain_text) ∙ rw (undashed text t.plain_text, t.read) refl in
@@ -138,7 +138,7 @@ range_part s e ts te start end escape =
 
 -- ---- the part that a piece is
 
-abbrev inside : ℕ → Bool
+abbrev pub inside : ℕ → Bool
 inside c = apart c && scalar c
 
 inside_good : (c : ℕ) → inside c ≡ true → is_dash c ≡ false → good c ≡ true
@@ -148,7 +148,7 @@ inside_good c h d =
     rw (s, d, both.1) refl
 
 -- the halves round dashes have none
-halves_good : (cs : List ℕ) → list_all inside cs ≡ true → AllByRecursion (λ h. list_all good h ≡ true) (dash_split cs)
+pub halves_good : (cs : List ℕ) → list_all inside cs ≡ true → AllByRecursion (λ h. list_all good h ≡ true) (dash_split cs)
 halves_good [] h = (refl, tt)
 halves_good (c ∷ cs) h = let both = and-both (inside c) (list_all inside cs) h in by (is_dash c) refl both.0 (dash_split cs) (halves_good cs both.1)
   where
@@ -203,7 +203,7 @@ halves_part (x ∷ y ∷ z ∷ hs) p all h k = by (both_read x y) h
     by (Ok q) g = cc
     by (Err e) g = cc
 
-inside_apart : (cs : List ℕ) → list_all inside cs ≡ true → list_all apart cs ≡ true
+pub inside_apart : (cs : List ℕ) → list_all inside cs ≡ true → list_all apart cs ≡ true
 inside_apart [] h = refl
 inside_apart (c ∷ cs) h =
     let both = and-both (inside c) (list_all inside cs) h in
@@ -294,7 +294,7 @@ back (page_first p ps t more) =
 
 -- ---- parts that were read
 
-separator_part : (q : List ℕ) (p : PartView) → IsSeparator q → part_read q ≡ Ok p → (p ≡ Ampersand) ⊎ (p ≡ Comma)
+pub separator_part : (q : List ℕ) (p : PartView) → IsSeparator q → part_read q ≡ Ok p → (p ≡ Ampersand) ⊎ (p ≡ Comma)
 separator_part q p (c, s, is) h = by (nat_eq c 38) refl (nat_eq c 44) refl
   where
     by : (a : Bool) → nat_eq c 38 ≡ a → (b : Bool) → nat_eq c 44 ≡ b → (p ≡ Ampersand) ⊎ (p ≡ Comma)
@@ -309,7 +309,7 @@ separator_part q p (c, s, is) h = by (nat_eq c 38) refl (nat_eq c 44) refl
     by false e false f = let none : is_separator c ≡ false = rw (f, e) refl in cc
 
 -- a piece that is a run is no separator
-run_only : (q : List ℕ) → IsRun q → IsSeparator q → ⊥
+pub run_only : (q : List ℕ) → IsRun q → IsSeparator q → ⊥
 run_only q run (c, s, is) = let all = recursion_from_All (λ d. is_separator d ≡ false) q run.1 in by c s (rw is at all)
   where
     by : (c : ℕ) → is_separator c ≡ true → AllByRecursion (λ d. is_separator d ≡ false) (c ∷ []) → ⊥
@@ -319,7 +319,7 @@ run_only q run (c, s, is) = let all = recursion_from_All (λ d. is_separator d �
 abbrev AllScalars : List (List ℕ) → Type 0
 AllScalars qs = AllByRecursion (λ q. list_all scalar q ≡ true) qs
 
-run_inside : (q : List ℕ) → IsRun q → list_all scalar q ≡ true → list_all inside q ≡ true
+pub run_inside : (q : List ℕ) → IsRun q → list_all scalar q ≡ true → list_all inside q ≡ true
 run_inside q run u = by q (recursion_from_All (λ d. is_separator d ≡ false) q run.1) u
   where
     by : (cs : List ℕ) → AllByRecursion (λ d. is_separator d ≡ false) cs → list_all scalar cs ≡ true → list_all inside cs ≡ true
@@ -351,7 +351,7 @@ behind_run q [] run a = tt
 behind_run q (r ∷ qs) run (inl s, more) = absurd (run_only q run s)
 behind_run q (r ∷ qs) run (inr s, more) = s
 
-heads : (q : List ℕ) (qs : List (List ℕ)) (p : PartView) (ps : List PartView) → map part_read (q ∷ qs) ≡ map (λ p. Ok p) (p ∷ ps) → (part_read q ≡ Ok p) × (map part_read qs ≡ map (λ p. Ok p) ps)
+pub heads : (q : List ℕ) (qs : List (List ℕ)) (p : PartView) (ps : List PartView) → map part_read (q ∷ qs) ≡ map (λ p. Ok p) (p ∷ ps) → (part_read q ≡ Ok p) × (map part_read qs ≡ map (λ p. Ok p) ps)
 heads q qs p ps h = (let one : part_read q ≡ Ok p = cc in one, let more : map part_read qs ≡ map (λ p. Ok p) ps = cc in more)
 
 commas_behind : (p : PartView) (ps : List PartView) → commas_are_kept (p ∷ ps) ≡ true → commas_are_kept ps ≡ true
@@ -415,7 +415,7 @@ were_read page other (q ∷ qs) (p ∷ ps) l = by l.each.0 (λ a b m. were_read 
     by (inl s) more = by_separator page other q qs p ps l (separator_part q p s (heads q qs p ps l.read).0) more
     by (inr run) more = by_run page other q qs p ps l run more
 
-joined_scalars : (qs : List (List ℕ)) → list_all scalar (concat qs) ≡ true → AllScalars qs
+pub joined_scalars : (qs : List (List ℕ)) → list_all scalar (concat qs) ≡ true → AllScalars qs
 joined_scalars [] h = tt
 joined_scalars (q ∷ qs) h = let both = all-parts scalar q (concat qs) h in (both.0, joined_scalars qs both.1)
 

@@ -25,3 +25,7 @@ mod Romans
 mod Rows
 mod Runs
 pub mod Equal
+mod ExactNumbers
+mod RoundTrips
+mod ExactHalves
+mod ExactPages

@@ -9,10 +9,12 @@ pub mod NumericForms
 pub mod NumericGrammar
 pub mod NumericPrinted
 pub mod NumericReading
+pub mod NumericRoundTrip
 pub mod Pages
 pub mod PagesBack
 pub mod PagesOrder
 pub mod PagesPrinted
 pub mod PagesReading
+pub mod PagesRoundTrip
 pub mod Pieces
 pub mod Romans

@@ -10,6 +10,7 @@ ghost use Rattle.haya_numbers.specs.NumericForms.{roman_text};
 ghost use Rattle.haya_numbers.specs.NumericGrammar.{IsFault, ReadsAs};
 ghost use Rattle.haya_numbers.specs.NumericPrinted.{shown_numeric};
 ghost use Rattle.haya_numbers.specs.NumericReading.{numeric_read};
+ghost use Rattle.haya_numbers.specs.NumericRoundTrip.{round_trip_text};
 ghost use Rattle.haya_numbers.specs.Romans.{letters_by_place, letters_value};
 ghost use Rattle.haya_numbers.specs.declared.numeric.NumericError.{NumericError};
 
@@ -66,6 +67,13 @@ pub fn read_numbers_read_back()
         → is_kept n ≡ true → numeric_read (shown_numeric n) ≡ Ok n }
     ensures bounds { (text : List ℕ) (n : NumericView) (z : ℤ) → numeric_read text ≡ Ok n
         → n.value ≡ Single z → is_readable z ≡ true }
+{}
+
+/// A number that was read from a text is read again from its round-trip text, whatever its affixes
+/// and its numbers.
+pub fn read_numbers_round_trip()
+    ensures { (text : List ℕ) (n : NumericView) → IsUtf8 text → numeric_read text ≡ Ok n
+        → numeric_read (round_trip_text n) ≡ Ok n }
 {}
 
 /// A text reads as a number exactly where its parts are those of one, and has a fault exactly where

@@ -6,10 +6,12 @@ mod form;
 mod iter;
 mod printing;
 mod reading;
+mod round_trip;
 
 pub use form::{GrammarGender, NumberForm, Ordinals};
 use haya_text::{OutOfMemory, ReadFault};
 pub use iter::NumIterator;
+pub(crate) use round_trip::Exact;
 use std::alloc::{AllocError, AllocFailed};
 use thiserror::Error;
 

@@ -6,6 +6,7 @@ mod order;
 mod pieces;
 mod printing;
 mod reading;
+mod round_trip;
 
 use crate::{Numeric, NumericError};
 use haya_text::ReadFault;

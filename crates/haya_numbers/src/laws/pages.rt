@@ -1,16 +1,18 @@
 //! Laws of the definitions of pages.
-ghost use Rattle.std.specs.Prelude.{◌≡◌, ◌↔◌, ℕ, ℤ, List, [], ◌∷◌, true, map, Ok, Err};
+ghost use Rattle.std.specs.Prelude.{◌≡◌, ◌↔◌, ◌<◌, ◌^◌, ℕ, ℤ, pos, List, [], ◌∷◌, true, map, Ok, Err};
 ghost use Rattle.std.specs.Cmp.{IsTotalOrder};
 ghost use Rattle.std.specs.Str.{IsUtf8, chars};
 ghost use Rattle.haya_text.specs.Equality.{EqualsByValue, EqualsByView, HashesAlike};
 ghost use Rattle.haya_numbers.specs.Cuts.{dash_split, escaped_split};
 ghost use Rattle.haya_numbers.specs.Halves.{AreHalves, IsDash, IsEscapedHyphen};
+ghost use Rattle.haya_numbers.specs.Numeric.{NumericView, single_number};
 ghost use Rattle.haya_numbers.specs.NumericBack.{is_readable};
-ghost use Rattle.haya_numbers.specs.Pages.{PartView, page_of, part_view, parts};
-ghost use Rattle.haya_numbers.specs.PagesBack.{are_kept, are_readable};
+ghost use Rattle.haya_numbers.specs.Pages.{PartView, SinglePage, page_of, part_view, parts};
+ghost use Rattle.haya_numbers.specs.PagesBack.{are_kept, are_readable, is_from_zero};
 ghost use Rattle.haya_numbers.specs.PagesOrder.{pages_order, part_order};
 ghost use Rattle.haya_numbers.specs.PagesPrinted.{shown_pages};
 ghost use Rattle.haya_numbers.specs.PagesReading.{pages_read, part_read, IsFirstFault};
+ghost use Rattle.haya_numbers.specs.PagesRoundTrip.{round_trip_text};
 ghost use Rattle.haya_numbers.specs.Pieces.{pieces, AreItsPieces};
 ghost use Rattle.haya_numbers.specs.declared.page.PageRanges as pages;
 ghost use Rattle.haya_numbers.specs.declared.page.PageRangesPartErr as fault;
@@ -83,4 +85,17 @@ pub fn read_pages_read_back()
         → pages_read (chars (shown_pages ps)) ≡ Ok ps }
     ensures page { (n : ℤ) → is_readable n ≡ true → are_kept (page_of n ∷ []) ≡ true
         → pages_read (chars (shown_pages (page_of n ∷ []))) ≡ Ok (page_of n ∷ []) }
+{}
+
+/// Pages that were read from a text are read again from their round-trip text, whatever their
+/// numbers and whatever separates them. So is the page of a number from 0 on. One page alone that
+/// was read, without affixes, is from 0 on.
+pub fn read_pages_round_trip()
+    ensures read { (text : List ℕ) (ps : List PartView) → IsUtf8 text
+        → pages_read (chars text) ≡ Ok ps → pages_read (chars (round_trip_text ps)) ≡ Ok ps }
+    ensures page { (n : ℕ) → n < 2 ^ 31
+        → pages_read (chars (round_trip_text (page_of (pos n) ∷ []))) ≡ Ok (page_of (pos n) ∷ []) }
+    ensures from_zero { (text : List ℕ) (n : NumericView) → IsUtf8 text
+        → pages_read (chars text) ≡ Ok (SinglePage n ∷ [])
+        → is_from_zero (single_number n) ≡ true }
 {}

@@ -66,7 +66,7 @@ fn eat_run<'a>(cursor: &mut Cursor<'a>, class: Class) -> &'a str
 }
 
 // Takes the white space that stands next.
-fn eat_white<'a>(cursor: &mut Cursor<'a>) -> &'a str
+pub(super) fn eat_white<'a>(cursor: &mut Cursor<'a>) -> &'a str
     ensures run { chars result.now ≡ run is_whitespace cursor.old.rest }
     ensures rest { cursor.new.rest ≡ skip_leading_whitespace cursor.old.rest }
 {
