@@ -10,7 +10,7 @@ ghost use Rattle.haya_json.specs.Tally.{tally};
 
 use crate::items::read_item;
 use crate::passed_over::ignored_in;
-use haya_json::reading::{Fault, member};
+use haya_json::reading::{Fault, member, position_of_fault, position_of_twice};
 use haya_json::{Ignored, ReadError, Why};
 use hayagriva::Library;
 use json::{Scratch, Value};
@@ -36,8 +36,14 @@ pub fn read_csl_json(alloc: Global, text: &str) -> Result<(Library, Ignored), Re
             Err(Fault::Refused(path, why)) => Err(ReadError::Refused(path, why)),
             Err(Fault::OutOfMemory) => Err(ReadError::OutOfMemory),
         },
-        Err(json::Error::Invalid) => Err(ReadError::NotJson),
-        Err(json::Error::DuplicateKey) => Err(ReadError::NameTwice),
+        Err(json::Error::Invalid) => match position_of_fault(alloc, text) {
+            Ok(position) => Err(ReadError::NotJson(position)),
+            Err(_) => Err(ReadError::OutOfMemory),
+        },
+        Err(json::Error::DuplicateKey) => match position_of_twice(alloc, text) {
+            Ok(position) => Err(ReadError::NameTwice(position)),
+            Err(_) => Err(ReadError::OutOfMemory),
+        },
         Err(_) => Err(ReadError::OutOfMemory),
     }
 }

@@ -4,11 +4,11 @@ use std::process::Abort;
 
 // A text, and what its error shows.
 const REFUSED: &[(&str, &str)] = &[
-    ("", "no JSON"),
-    ("[{]", "no JSON"),
+    ("", "line 1, column 1: no JSON"),
+    ("[{]", "line 1, column 3: no JSON"),
     (
         r#"[{"id":"a","x":{"y":1,"y":2}}]"#,
-        "an object has a member twice",
+        "line 1, column 23: an object has a member twice",
     ),
     ("1", ": expected a list"),
     ("null", ": expected a list"),
