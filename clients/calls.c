@@ -190,7 +190,7 @@ static void json(void) {
            && says(text, "/paper/date: not read as a date"), "the place of a refused value");
     is(haya_library_len(&library) == 0, "a refusal isn't a library");
     haya_library_read_json(BYTES("{"), &library);
-    is(library.code == HAYA_NOT_JSON && haya_refusal(&library.slot, &text) && says(text, "no JSON"), "no JSON");
+    is(library.code == HAYA_NOT_JSON && haya_refusal(&library.slot, &text) && says(text, "line 1, column 2: no JSON"), "no JSON");
     haya_library_read_json(BYTES("{\"a\": {\"type\": \"book\"}, \"a\": {\"type\": \"book\"}}"), &library);
     is(library.code == HAYA_NAME_TWICE, "a member twice");
     haya_library_read_json(BYTES("\xff"), &library);

@@ -42,8 +42,8 @@ pub record DescribesAsCsl (text : List ℕ) (library : List Tree) : Type 0 where
 
 -- what an error says of a text
 abbrev pub IsCslErrorOf : List ℕ → ReadError → Type 0
-IsCslErrorOf text NotJson = document text ≡ None
-IsCslErrorOf text NameTwice = IsSomeAnd (document text) (λ j. ¬ HasUniqueKeys j)
+IsCslErrorOf text (NotJson p) = document text ≡ None
+IsCslErrorOf text (NameTwice p) = IsSomeAnd (document text) (λ j. ¬ HasUniqueKeys j)
 IsCslErrorOf text (Refused path why) =
     IsSomeAnd (document text)
     (λ j. HasUniqueKeys j × (csl_library_of j ≡ Err (refusal_at path.items why)))

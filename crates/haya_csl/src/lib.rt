@@ -3,6 +3,7 @@
 
 mod dates;
 mod draft;
+mod errors;
 mod fields;
 mod items;
 mod kinds;

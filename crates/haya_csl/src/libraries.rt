@@ -9,6 +9,7 @@ ghost use Rattle.haya_csl.specs.Ignored.{list_passed_over, passed_over};
 ghost use Rattle.haya_json.specs.Ignored.{counts_of};
 ghost use Rattle.haya_json.specs.Tally.{all_counted, tally};
 
+use crate::errors::{name_twice, not_json};
 use crate::items::read_item;
 use crate::turns::read_list_text;
 use haya_json::reading::{Fault, member};
@@ -54,8 +55,8 @@ fn read_text(
             Err(Fault::Refused(path, why)) => Err(ReadError::Refused(path, why)),
             Err(Fault::OutOfMemory) => Err(ReadError::OutOfMemory),
         },
-        Err(json::Error::Invalid) => Err(ReadError::NotJson),
-        Err(json::Error::DuplicateKey) => Err(ReadError::NameTwice),
+        Err(json::Error::Invalid) => Err(not_json(alloc, text)),
+        Err(json::Error::DuplicateKey) => Err(name_twice(alloc, text)),
         Err(_) => Err(ReadError::OutOfMemory),
     }
 }

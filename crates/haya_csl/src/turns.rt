@@ -10,6 +10,7 @@ ghost use Rattle.haya_csl.specs.Made.{IsErrorWith, IsMadeBut, IsMadeOf, IsMadeOf
 ghost use Rattle.haya_csl.specs.Made.{MakesEntry, TakesItem};
 ghost use Rattle.haya_csl.specs.Turns.{first_and_left, items_left};
 
+use crate::errors::{name_twice, not_json};
 use crate::items::read_item;
 use crate::unique::has_unique_names;
 use haya_json::reading::Fault;
@@ -47,7 +48,7 @@ pub(crate) fn read_list_text(
     ensures error { IfErr result (IsCslErrorOf text.now) }
 {
     match made_of(alloc, text, scratch) {
-        Ok(Some(made)) => match made.into_read() {
+        Ok(Some(made)) => match made.into_read(alloc, text) {
             Ok(read) => Ok(Some(read)),
             Err(error) => Err(error),
         },
@@ -69,14 +70,14 @@ fn made_of(alloc: Global, text: &str, scratch: &mut Scratch) -> Result<Option<Ma
     };
     let made = match read_items(alloc, &mut reader) {
         Ok(Some(made)) => made,
-        Ok(None) => return Err(ReadError::NotJson),
+        Ok(None) => return Err(not_json(alloc, text)),
         Err(_) => return Err(ReadError::OutOfMemory),
     };
     match reader.next() {
         None => Ok(Some(made)),
         Some(_) => {
             drop(made);
-            Err(ReadError::NotJson)
+            Err(not_json(alloc, text))
         }
     }
 }
@@ -194,14 +195,14 @@ impl Made {
         }
     }
 
-    // What is read in the end, where these were all items.
-    fn into_read(self) -> Result<(Library, Ignored), ReadError>
+    // What is read of the text in the end, where these were all its items.
+    fn into_read(self, alloc: Global, text: &str) -> Result<(Library, Ignored), ReadError>
         ensures library { IfOk result (λ read.
-            (text : List ℕ) → IsMadeOfText text self → DescribesAsCsl text read.0) }
+            IsMadeOfText text.now self → DescribesAsCsl text.now read.0) }
         ensures ignored { IfOk result (λ read.
-            (text : List ℕ) → IsMadeOfText text self → IsPassedOver text read.1) }
+            IsMadeOfText text.now self → IsPassedOver text.now read.1) }
         ensures error { IfErr result (λ e.
-            (text : List ℕ) → IsMadeOfText text self → IsCslErrorOf text e) }
+            IsMadeOfText text.now self → IsCslErrorOf text.now e) }
     {
         let Made {
             library,
@@ -212,7 +213,7 @@ impl Made {
         if !are_unique {
             // By a call: at an exit, the drop of a library is proved field by field.
             drop(library);
-            return Err(ReadError::NameTwice);
+            return Err(name_twice(alloc, text));
         }
         match fault {
             None => Ok((library, ignored)),

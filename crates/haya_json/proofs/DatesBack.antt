@@ -1,11 +1,9 @@
 -- Dates and addresses that are read from what is printed of them.
-use Rattle.std.proofs.Common.{◌≡◌, ℕ, ℤ, pos, Bool, true, false, List, [], ◌∷◌, Option, None, Some, Result, Ok, Err, refl, sym, ap, ◌∙◌}
-use Rattle.std.specs.Prelude.{codes, ok_or, if◌then◌else◌, unwrap_or, option_map, option_and_then, nat_eq, nat_lt, is_none, not, IfSome}
+use Rattle.std.proofs.Common.{◌≡◌, ℕ, pos, Bool, true, false, List, Option, None, Some, Ok, refl, sym, ap, ◌∙◌}
+use Rattle.std.specs.Prelude.{if◌then◌else◌, option_map, option_and_then, nat_eq, nat_lt, is_none, not, IfSome}
 use Rattle.std.specs.Option.{option_eq}
-use Rattle.std.specs.Ordering.{int_eq}
 use Rattle.std.specs.Result.{result_ok}
 use Rattle.std.specs.Str.{chars}
-use Rattle.std.specs.Fmt.{signed_decimal}
 use Rattle.std.specs.Cmp.{signed_Decides}
 use Rattle.std.proofs.lemmas.Bool.{eqb-true}
 use Rattle.json.specs.Json as json
@@ -16,9 +14,8 @@ use Rattle.haya_time.specs.declared.date.Date.{Date}
 use Rattle.haya_time.specs.declared.date.Season.{Season}
 use Rattle.haya_time.specs.declared.date.Season.TheVariants.{Spring, Summer, Autumn, Winter}
 use Rattle.haya_values.specs.Url.{UrlView}
-use Rattle.haya_json.specs.Refusal.{Refusal, within, and_then, to_member}
 use Rattle.haya_json.specs.Parts.{unless_null, optional_in, whole_of}
-use Rattle.haya_json.specs.Whole.{is_i32, season_of, whole_read}
+use Rattle.haya_json.specs.Whole.{season_of}
 use Rattle.haya_json.specs.Values.{byte_in, date_of, date_in, url_of}
 use Rattle.haya_json.specs.Printed.{byte_json, season_json, season_number, whole_json, date_parts, is_year, same_date, reads_as_date, date_json, url_json}
 use Rattle.haya_json.specs.Readable.{IsReadableDate, IsReadableUrl}

@@ -6,7 +6,6 @@ use Rattle.std.proofs.lemmas.Slice.Eq.{bytes_eq-Decides}
 use Rattle.json.specs.Json as json
 use Rattle.json.specs.Json.{Json, Items, Members}
 use Rattle.json.specs.Find.{is_null, get_member}
-use Rattle.haya_numbers.specs.PagesPrinted.{shown_pages}
 use Rattle.haya_time.specs.DurationPrint.{duration_text, range_text}
 use Rattle.haya_entry.specs.ParentTypes.{default_parent}
 use Rattle.haya_entry.specs.Tree.{Tree, Trees, Fields, node, no_trees, one_more, fields, trees, tree_list, with_parents, new_entry}
@@ -14,10 +13,10 @@ use Rattle.haya_entry.specs.declared.types.EntryType.{EntryType}
 use Rattle.haya_entry.specs.declared.types.EntryType.TheVariants.{Article, Chapter, Entry, Anthos, Report, Thesis, Web, Scene, Artwork, Patent, Case, Newspaper, Legislation, Manuscript, Post, Misc, Performance, Periodical, Proceedings, Book, Blog, Reference, Conference, Anthology, Repository, Thread, Video, Audio, Exhibition, Original}
 use Rattle.haya_json.specs.Refusal.{Refusal, and_then, within, to_member, to_item}
 use Rattle.haya_json.specs.Parts.{plain_of}
-use Rattle.haya_json.specs.Values.{format_of, person_of, persons_of, roles_of, affiliated_of, date_of, publisher_of, url_of, number_of, number_or_text_of, pages_or_text_of, range_or_text_of, duration_or_text_of, serials_of}
+use Rattle.haya_json.specs.Values.{format_of, persons_of, affiliated_of, date_of, publisher_of, url_of, number_of, number_or_text_of, pages_or_text_of, range_or_text_of, duration_or_text_of, serials_of}
 use Rattle.haya_json.specs.Entries.{type_of, type_among, key_among, with_member, entry_of, members_set, parents_of, parents_from}
 use Rattle.haya_json.specs.Libraries.{entries_of, library_of}
-use Rattle.haya_json.specs.Printed.{also, one_or_many_json, format_json, person_json, roles_json, date_json, publisher_json, url_json, typed_json, number_json, number_or_text_json, serial_json, type_json, field_members, json_of, parent_members, item_list, library_members, library_json}
+use Rattle.haya_json.specs.Printed.{also, one_or_many_json, format_json, person_json, roles_json, date_json, publisher_json, url_json, pages_json, typed_json, number_json, number_or_text_json, serial_json, type_json, field_members, json_of, parent_members, item_list, library_members, library_json}
 use Rattle.haya_json.proofs.Solids.{RefusesNull, solid, format_of_null, persons_of_null, affiliated_of_null, date_of_null, publisher_of_null, url_of_null, number_of_null, number_or_text_of_null, pages_or_text_of_null, range_or_text_of_null, duration_or_text_of_null, serials_of_null, plain_of_null}
 use Rattle.haya_json.specs.ReadBack.{IsBack, FieldsAreBack, TreeIsBack, TreesAreBack, EntriesAreBack}
 
@@ -258,10 +257,10 @@ module _ (key : List ℕ) (default : Option EntryType) (kind : EntryType) where
   page_total_step o ms f none back =
       step (codes "page-total") number_of number_json (λ x. record f { page_total = x }) o ms f number_of_null (λ j ps nn. rw nn refl) (ap (λ x. record f { page_total = x }) (sym none)) back
 
-  page_range_step : (o : Option _) (ms : Members) (f : Fields) → f.page_range ≡ None → IsBack pages_or_text_of (typed_json shown_pages) o
-      → members_set key default kind (also (codes "page-range") (typed_json shown_pages) o ms) (node f no_trees) ≡ members_set key default kind ms (node (record f { page_range = o }) no_trees)
+  page_range_step : (o : Option _) (ms : Members) (f : Fields) → f.page_range ≡ None → IsBack pages_or_text_of pages_json o
+      → members_set key default kind (also (codes "page-range") pages_json o ms) (node f no_trees) ≡ members_set key default kind ms (node (record f { page_range = o }) no_trees)
   page_range_step o ms f none back =
-      step (codes "page-range") pages_or_text_of (typed_json shown_pages) (λ x. record f { page_range = x }) o ms f pages_or_text_of_null (λ j ps nn. rw nn refl) (ap (λ x. record f { page_range = x }) (sym none)) back
+      step (codes "page-range") pages_or_text_of pages_json (λ x. record f { page_range = x }) o ms f pages_or_text_of_null (λ j ps nn. rw nn refl) (ap (λ x. record f { page_range = x }) (sym none)) back
 
   time_range_step : (o : Option _) (ms : Members) (f : Fields) → f.time_range ≡ None → IsBack range_or_text_of (typed_json range_text) o
       → members_set key default kind (also (codes "time-range") (typed_json range_text) o ms) (node f no_trees) ≡ members_set key default kind ms (node (record f { time_range = o }) no_trees)

@@ -6,14 +6,13 @@ use Rattle.json.specs.Json as json
 use Rattle.json.specs.Json.{Json, Items, Members}
 use Rattle.json.specs.Find.{is_null}
 use Rattle.haya_entry.specs.ParentTypes.{default_parent}
-use Rattle.haya_entry.specs.Tree.{Tree, Trees, node, no_trees, one_more, fields, parents, tree_list, trees, new_entry, with_parents}
+use Rattle.haya_entry.specs.Tree.{Tree, Trees, node, no_trees, one_more, fields, tree_list, trees, new_entry, with_parents}
 use Rattle.haya_entry.specs.declared.types.EntryType.{EntryType}
 use Rattle.haya_json.specs.Refusal.{Refusal, within, and_then, to_member, to_item}
 use Rattle.haya_json.specs.Parts.{plain_of}
 use Rattle.haya_json.specs.Fields.{with_field}
 use Rattle.haya_json.specs.Entries.{Default, type_among, key_among, with_member, entry_of, members_set, parents_of, parents_from}
 use Rattle.haya_json.specs.Libraries.{entries_of, library_of}
-use Rattle.haya_json.specs.Kept.{TreeIsKept, TreesAreKept, EntriesAreKept}
 use Rattle.haya_json.specs.Readable.{TreeIsReadable, TreesAreReadable, EntriesAreReadable}
 use Rattle.haya_json.proofs.FieldsRead.{FieldsWereRead, Kept, field_read, fields_readable, none_read}
 use Rattle.haya_json.proofs.TextsRead.{HasTexts, ItemsHaveTexts, MembersHaveTexts, both_ok, ok_same, within_ok}
@@ -32,16 +31,16 @@ EntriesWereRead [] = Unit {0}
 EntriesWereRead (t ∷ ts) = TreeWasRead t × EntriesWereRead ts
 
 mutual
-  tree_readable : (t : Tree) → TreeWasRead t → TreeIsKept t → TreeIsReadable t
-  tree_readable (node f ps) r k = (fields_readable f r.0 k.0, trees_readable ps r.1 k.1)
+  tree_readable : (t : Tree) → TreeWasRead t → TreeIsReadable t
+  tree_readable (node f ps) r = (fields_readable f r.0, trees_readable ps r.1)
 
-  trees_readable : (ts : Trees) → TreesWereRead ts → TreesAreKept ts → TreesAreReadable ts
-  trees_readable no_trees r k = tt
-  trees_readable (one_more t ts) r k = (tree_readable t r.0 k.0, trees_readable ts r.1 k.1)
+  trees_readable : (ts : Trees) → TreesWereRead ts → TreesAreReadable ts
+  trees_readable no_trees r = tt
+  trees_readable (one_more t ts) r = (tree_readable t r.0, trees_readable ts r.1)
 
-pub entries_readable : (ts : List Tree) → EntriesWereRead ts → EntriesAreKept ts → EntriesAreReadable ts
-entries_readable [] r k = tt
-entries_readable (t ∷ ts) r k = (tree_readable t r.0 k.0, entries_readable ts r.1 k.1)
+pub entries_readable : (ts : List Tree) → EntriesWereRead ts → EntriesAreReadable ts
+entries_readable [] r = tt
+entries_readable (t ∷ ts) r = (tree_readable t r.0, entries_readable ts r.1)
 
 -- ---- parents
 

@@ -1,29 +1,22 @@
 -- Entries whose values are as their types say are read from what is printed of them.
-use Rattle.std.proofs.Common.{◌≡◌, ℕ, List, [], ◌∷◌, Option, None, Some, Ok, refl}
+use Rattle.std.proofs.Common.{◌≡◌, List, [], ◌∷◌, Option, None, Some, Ok, refl}
 use Rattle.std.specs.Prelude.{IfSome}
-use Rattle.std.specs.List.{AllByRecursion}
 use Rattle.std.specs.Result.{result_ok}
 use Rattle.std.specs.Str.{chars}
-use Rattle.json.specs.Json as json
-use Rattle.haya_numbers.specs.Pages.{PartView}
-use Rattle.haya_numbers.specs.PagesPrinted.{shown_pages}
-use Rattle.haya_numbers.specs.PagesReading.{pages_read}
 use Rattle.haya_time.specs.DurationPrint.{duration_text, range_text}
 use Rattle.haya_time.specs.DurationReading.{duration_read, range_read}
 use Rattle.haya_time.specs.declared.duration.Duration.{Duration}
 use Rattle.haya_time.specs.declared.duration.range.DurationRange.{DurationRange}
-use Rattle.haya_people.specs.Person.{PersonView}
 use Rattle.haya_values.specs.MaybeTyped.{TypedOrText}
 use Rattle.haya_entry.specs.Tree.{Tree, Trees, Fields, node, no_trees, one_more}
-use Rattle.haya_json.specs.Parts.{plain_of}
-use Rattle.haya_json.specs.Values.{persons_of, pages_or_text_of, range_or_text_of, duration_or_text_of}
-use Rattle.haya_json.specs.Printed.{one_or_many_json, person_json, typed_json}
-use Rattle.haya_json.specs.ReadBack.{IsBack, FieldsAreBack, TreeIsBack, TreesAreBack, EntriesAreBack}
-use Rattle.haya_json.specs.Readable.{IsReadableText, IsReadablePublisher, HasNamedRole, IsReadableDate, IsReadableUrl, IsReadableNumber, IsReadableNumberOrText, IsReadableTyped, AreInOrder, FieldsAreReadable, TreeIsReadable, TreesAreReadable, EntriesAreReadable}
+use Rattle.haya_json.specs.Values.{range_or_text_of, duration_or_text_of}
+use Rattle.haya_json.specs.Printed.{typed_json}
+use Rattle.haya_json.specs.ReadBack.{FieldsAreBack, TreeIsBack, TreesAreBack, EntriesAreBack}
+use Rattle.haya_json.specs.Readable.{IsReadableTyped, FieldsAreReadable, TreeIsReadable, TreesAreReadable, EntriesAreReadable}
 use Rattle.haya_json.proofs.PersonsBack.{persons_back, affiliated_back}
 use Rattle.haya_json.proofs.DatesBack.{date_back, url_back}
 use Rattle.haya_json.proofs.TextsBack.{format_back, publisher_back}
-use Rattle.haya_json.proofs.NumbersBack.{number_back, number_or_text_back, typed_back}
+use Rattle.haya_json.proofs.NumbersBack.{number_back, number_or_text_back, pages_back, typed_back}
 use Rattle.haya_json.proofs.SerialsBack.{serials_back}
 
 pub weaken : {V : Type 0} (P Q : V → Type 0) (o : Option V) → ((v : V) → P v → Q v) → IfSome o P → IfSome o Q
@@ -33,10 +26,6 @@ weaken P Q (Some v) f h = f v h
 pub always : {V : Type 0} (Q : V → Type 0) (o : Option V) → ((v : V) → Q v) → IfSome o Q
 always Q None f = tt
 always Q (Some v) f = f v
-
-pages_back : (v : TypedOrText (List PartView)) → IsReadableTyped (λ text. result_ok (pages_read (chars text))) shown_pages v → pages_or_text_of (typed_json shown_pages v) ≡ Ok v
-unfolding pages_or_text_of typed_json
-pages_back v h = typed_back (λ text. result_ok (pages_read (chars text))) shown_pages v h
 
 range_back : (v : TypedOrText DurationRange) → IsReadableTyped (λ text. result_ok (range_read (chars text))) range_text v → range_or_text_of (typed_json range_text v) ≡ Ok v
 unfolding range_or_text_of typed_json

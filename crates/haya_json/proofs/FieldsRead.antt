@@ -1,5 +1,5 @@
 -- The fields of entries that were read.
-use Rattle.std.proofs.Common.{◌≡◌, ℕ, Bool, true, false, List, [], ◌∷◌, Option, None, Some, Result, Ok, refl, subst, cond}
+use Rattle.std.proofs.Common.{◌≡◌, ℕ, Bool, true, false, List, [], ◌∷◌, Some, Result, Ok, refl, subst, cond}
 use Rattle.std.specs.Prelude.{IfSome, is_some, unwrap_or, if◌then◌else◌}
 use Rattle.std.specs.List.{AllByRecursion}
 use Rattle.std.specs.Map.{lookup}
@@ -7,21 +7,17 @@ use Rattle.std.specs.Str.{bytes_eq}
 use Rattle.json.specs.Json.{Json}
 use Rattle.haya_entry.specs.Tree.{Tree, Fields, node, fields, parents, no_fields}
 use Rattle.haya_entry.specs.declared.types.EntryType.{EntryType}
-use Rattle.haya_numbers.specs.NumericBack.{is_kept}
-use Rattle.haya_numbers.specs.PagesBack.{are_kept}
 use Rattle.haya_json.specs.Refusal.{Refusal, refused}
 use Rattle.haya_json.specs.Parts.{plain_of}
 use Rattle.haya_json.specs.Values.{format_of, persons_of, affiliated_of, date_of, publisher_of, url_of, number_of, number_or_text_of, pages_or_text_of, range_or_text_of, duration_or_text_of, serials_of}
 use Rattle.haya_json.specs.Fields.{Setter, field_setter, serial_setter, passing_over, setter_in, number_table, text_table, field_table, with_field}
-use Rattle.haya_json.specs.Kept.{IsKeptTyped, FieldsAreKept}
-use Rattle.haya_json.specs.Readable.{IsReadableText, IsReadablePublisher, HasNamedRole, IsReadableDate, IsReadableUrl, IsReadableNumber, IsReadableNumberOrText, AreInOrder, FieldsAreReadable}
+use Rattle.haya_json.specs.Readable.{AreReadablePages, IsReadableText, IsReadablePublisher, HasNamedRole, IsReadableDate, IsReadableUrl, IsReadableNumber, IsReadableNumberOrText, AreInOrder, FieldsAreReadable}
 use Rattle.haya_json.specs.declared.fault.Why.TheVariants.{Twice}
 use Rattle.haya_json.proofs.SerialsRead.{serials_read_again}
 use Rattle.haya_json.proofs.TextsRead.{HasTexts, both_ok, ok_same}
-use Rattle.haya_json.proofs.ValuesRead.{ReadAgain, ReadablePages, ReadableDuration, ReadableRange, format_read_again, publisher_read_again, affiliated_read_again, date_read_again, url_read_again, number_read_again, number_or_text_read_again, pages_read_again, duration_read_again, range_read_again}
+use Rattle.haya_json.proofs.ValuesRead.{ReadAgain, ReadableDuration, ReadableRange, format_read_again, publisher_read_again, affiliated_read_again, date_read_again, url_read_again, number_read_again, number_or_text_read_again, pages_read_again, duration_read_again, range_read_again}
 
--- Each field is as its type says, numbers and pages where they are kept. Texts, people and numbers
--- stand apart.
+-- each field is as its type says; texts, people and numbers stand apart
 abbrev pub TextsWereRead : Fields → Type 0
 TextsWereRead f =
     IfSome f.title IsReadableText
@@ -43,13 +39,13 @@ PeopleWereRead f =
 
 abbrev pub NumbersWereRead : Fields → Type 0
 NumbersWereRead f =
-    IfSome f.issue (λ v. IsKeptTyped is_kept v → IsReadableNumberOrText v)
-    × IfSome f.chapter (λ v. IsKeptTyped is_kept v → IsReadableNumberOrText v)
-    × IfSome f.volume (λ v. IsKeptTyped is_kept v → IsReadableNumberOrText v)
-    × IfSome f.edition (λ v. IsKeptTyped is_kept v → IsReadableNumberOrText v)
-    × IfSome f.volume_total (λ n. is_kept n ≡ true → IsReadableNumber n)
-    × IfSome f.page_total (λ n. is_kept n ≡ true → IsReadableNumber n)
-    × IfSome f.page_range (λ v. IsKeptTyped are_kept v → ReadablePages v)
+    IfSome f.issue IsReadableNumberOrText
+    × IfSome f.chapter IsReadableNumberOrText
+    × IfSome f.volume IsReadableNumberOrText
+    × IfSome f.edition IsReadableNumberOrText
+    × IfSome f.volume_total IsReadableNumber
+    × IfSome f.page_total IsReadableNumber
+    × IfSome f.page_range AreReadablePages
     × IfSome f.time_range ReadableRange
     × IfSome f.runtime ReadableDuration
 
@@ -59,12 +55,8 @@ pub record FieldsWereRead (f : Fields) : Type 0 where
   pub numbers : NumbersWereRead f
   pub serial_number : IfSome f.serial_number (AreInOrder [])
 
-where_kept : {V : Type 0} (K R : V → Type 0) (o : Option V) → IfSome o K → IfSome o (λ v. K v → R v) → IfSome o R
-where_kept K R None k r = tt
-where_kept K R (Some v) k r = r k
-
-pub fields_readable : (f : Fields) → FieldsWereRead f → FieldsAreKept f → FieldsAreReadable f
-fields_readable f r k = record {
+pub fields_readable : (f : Fields) → FieldsWereRead f → FieldsAreReadable f
+fields_readable f r = record {
   title = r.texts.0;
   location = r.texts.1;
   organization = r.texts.2;
@@ -78,13 +70,13 @@ fields_readable f r k = record {
   date = r.people.1;
   publisher = r.people.2;
   url = r.people.3;
-  issue = where_kept (IsKeptTyped is_kept) IsReadableNumberOrText f.issue k.issue r.numbers.0;
-  chapter = where_kept (IsKeptTyped is_kept) IsReadableNumberOrText f.chapter k.chapter r.numbers.1;
-  volume = where_kept (IsKeptTyped is_kept) IsReadableNumberOrText f.volume k.volume r.numbers.2;
-  edition = where_kept (IsKeptTyped is_kept) IsReadableNumberOrText f.edition k.edition r.numbers.3;
-  volume_total = where_kept (λ n. is_kept n ≡ true) IsReadableNumber f.volume_total k.volume_total r.numbers.4;
-  page_total = where_kept (λ n. is_kept n ≡ true) IsReadableNumber f.page_total k.page_total r.numbers.5;
-  page_range = where_kept (IsKeptTyped are_kept) ReadablePages f.page_range k.page_range r.numbers.6;
+  issue = r.numbers.0;
+  chapter = r.numbers.1;
+  volume = r.numbers.2;
+  edition = r.numbers.3;
+  volume_total = r.numbers.4;
+  page_total = r.numbers.5;
+  page_range = r.numbers.6;
   time_range = r.numbers.7;
   runtime = r.numbers.8;
   serial_number = r.serial_number;

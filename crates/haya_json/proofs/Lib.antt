@@ -27,4 +27,5 @@ mod LibraryRead
 mod TextsParsed
 mod TokensParsed
 mod NamedRead
+mod Positions
 mod LawsBelow

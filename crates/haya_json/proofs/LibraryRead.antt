@@ -7,7 +7,6 @@ use Rattle.json.specs.Strict.{HasUniqueKeys}
 use Rattle.json.specs.Tree.{depth as nesting}
 use Rattle.haya_entry.specs.Tree.{Tree}
 use Rattle.hayagriva.specs.Library.{AreDistinct}
-use Rattle.haya_json.specs.Kept.{EntriesAreKept}
 use Rattle.haya_json.specs.Libraries.{Describes, library_of}
 use Rattle.haya_json.specs.Printed.{library_json}
 use Rattle.haya_json.specs.ReadBack.{ReadsBack}
@@ -26,7 +25,7 @@ distinct_keys (json.number s) library unique is = cc
 distinct_keys (json.string s) library unique is = cc
 distinct_keys (json.array js) library unique is = cc
 
-pub read_again : ReadAgain → (text : List ℕ) (library : List Tree) → IsUtf8 text → Describes text library → EntriesAreKept library → nesting (library_json library) ≤ max_depth → ReadsBack library
-read_again again text library utf8 d kept shallow =
+pub read_again : ReadAgain → (text : List ℕ) (library : List Tree) → IsUtf8 text → Describes text library → nesting (library_json library) ≤ max_depth → ReadsBack library
+read_again again text library utf8 d shallow =
     let read = library_read again d.value library (document_texts text d.value utf8 d.parsed) d.read in
-    described library (says_itself library (entries_readable library read kept) (distinct_keys d.value library d.unique d.read) shallow)
+    described library (says_itself library (entries_readable library read) (distinct_keys d.value library d.unique d.read) shallow)

@@ -1,20 +1,18 @@
 -- Every person is read from what is printed.
-use Rattle.std.proofs.Common.{◌≡◌, ℕ, ◌+◌, Bool, true, false, List, [], ◌∷◌, Option, None, Some, Result, Ok, Err, refl, sym, ap, ◌∙◌}
-use Rattle.std.specs.Prelude.{codes, ok_or, if◌then◌else◌, unwrap_or, option_map}
+use Rattle.std.proofs.Common.{◌≡◌, ℕ, Bool, true, false, List, [], ◌∷◌, Option, None, Some, Ok, refl, ap, ◌∙◌}
+use Rattle.std.specs.Prelude.{if◌then◌else◌}
 use Rattle.std.specs.Result.{result_ok}
 use Rattle.std.proofs.lemmas.Slice.Eq.{bytes_eq-Decides}
 use Rattle.json.specs.Json as json
 use Rattle.json.specs.Json.{Json, Items}
 use Rattle.haya_people.specs.Person.{PersonView}
 use Rattle.haya_people.specs.Reading.{person_read}
-use Rattle.haya_json.specs.Refusal.{Refusal, here, within, and_then, to_member, to_item}
-use Rattle.haya_json.specs.Parts.{plain_of, items_of, one_or_many, needed, optional, flag, unless_null, optional_in, needed_in, truth_of}
 use Rattle.haya_json.specs.Values.{person_of, person_in, persons_of, role_of, roles_of, affiliated_of}
-use Rattle.haya_json.specs.Printed.{also, also_true, array_of, one_or_many_json, person_json, person_parts, person_text, roles_json, same_person, reads_as_person}
+use Rattle.haya_json.specs.Printed.{one_or_many_json, person_json, person_parts, person_text, roles_json, same_person, reads_as_person}
 use Rattle.haya_json.specs.Readable.{HasNamedRole}
 use Rattle.haya_json.proofs.Looked.{get_also, get_also_true, true_back, nothing_earlier, text_optional, both_are, same_texts, same_truths, is_alone, EachBack, each_back, many_back}
 use Rattle.haya_json.proofs.Solids.{solid, persons_of_null}
-use Rattle.haya_people.specs.Roles.{RolesView, role_name, role_read, role_view}
+use Rattle.haya_people.specs.Roles.{RolesView}
 use Rattle.std.specs.List.{AllByRecursion}
 
 same_persons : (p q : PersonView) → same_person p q ≡ true → p ≡ q

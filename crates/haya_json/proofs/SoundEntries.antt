@@ -1,5 +1,5 @@
 -- What is printed of a library whose values are as their types say can be read as JSON.
-use Rattle.std.proofs.Common.{◌≡◌, ◌≢◌, ◌≤◌, ℕ, Bool, true, List, [], ◌∷◌, Option, None, Some, refl, sym, ap, ◌∙◌, subst}
+use Rattle.std.proofs.Common.{◌≡◌, ◌≢◌, ◌≤◌, ℕ, List, [], ◌∷◌, Option, None, Some, refl, sym, ap, subst}
 use Rattle.std.specs.Prelude.{codes, map, IfSome}
 use Rattle.std.specs.List.{AllPairs}
 use Rattle.json.specs.Json as json
@@ -7,17 +7,16 @@ use Rattle.json.specs.Json.{Json, Items, Members, max_depth}
 use Rattle.json.specs.Strict.{keys}
 use Rattle.json.specs.Tree.{depth as nesting}
 use Rattle.haya_text.specs.Texts.{TextView}
-use Rattle.haya_numbers.specs.PagesPrinted.{shown_pages}
 use Rattle.haya_time.specs.DurationPrint.{duration_text, range_text}
-use Rattle.haya_entry.specs.Tree.{Tree, Trees, Fields, node, no_trees, one_more, fields}
+use Rattle.haya_entry.specs.Tree.{Tree, Trees, Fields, node, no_trees, one_more}
 use Rattle.haya_entry.specs.declared.types.EntryType.{EntryType}
 use Rattle.hayagriva.specs.Library.{key_of, AreDistinct}
-use Rattle.haya_json.specs.Printed.{also, one_or_many_json, format_json, person_json, roles_json, date_json, publisher_json, url_json, typed_json, number_json, number_or_text_json, serial_json, type_json, key_of_its_own, field_members, json_of, parent_members, item_list, library_members, library_json}
+use Rattle.haya_json.specs.Printed.{one_or_many_json, format_json, person_json, roles_json, date_json, publisher_json, url_json, pages_json, typed_json, number_json, number_or_text_json, serial_json, type_json, key_of_its_own, field_members, json_of, parent_members, item_list, library_members, library_json}
 use Rattle.haya_json.specs.ReadBack.{SaysItself}
 use Rattle.haya_json.specs.Readable.{FieldsAreReadable, TreeIsReadable, TreesAreReadable, EntriesAreReadable}
 use Rattle.haya_json.proofs.EntriesBack.{library_back}
 use Rattle.haya_json.proofs.FieldsBack.{weaken, always, entries_back}
-use Rattle.haya_json.proofs.Sounds.{IsSound, MembersAreSound, ItemsAreSound, among_none, among_gone, Built, built_none, built_one, built_also, object_sound, text_sound, format_sound, persons_sound, affiliated_sound, date_sound, publisher_sound, url_sound, number_sound, number_or_text_sound, typed_sound, serial_sound}
+use Rattle.haya_json.proofs.Sounds.{IsSound, MembersAreSound, ItemsAreSound, among_none, among_gone, Built, built_none, built_one, built_also, object_sound, text_sound, format_sound, persons_sound, affiliated_sound, date_sound, publisher_sound, url_sound, number_sound, number_or_text_sound, pages_sound, typed_sound, serial_sound}
 
 -- the names of the fields, and then these
 abbrev field_names : List (List ℕ) → List (List ℕ)
@@ -49,7 +48,7 @@ built_fields f r rest =
     (built_also (codes "edition") number_or_text_json f.edition (weaken _ (λ v. IsSound (number_or_text_json v)) f.edition number_or_text_sound r.edition)
     (built_also (codes "volume-total") number_json f.volume_total (weaken _ (λ v. IsSound (number_json v)) f.volume_total number_sound r.volume_total)
     (built_also (codes "page-total") number_json f.page_total (weaken _ (λ v. IsSound (number_json v)) f.page_total number_sound r.page_total)
-    (built_also (codes "page-range") (typed_json shown_pages) f.page_range (always (λ v. IsSound ((typed_json shown_pages) v)) f.page_range (typed_sound shown_pages))
+    (built_also (codes "page-range") pages_json f.page_range (weaken _ (λ v. IsSound (pages_json v)) f.page_range pages_sound r.page_range)
     (built_also (codes "time-range") (typed_json range_text) f.time_range (always (λ v. IsSound ((typed_json range_text) v)) f.time_range (typed_sound range_text))
     (built_also (codes "runtime") (typed_json duration_text) f.runtime (always (λ v. IsSound ((typed_json duration_text) v)) f.runtime (typed_sound duration_text))
     (built_also (codes "serial-number") serial_json f.serial_number (weaken _ (λ v. IsSound (serial_json v)) f.serial_number serial_sound r.serial_number)

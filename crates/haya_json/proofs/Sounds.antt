@@ -1,8 +1,7 @@
 -- What is printed of values can be read as JSON: numbers are numbers, and no object has a member
 -- twice.
 use Rattle.std.proofs.Common.{◌≡◌, ◌∷◌, ℕ, ℤ, pos, Bool, true, false, ◌&&◌, not, List, [], ◌++◌, Option, None, Some, refl, sym, ap, ◌∙◌, subst, append_assoc}
-use Rattle.std.specs.Prelude.{⊤, codes, if◌then◌else◌, map, IfSome, nat_lt, is_some}
-use Rattle.std.specs.BTreeMap.{insert_entry}
+use Rattle.std.specs.Prelude.{codes, if◌then◌else◌, map, IfSome, nat_lt}
 use Rattle.std.specs.Cmp.Lexicographic.{slice_cmp, nat_list_eq_equiv}
 use Rattle.std.specs.List.{AllByRecursion, IsDistinct}
 use Rattle.std.specs.Ordering.{nat_cmp, is_eq}
@@ -13,7 +12,7 @@ use Rattle.std.proofs.lemmas.Map.Text.{is_eq-slice_cmp}
 use Rattle.std.proofs.lemmas.Slice.Eq.{bytes_eq-Decides}
 use Rattle.json.specs.Json as json
 use Rattle.json.specs.Json.{Json, Items, Members}
-use Rattle.json.specs.Strict.{AreDistinct, HasUniqueKeys, ItemsHaveUniqueKeys, MembersHaveUniqueKeys, keys}
+use Rattle.json.specs.Strict.{HasUniqueKeys, ItemsHaveUniqueKeys, MembersHaveUniqueKeys, keys}
 use Rattle.json.specs.Tree.{HasNumbers, ItemsHaveNumbers, MembersHaveNumbers}
 use Rattle.json.proofs.Printed.Decimals.{IsNumber-signed_decimal}
 use Rattle.haya_text.specs.Chunks.{Chunk}
@@ -25,13 +24,14 @@ use Rattle.haya_time.specs.declared.date.Season.TheVariants.{Spring, Summer, Aut
 use Rattle.haya_people.specs.Person.{PersonView}
 use Rattle.haya_people.specs.Roles.{RolesView, role_name}
 use Rattle.haya_numbers.specs.Numeric.{NumericView, single_number}
+use Rattle.haya_numbers.specs.Pages.{PartView}
 use Rattle.haya_values.specs.MaybeTyped.{TypedOrText, Typed, Text}
 use Rattle.haya_values.specs.Publisher.{PublisherView}
 use Rattle.haya_values.specs.Url.{UrlView}
 use Rattle.haya_entry.specs.SerialNumber.{Serials}
 use Rattle.haya_json.specs.Whole.{is_i32}
-use Rattle.haya_json.specs.Printed.{also, also_true, array_of, one_or_many_json, chunks_json, format_json, forms_json, person_json, person_parts, person_text, reads_as_person, roles_json, whole_json, byte_json, season_json, season_number, date_json, date_parts, is_year, reads_as_date, publisher_json, publisher_parts, url_json, number_json, number_or_text_json, typed_json, serial_json, serial_members}
-use Rattle.haya_json.specs.Readable.{IsReadableDate, IsReadableUrl, IsReadableNumber, IsReadableNumberOrText, ComesBehind, AreInOrder}
+use Rattle.haya_json.specs.Printed.{also, also_true, array_of, one_or_many_json, chunks_json, format_json, forms_json, person_json, person_parts, person_text, reads_as_person, roles_json, whole_json, byte_json, season_json, date_json, date_parts, is_year, reads_as_date, publisher_json, publisher_parts, url_json, number_json, number_or_text_json, page_below_zero, pages_json, typed_json, serial_json, serial_members}
+use Rattle.haya_json.specs.Readable.{AreReadablePages, IsReadableDate, IsReadableUrl, IsReadableNumber, IsReadableNumberOrText, ComesBehind, AreInOrder}
 use Rattle.haya_json.proofs.FieldsBack.{weaken, always}
 use Rattle.haya_json.proofs.Wholes.{small, byte_fits}
 
@@ -253,6 +253,15 @@ pub number_or_text_sound : (v : TypedOrText NumericView) → IsReadableNumberOrT
 unfolding number_or_text_json
 number_or_text_sound (Typed n) r = number_sound n r
 number_or_text_sound (Text text) r = (tt, tt)
+
+pub pages_sound : (v : TypedOrText (List PartView)) → AreReadablePages v → IsSound (pages_json v)
+unfolding pages_json
+pages_sound (Text text) r = (tt, tt)
+pages_sound (Typed ps) r = by (page_below_zero ps) refl
+  where
+    by : (o : Option ℤ) → page_below_zero ps ≡ o → IsSound (pages_json (Typed ps))
+    by None is = rw is (tt, tt)
+    by (Some z) is = let fits = rw is at r in rw is (whole_sound z fits)
 
 pub typed_sound : {V : Type 0} (show : V → List ℕ) (v : TypedOrText V) → IsSound (typed_json show v)
 unfolding typed_json

@@ -1,12 +1,12 @@
 -- A name that comes once more, and all names that come in turn.
-use Rattle.std.proofs.Common.{◌≡◌, ◌||◌, true≢false, ℕ, ◌+◌, ◌^◌, ◌-◌, min, Bool, true, false, cond, not, List, [], ◌∷◌, ◌++◌, Option, None, Some, map, filter, fold, refl, sym, ap, subst, ◌∙◌, append_assoc, zero-add, if◌then◌else◌, arith, rules}
-use Rattle.std.specs.Prelude.{String, string_bytes, unwrap_or, count_by, sum_by}
+use Rattle.std.proofs.Common.{◌≡◌, ◌||◌, true≢false, ℕ, ◌+◌, Bool, true, false, cond, not, List, [], ◌∷◌, ◌++◌, None, Some, map, filter, refl, sym, ap, subst, ◌∙◌, append_assoc, zero-add, if◌then◌else◌, arith}
+use Rattle.std.specs.Prelude.{String, string_bytes, unwrap_or, count_by}
 use Rattle.std.specs.List.{AllByRecursion, IsDistinct, list_any}
 use Rattle.std.specs.Map.{lookup}
 use Rattle.std.specs.Str.{bytes_eq}
 use Rattle.std.specs.String.{string_eq}
 use Rattle.std.specs.Cmp.Lexicographic.{nat_list_eq_equiv}
-use Rattle.std.proofs.lemmas.List.{map-append, append-nil}
+use Rattle.std.proofs.lemmas.List.{append-nil}
 use Rattle.std.proofs.lemmas.List.Elements.{filter-append}
 use Rattle.std.proofs.lemmas.List.Sums.{sum_by-append}
 use Rattle.std.proofs.lemmas.Slice.Eq.{bytes_eq-Decides}

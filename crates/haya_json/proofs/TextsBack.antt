@@ -1,17 +1,11 @@
 -- Texts and publishers that are read from what is printed of them.
-use Rattle.std.proofs.Common.{◌≡◌, ℕ, Bool, true, false, List, [], ◌∷◌, Option, None, Some, Result, Ok, Err, refl, sym, ap, ◌∙◌}
-use Rattle.std.specs.Prelude.{codes, ok_or, if◌then◌else◌, option_map, IfSome}
-use Rattle.json.specs.Json as json
-use Rattle.json.specs.Json.{Json}
+use Rattle.std.proofs.Common.{◌≡◌, List, Option, None, Some, Ok, refl}
+use Rattle.std.specs.Prelude.{IfSome}
 use Rattle.haya_text.specs.Chunks.{Chunk}
-use Rattle.haya_text.specs.Printing.{to_serialized}
-use Rattle.haya_text.specs.Reading.{chunks_read}
-use Rattle.haya_text.specs.Texts.{TextView, text_read}
-use Rattle.haya_values.specs.Publisher.{PublisherView, publisher_named}
-use Rattle.haya_json.specs.Refusal.{Refusal, here, within, and_then, to_member}
+use Rattle.haya_text.specs.Texts.{TextView}
+use Rattle.haya_values.specs.Publisher.{PublisherView}
 use Rattle.haya_json.specs.Values.{format_of, chunks_of, publisher_of}
-use Rattle.haya_json.specs.Printed.{chunks_json, format_json, publisher_json}
-use Rattle.haya_json.specs.declared.fault.Why.TheVariants.{NotChunks}
+use Rattle.haya_json.specs.Printed.{format_json, publisher_json}
 use Rattle.haya_json.specs.Readable.{AreReadable, IsReadableText, IsReadablePublisher}
 use Rattle.haya_json.proofs.Solids.{solid, format_of_null}
 

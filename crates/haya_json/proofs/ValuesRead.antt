@@ -1,5 +1,5 @@
 -- Values that were read are as their types say can be read again.
-use Rattle.std.proofs.Common.{◌≡◌, ℕ, ℤ, pos, negsuc, Bool, true, false, nat_lt, ◌&&◌, List, [], ◌∷◌, Option, None, Some, Result, Ok, Err, refl, sym, ap, subst, cond, IsUtf8}
+use Rattle.std.proofs.Common.{◌≡◌, ℕ, ◌^◌, ℤ, pos, negsuc, Bool, true, false, nat_lt, ◌&&◌, List, [], ◌∷◌, Option, None, Some, Result, Ok, Err, refl, ap, subst, cond, IsUtf8}
 use Rattle.std.specs.Prelude.{codes, option_map, option_and_then, if◌then◌else◌}
 use Rattle.std.specs.List.{AllByRecursion}
 use Rattle.std.specs.Result.{result_ok}
@@ -12,11 +12,12 @@ use Rattle.haya_text.specs.Chunks.{Chunk}
 use Rattle.haya_text.specs.Reading.{chunks_read}
 use Rattle.haya_text.specs.Texts.{TextView, text_read as format_read, without_short}
 use Rattle.haya_numbers.specs.Numeric.{NumericView, single_number}
-use Rattle.haya_numbers.specs.NumericPrinted.{shown_numeric}
 use Rattle.haya_numbers.specs.NumericReading.{numeric_read}
-use Rattle.haya_numbers.specs.Pages.{PartView, page_of}
-use Rattle.haya_numbers.specs.PagesPrinted.{shown_pages}
+use Rattle.haya_numbers.specs.NumericRoundTrip.{round_trip_text}
+use Rattle.haya_numbers.specs.Pages.{PartView, Ampersand, Comma, EscapedRange, SinglePage, Range, page_of}
+use Rattle.haya_numbers.specs.PagesBack.{is_from_zero}
 use Rattle.haya_numbers.specs.PagesReading.{pages_read}
+use Rattle.haya_numbers.specs.PagesRoundTrip as again_pages
 use Rattle.haya_people.specs.Roles.{RolesView, RoleView, role_name, role_read, role_view}
 use Rattle.haya_people.specs.declared.role.PersonRole.{PersonRole}
 use Rattle.haya_time.specs.DateReading.{date_read}
@@ -28,14 +29,12 @@ use Rattle.haya_time.specs.declared.duration.range.DurationRange.{DurationRange}
 use Rattle.haya_values.specs.MaybeTyped.{TypedOrText, Typed, Text, typed_or_text}
 use Rattle.haya_values.specs.Publisher.{PublisherView, publisher_named, publisher_read}
 use Rattle.haya_values.specs.Url.{UrlView, undated}
-use Rattle.haya_numbers.specs.NumericBack.{is_kept}
-use Rattle.haya_numbers.specs.PagesBack.{are_kept}
 use Rattle.haya_json.specs.Refusal.{Refusal, refused, and_then}
 use Rattle.haya_json.specs.Parts.{plain_of, read_by, whole_of, is_object, needed, optional, flag}
 use Rattle.haya_json.specs.Whole.{is_i32, is_numeral, whole_read, byte_of}
 use Rattle.haya_json.specs.Values.{verbatim_text, verbatim_of, marked_of, chunks_in, chunks_of, forms_in, format_of, role_of, roles_in, roles_of, affiliated_of, persons_of, byte_in, date_in, date_of, year_alone, publisher_in, publisher_of, url_in, url_of, number_of, one_number, typed_by, number_or_text_of, pages_or_text_of, duration_of, duration_or_text_of, range_in, range_or_text_of}
-use Rattle.haya_json.specs.Kept.{IsKeptTyped}
-use Rattle.haya_json.specs.Readable.{AreReadable, IsReadableText, IsReadablePublisher, HasNamedRole, IsReadableDate, IsReadableUrl, IsReadableNumber, IsReadableNumberOrText, IsReadableTyped}
+use Rattle.haya_json.specs.Printed.{below_zero, page_below_zero}
+use Rattle.haya_json.specs.Readable.{AreReadable, AreReadablePages, IsReadableText, IsReadablePublisher, HasNamedRole, IsReadableDate, IsReadableUrl, IsReadableNumber, IsReadableNumberOrText, IsReadableTyped}
 use Rattle.haya_json.specs.declared.fault.Why.TheVariants.{NotObject, NotChunks, NotDate, NotNumber, NotDuration, UnknownRole}
 use Rattle.haya_json.proofs.TextsRead.{HasTexts, both_ok, ok_same, given, by_text, text_read, needed_read, optional_read, many_read}
 
@@ -45,10 +44,11 @@ pub record ReadAgain : Type 0 where
   pub verbatim : (text : List ℕ) → IsUtf8 text → AreReadable (verbatim_text text)
   pub dates : (text : List ℕ) (d : Date) → date_read (chars text) ≡ Ok d → IsReadableDate d
   pub roles : (text : List ℕ) (r : PersonRole) → role_read text ≡ Some r → option_map role_view (role_read (role_name (role_view r))) ≡ Some (role_view r)
-  pub numbers : (text : List ℕ) (n : NumericView) → IsUtf8 text → numeric_read text ≡ Ok n → is_kept n ≡ true → numeric_read (shown_numeric n) ≡ Ok n
+  pub numbers : (text : List ℕ) (n : NumericView) → IsUtf8 text → numeric_read text ≡ Ok n → numeric_read (round_trip_text n) ≡ Ok n
   pub small_numbers : (text : List ℕ) (n : NumericView) (z : ℤ) → numeric_read text ≡ Ok n → single_number n ≡ Some z → is_i32 z ≡ true
-  pub pages : (text : List ℕ) (ps : List PartView) → IsUtf8 text → pages_read (chars text) ≡ Ok ps → are_kept ps ≡ true → pages_read (chars (shown_pages ps)) ≡ Ok ps
-  pub page : (z : ℤ) → is_i32 z ≡ true → are_kept (page_of z ∷ []) ≡ true → pages_read (chars (shown_pages (page_of z ∷ []))) ≡ Ok (page_of z ∷ [])
+  pub pages : (text : List ℕ) (ps : List PartView) → IsUtf8 text → pages_read (chars text) ≡ Ok ps → pages_read (chars (again_pages.round_trip_text ps)) ≡ Ok ps
+  pub page : (n : ℕ) → nat_lt n (2 ^ 31) ≡ true → pages_read (chars (again_pages.round_trip_text (page_of (pos n) ∷ []))) ≡ Ok (page_of (pos n) ∷ [])
+  pub page_alone : (text : List ℕ) (n : NumericView) → IsUtf8 text → pages_read (chars text) ≡ Ok (SinglePage n ∷ []) → is_from_zero (single_number n) ≡ true
   pub durations : (text : List ℕ) (d : Duration) → duration_read (chars text) ≡ Ok d → duration_read (chars (duration_text d)) ≡ Ok d
   pub ranges : (text : List ℕ) (r : DurationRange) → range_read (chars text) ≡ Ok r → range_read (chars (range_text r)) ≡ Ok r
   pub made_ranges : (first second : List ℕ) (start end : Duration) → duration_read (chars first) ≡ Ok start → duration_read (chars second) ≡ Ok end
@@ -83,17 +83,11 @@ byte_fits (pos k) n h = by (nat_lt k 256) refl h
     by true e h = let same : k ≡ n = cc in rw (← same) e
     by false e h = cc
 
-abbrev pub ReadablePages : TypedOrText (List PartView) → Type 0
-ReadablePages v = IsReadableTyped (λ text. result_ok (pages_read (chars text))) shown_pages v
-
 abbrev pub ReadableDuration : TypedOrText Duration → Type 0
 ReadableDuration v = IsReadableTyped (λ text. result_ok (duration_read (chars text))) duration_text v
 
 abbrev pub ReadableRange : TypedOrText DurationRange → Type 0
 ReadableRange v = IsReadableTyped (λ text. result_ok (range_read (chars text))) range_text v
-
-abbrev pub always_kept : {V : Type 0} → V → Bool
-always_kept v = true
 
 module _ (again : ReadAgain) where
   -- ---- texts and publishers
@@ -247,79 +241,96 @@ module _ (again : ReadAgain) where
 
   -- ---- numbers, pages and times
 
-  number_text : (text : List ℕ) (n : NumericView) → IsUtf8 text → numeric_read text ≡ Ok n → is_kept n ≡ true → IsReadableNumber n
-  number_text text n u h k = by (single_number n) refl
+  number_text : (text : List ℕ) (n : NumericView) → IsUtf8 text → numeric_read text ≡ Ok n → IsReadableNumber n
+  number_text text n u h = by (single_number n) refl
     where
       by : (o : Option ℤ) → single_number n ≡ o → IsReadableNumber n
-      by None e = rw e (ap result_ok (again.numbers text n u h k))
+      by None e = rw e (ap result_ok (again.numbers text n u h))
       by (Some z) e = rw e (again.small_numbers text n z h e)
 
-  pub number_read_again : (j : Json) (n : NumericView) → HasTexts j → number_of j ≡ Ok n → is_kept n ≡ true → IsReadableNumber n
+  pub number_read_again : (j : Json) (n : NumericView) → HasTexts j → number_of j ≡ Ok n → IsReadableNumber n
   unfolding number_of
-  number_read_again (json.number s) n u h k =
+  number_read_again (json.number s) n u h =
       let b = both_ok (whole_of (json.number s)) _ n h in
       let same : one_number b.value ≡ n = ok_same b.then in
       subst IsReadableNumber same (whole_fit (json.number s) b.value b.first)
-  number_read_again (json.string s) n u h k = let t = by_text NotNumber (λ text. result_ok (numeric_read text)) (json.string s) n u h in number_text t.text n t.utf8 (from_ok (numeric_read t.text) n t.read) k
-  number_read_again json.null n u h k = cc
-  number_read_again (json.boolean b) n u h k = cc
-  number_read_again (json.array js) n u h k = cc
-  number_read_again (json.object ms) n u h k = cc
+  number_read_again (json.string s) n u h = let t = by_text NotNumber (λ text. result_ok (numeric_read text)) (json.string s) n u h in number_text t.text n t.utf8 (from_ok (numeric_read t.text) n t.read)
+  number_read_again json.null n u h = cc
+  number_read_again (json.boolean b) n u h = cc
+  number_read_again (json.array js) n u h = cc
+  number_read_again (json.object ms) n u h = cc
 
   -- a value by a reader of texts
-  typed_was_read : {V : Type 0} (reads : List ℕ → Option V) (keeps : V → Bool) (P : TypedOrText V → Type 0)
-      → ((text : List ℕ) (v : V) → IsUtf8 text → reads text ≡ Some v → keeps v ≡ true → P (Typed v)) → ((text : List ℕ) → reads text ≡ None → P (Text text))
-      → (j : Json) (v : TypedOrText V) → HasTexts j → typed_by reads j ≡ Ok v → IsKeptTyped keeps v → P v
-  typed_was_read reads keeps P typed other j v u h k =
+  typed_was_read : {V : Type 0} (reads : List ℕ → Option V) (P : TypedOrText V → Type 0)
+      → ((text : List ℕ) (v : V) → IsUtf8 text → reads text ≡ Some v → P (Typed v)) → ((text : List ℕ) → reads text ≡ None → P (Text text))
+      → (j : Json) (v : TypedOrText V) → HasTexts j → typed_by reads j ≡ Ok v → P v
+  typed_was_read reads P typed other j v u h =
       let b = both_ok (plain_of j) _ v h in
       let same = ok_same b.then in
-      subst P same (by b.value (text_read j b.value u b.first) (reads b.value) refl (subst (IsKeptTyped keeps) (sym same) k))
+      subst P same (by b.value (text_read j b.value u b.first) (reads b.value) refl)
     where
-      by : (text : List ℕ) → IsUtf8 text → (o : Option _) → reads text ≡ o → IsKeptTyped keeps (typed_or_text o text) → P (typed_or_text o text)
-      by text w None e kept = other text e
-      by text w (Some x) e kept = typed text x w e kept
+      by : (text : List ℕ) → IsUtf8 text → (o : Option _) → reads text ≡ o → P (typed_or_text o text)
+      by text w None e = other text e
+      by text w (Some x) e = typed text x w e
 
-  numbers_or_text : (j : Json) (v : TypedOrText NumericView) → HasTexts j → typed_by (λ text. result_ok (numeric_read text)) j ≡ Ok v → IsKeptTyped is_kept v → IsReadableNumberOrText v
-  numbers_or_text j v u h k =
-      typed_was_read (λ text. result_ok (numeric_read text)) is_kept IsReadableNumberOrText (λ text n w e kept. number_text text n w (from_ok (numeric_read text) n e) kept) (λ text e. e) j v u h k
+  numbers_or_text : (j : Json) (v : TypedOrText NumericView) → HasTexts j → typed_by (λ text. result_ok (numeric_read text)) j ≡ Ok v → IsReadableNumberOrText v
+  numbers_or_text j v u h =
+      typed_was_read (λ text. result_ok (numeric_read text)) IsReadableNumberOrText (λ text n w e. number_text text n w (from_ok (numeric_read text) n e)) (λ text e. e) j v u h
 
-  pub number_or_text_read_again : (j : Json) (v : TypedOrText NumericView) → HasTexts j → number_or_text_of j ≡ Ok v → IsKeptTyped is_kept v → IsReadableNumberOrText v
+  pub number_or_text_read_again : (j : Json) (v : TypedOrText NumericView) → HasTexts j → number_or_text_of j ≡ Ok v → IsReadableNumberOrText v
   unfolding number_or_text_of
-  number_or_text_read_again (json.number s) v u h k =
+  number_or_text_read_again (json.number s) v u h =
       let b = both_ok (whole_of (json.number s)) _ v h in
       let same : Typed (one_number b.value) ≡ v = ok_same b.then in
       subst IsReadableNumberOrText same (whole_fit (json.number s) b.value b.first)
-  number_or_text_read_again (json.string s) v u h k = numbers_or_text (json.string s) v u h k
-  number_or_text_read_again json.null v u h k = cc
-  number_or_text_read_again (json.boolean b) v u h k = cc
-  number_or_text_read_again (json.array js) v u h k = cc
-  number_or_text_read_again (json.object ms) v u h k = cc
+  number_or_text_read_again (json.string s) v u h = numbers_or_text (json.string s) v u h
+  number_or_text_read_again json.null v u h = cc
+  number_or_text_read_again (json.boolean b) v u h = cc
+  number_or_text_read_again (json.array js) v u h = cc
+  number_or_text_read_again (json.object ms) v u h = cc
 
-  pages_by_text : (j : Json) (v : TypedOrText (List PartView)) → HasTexts j → typed_by (λ text. result_ok (pages_read (chars text))) j ≡ Ok v → IsKeptTyped are_kept v → ReadablePages v
-  pages_by_text j v u h k =
-      typed_was_read (λ text. result_ok (pages_read (chars text))) are_kept ReadablePages (λ text ps w e kept. ap result_ok (again.pages text ps w (from_ok (pages_read (chars text)) ps e) kept)) (λ text e. e) j v u h k
+  none_below : (text : List ℕ) (ps : List PartView) (z : ℤ) → IsUtf8 text → pages_read (chars text) ≡ Ok ps → page_below_zero ps ≡ Some z → ⊥
+  none_below text [] z u h is = absurd (let f : ⊥ = cc in f)
+  none_below text (SinglePage n ∷ []) z u h is = by (single_number n) (again.page_alone text n u h) is
+    where
+      by : (o : Option ℤ) → is_from_zero o ≡ true → below_zero o ≡ Some z → ⊥
+      by None f k = absurd (let g : ⊥ = cc in g)
+      by (Some (pos m)) f k = absurd (let g : ⊥ = cc in g)
+      by (Some (negsuc m)) f k = absurd (let g : ⊥ = cc in g)
+  none_below text (SinglePage n ∷ p ∷ ps) z u h is = absurd (let f : ⊥ = cc in f)
+  none_below text (Ampersand ∷ ps) z u h is = absurd (let f : ⊥ = cc in f)
+  none_below text (Comma ∷ ps) z u h is = absurd (let f : ⊥ = cc in f)
+  none_below text (EscapedRange a b ∷ ps) z u h is = absurd (let f : ⊥ = cc in f)
+  none_below text (Range a b ∷ ps) z u h is = absurd (let f : ⊥ = cc in f)
 
-  pub pages_read_again : (j : Json) (v : TypedOrText (List PartView)) → HasTexts j → pages_or_text_of j ≡ Ok v → IsKeptTyped are_kept v → ReadablePages v
+  pages_text : (text : List ℕ) (ps : List PartView) → IsUtf8 text → pages_read (chars text) ≡ Ok ps → (o : Option ℤ) → page_below_zero ps ≡ o → AreReadablePages (Typed ps)
+  pages_text text ps u h None is = rw is (ap result_ok (again.pages text ps u h))
+  pages_text text ps u h (Some z) is = absurd (none_below text ps z u h is)
+
+  pages_by_text : (j : Json) (v : TypedOrText (List PartView)) → HasTexts j → typed_by (λ text. result_ok (pages_read (chars text))) j ≡ Ok v → AreReadablePages v
+  pages_by_text j v u h =
+      typed_was_read (λ text. result_ok (pages_read (chars text))) AreReadablePages (λ text ps w e. pages_text text ps w (from_ok (pages_read (chars text)) ps e) (page_below_zero ps) refl) (λ text e. e) j v u h
+
+  one_page : (z : ℤ) → is_i32 z ≡ true → AreReadablePages (Typed (page_of z ∷ []))
+  one_page (pos n) fits = ap result_ok (again.page n fits)
+  one_page (negsuc n) fits = fits
+
+  pub pages_read_again : (j : Json) (v : TypedOrText (List PartView)) → HasTexts j → pages_or_text_of j ≡ Ok v → AreReadablePages v
   unfolding pages_or_text_of
-  pages_read_again (json.number s) v u h k =
+  pages_read_again (json.number s) v u h =
       let b = both_ok (whole_of (json.number s)) _ v h in
       let same : Typed (page_of b.value ∷ []) ≡ v = ok_same b.then in
-      let kept = subst (IsKeptTyped are_kept) (sym same) k in
-      subst ReadablePages same (ap result_ok (again.page b.value (whole_fit (json.number s) b.value b.first) kept))
-  pages_read_again (json.string s) v u h k = pages_by_text (json.string s) v u h k
-  pages_read_again json.null v u h k = cc
-  pages_read_again (json.boolean b) v u h k = cc
-  pages_read_again (json.array js) v u h k = cc
-  pages_read_again (json.object ms) v u h k = cc
-
-  kept_always : {V : Type 0} (v : TypedOrText V) → IsKeptTyped always_kept v
-  kept_always (Typed v) = refl
-  kept_always (Text text) = tt
+      subst AreReadablePages same (one_page b.value (whole_fit (json.number s) b.value b.first))
+  pages_read_again (json.string s) v u h = pages_by_text (json.string s) v u h
+  pages_read_again json.null v u h = cc
+  pages_read_again (json.boolean b) v u h = cc
+  pages_read_again (json.array js) v u h = cc
+  pages_read_again (json.object ms) v u h = cc
 
   pub duration_read_again : (j : Json) (v : TypedOrText Duration) → HasTexts j → duration_or_text_of j ≡ Ok v → ReadableDuration v
   unfolding duration_or_text_of
   duration_read_again j v u h =
-      typed_was_read (λ text. result_ok (duration_read (chars text))) always_kept ReadableDuration (λ text d w e kept. ap result_ok (again.durations text d (from_ok (duration_read (chars text)) d e))) (λ text e. e) j v u h (kept_always v)
+      typed_was_read (λ text. result_ok (duration_read (chars text))) ReadableDuration (λ text d w e. ap result_ok (again.durations text d (from_ok (duration_read (chars text)) d e))) (λ text e. e) j v u h
 
   WasDuration : Duration → Type 0
   WasDuration d = (text : List ℕ) × (duration_read (chars text) ≡ Ok d)
@@ -346,4 +357,4 @@ module _ (again : ReadAgain) where
     where
       by : (b : Bool) → (if b then and_then (range_in j) (λ range. Ok (Typed range)) else typed_by (λ text. result_ok (range_read (chars text))) j) ≡ Ok v → ReadableRange v
       by true k = made_range j v u k
-      by false k = typed_was_read (λ text. result_ok (range_read (chars text))) always_kept ReadableRange (λ text r w e kept. ap result_ok (again.ranges text r (from_ok (range_read (chars text)) r e))) (λ text e. e) j v u k (kept_always v)
+      by false k = typed_was_read (λ text. result_ok (range_read (chars text))) ReadableRange (λ text r w e. ap result_ok (again.ranges text r (from_ok (range_read (chars text)) r e))) (λ text e. e) j v u k

@@ -7,9 +7,9 @@ pub mod Entries
 pub mod Libraries
 pub mod Tally
 pub mod Ignored
+pub mod Position
 pub mod Messages
 pub mod Printed
 pub mod Writing
 pub mod Readable
 pub mod ReadBack
-pub mod Kept

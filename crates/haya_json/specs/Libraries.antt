@@ -38,8 +38,8 @@ pub record Describes (text : List ℕ) (library : List Tree) : Type 0 where
 
 -- what an error says of a text
 abbrev pub IsErrorOf : List ℕ → ReadError → Type 0
-IsErrorOf text NotJson = document text ≡ None
-IsErrorOf text NameTwice = IsSomeAnd (document text) (λ j. ¬ HasUniqueKeys j)
+IsErrorOf text (NotJson p) = document text ≡ None
+IsErrorOf text (NameTwice p) = IsSomeAnd (document text) (λ j. ¬ HasUniqueKeys j)
 IsErrorOf text (Refused path why) =
     IsSomeAnd (document text)
     (λ j. HasUniqueKeys j × (library_of j ≡ Err (refusal_at path.items why)))

@@ -7,6 +7,7 @@ use Rattle.haya_json.specs.Refusal.{StepView, to_member, to_item, step_view}
 use Rattle.haya_json.specs.declared.error.ReadError.{ReadError}
 use Rattle.haya_json.specs.declared.error.ReadError.TheVariants.{NotJson, NameTwice, Refused, OutOfMemory}
 use Rattle.haya_json.specs.declared.fault.Why.{Why}
+use Rattle.haya_json.specs.declared.position.Position.{Position}
 use Rattle.haya_json.specs.declared.fault.Why.TheVariants.{NotObject, NotEntries, NotList, NotText, NotTruth, NotWhole, Missing, Twice, SameId, UnknownType, UnknownRole, NotChunks, NotPerson, NotDate, NotNumber, NotDuration}
 
 -- a character of a name in a pointer: `~0` for a tilde, and `~1` for a slash
@@ -44,9 +45,12 @@ why_text NotDate = codes "not read as a date"
 why_text NotNumber = codes "not read as a number"
 why_text NotDuration = codes "not read as a duration"
 
+abbrev pub position_text : Position → List ℕ
+position_text p = codes "line " ++ (decimal p.line ++ (codes ", column " ++ decimal p.column))
+
 abbrev pub error_text : ReadError → List ℕ
-error_text NotJson = codes "no JSON"
-error_text NameTwice = codes "an object has a member twice"
+error_text (NotJson p) = position_text p ++ codes ": no JSON"
+error_text (NameTwice p) = position_text p ++ codes ": an object has a member twice"
 error_text (Refused path why) =
     pointer (map step_view path.items) ++ (codes ": " ++ why_text why)
 error_text OutOfMemory = codes "out of memory"

@@ -1,5 +1,5 @@
 -- A library as JSON, in hayagriva's file format.
-use Rattle.std.specs.Prelude.{ℕ, ℤ, pos, Bool, true, false, ◌&&◌, not, nat_eq, List, [], ◌∷◌, ◌++◌, Option, None, Some, is_none, is_some, codes, if◌then◌else◌}
+use Rattle.std.specs.Prelude.{ℕ, ℤ, pos, negsuc, Bool, true, false, ◌&&◌, not, nat_eq, List, [], ◌∷◌, ◌++◌, Option, None, Some, is_none, is_some, codes, if◌then◌else◌}
 use Rattle.std.specs.Fmt.{signed_decimal}
 use Rattle.std.specs.Option.{option_eq}
 use Rattle.std.specs.Result.{result_ok}
@@ -17,8 +17,9 @@ use Rattle.haya_time.specs.declared.date.Date.{Date}
 use Rattle.haya_time.specs.declared.date.Season.{Season}
 use Rattle.haya_time.specs.declared.date.Season.TheVariants.{Spring, Summer, Autumn, Winter}
 use Rattle.haya_numbers.specs.Numeric.{NumericView, single_number}
-use Rattle.haya_numbers.specs.NumericPrinted.{shown_numeric}
-use Rattle.haya_numbers.specs.PagesPrinted.{shown_pages}
+use Rattle.haya_numbers.specs.NumericRoundTrip.{round_trip_text}
+use Rattle.haya_numbers.specs.Pages.{PartView, SinglePage}
+use Rattle.haya_numbers.specs.PagesRoundTrip as pages
 use Rattle.haya_people.specs.Person.{PersonView}
 use Rattle.haya_people.specs.Reading.{person_read}
 use Rattle.haya_people.specs.Roles.{RolesView, role_name}
@@ -211,17 +212,37 @@ url_json u = by u.visit_date
 
 -- ---- numbers, pages and times
 
--- a number where it is one without affixes, otherwise its print
+-- a number where it is one without affixes, otherwise the text from which it is read again
 unfoldable pub number_json : NumericView → Json
 number_json n = by (single_number n)
   where
     by : Option ℤ → Json
-    by None = json.string (shown_numeric n)
+    by None = json.string (round_trip_text n)
     by (Some alone) = whole_json alone
 
 unfoldable pub number_or_text_json : TypedOrText NumericView → Json
 number_or_text_json (Typed n) = number_json n
 number_or_text_json (Text text) = json.string text
+
+-- the number below 0, which no text of pages reads as
+abbrev pub below_zero : Option ℤ → Option ℤ
+below_zero None = None
+below_zero (Some (pos n)) = None
+below_zero (Some (negsuc n)) = Some (negsuc n)
+
+-- the number of one page alone that is below 0
+abbrev pub page_below_zero : List PartView → Option ℤ
+page_below_zero (SinglePage page ∷ []) = below_zero (single_number page)
+page_below_zero _ = None
+
+-- the text from which the pages are read again, or the number of a page below 0; or the text
+unfoldable pub pages_json : TypedOrText (List PartView) → Json
+pages_json (Text text) = json.string text
+pages_json (Typed ps) = by (page_below_zero ps)
+  where
+    by : Option ℤ → Json
+    by None = json.string (pages.round_trip_text ps)
+    by (Some number) = whole_json number
 
 -- a typed value as it is shown, or the text
 abbrev pub typed_text : {V : Type 0} → (V → List ℕ) → TypedOrText V → List ℕ
@@ -277,7 +298,7 @@ number_members f ms =
     (also (codes "edition") number_or_text_json f.edition
     (also (codes "volume-total") number_json f.volume_total
     (also (codes "page-total") number_json f.page_total
-    (also (codes "page-range") (typed_json shown_pages) f.page_range
+    (also (codes "page-range") pages_json f.page_range
     (also (codes "time-range") (typed_json range_text) f.time_range
     (also (codes "runtime") (typed_json duration_text) f.runtime ms))))))))
 

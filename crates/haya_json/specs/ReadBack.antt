@@ -5,14 +5,13 @@ use Rattle.json.specs.Json.{Json, max_depth}
 use Rattle.json.specs.Strict.{HasUniqueKeys}
 use Rattle.json.specs.Print.{print}
 use Rattle.json.specs.Tree.{HasNumbers, depth as nesting, json_tokens}
-use Rattle.haya_numbers.specs.PagesPrinted.{shown_pages}
 use Rattle.haya_time.specs.DurationPrint.{duration_text, range_text}
 use Rattle.haya_entry.specs.Tree.{Tree, Trees, Fields, node, no_trees, one_more}
 use Rattle.haya_json.specs.Refusal.{Refusal}
 use Rattle.haya_json.specs.Parts.{plain_of}
 use Rattle.haya_json.specs.Values.{format_of, persons_of, affiliated_of, date_of, publisher_of, url_of, number_of, number_or_text_of, pages_or_text_of, range_or_text_of, duration_or_text_of, serials_of}
 use Rattle.haya_json.specs.Libraries.{Describes, library_of}
-use Rattle.haya_json.specs.Printed.{one_or_many_json, format_json, person_json, roles_json, date_json, publisher_json, url_json, typed_json, number_json, number_or_text_json, serial_json, library_json}
+use Rattle.haya_json.specs.Printed.{one_or_many_json, format_json, person_json, roles_json, date_json, publisher_json, url_json, pages_json, typed_json, number_json, number_or_text_json, serial_json, library_json}
 
 -- The JSON of the library can be read, since it nests no deeper than 128, its numbers are numbers
 -- and no object in it has a member twice; and it says the library.
@@ -55,7 +54,7 @@ pub record FieldsAreBack (f : Fields) : Type 0 where
   pub edition : IsBack number_or_text_of number_or_text_json f.edition
   pub volume_total : IsBack number_of number_json f.volume_total
   pub page_total : IsBack number_of number_json f.page_total
-  pub page_range : IsBack pages_or_text_of (typed_json shown_pages) f.page_range
+  pub page_range : IsBack pages_or_text_of pages_json f.page_range
   pub time_range : IsBack range_or_text_of (typed_json range_text) f.time_range
   pub runtime : IsBack duration_or_text_of (typed_json duration_text) f.runtime
   pub serial_number : IsBack serials_of serial_json f.serial_number

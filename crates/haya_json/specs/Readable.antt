@@ -11,10 +11,11 @@ use Rattle.haya_text.specs.Printing.{to_serialized}
 use Rattle.haya_text.specs.Reading.{chunks_read}
 use Rattle.haya_text.specs.Texts.{TextView}
 use Rattle.haya_numbers.specs.Numeric.{NumericView, single_number}
-use Rattle.haya_numbers.specs.NumericPrinted.{shown_numeric}
 use Rattle.haya_numbers.specs.NumericReading.{numeric_read}
-use Rattle.haya_numbers.specs.PagesPrinted.{shown_pages}
+use Rattle.haya_numbers.specs.NumericRoundTrip.{round_trip_text}
+use Rattle.haya_numbers.specs.Pages.{PartView}
 use Rattle.haya_numbers.specs.PagesReading.{pages_read}
+use Rattle.haya_numbers.specs.PagesRoundTrip as pages
 use Rattle.haya_people.specs.Roles.{RolesView, role_name, role_read, role_view}
 use Rattle.haya_time.specs.DurationPrint.{duration_text, range_text}
 use Rattle.haya_time.specs.DurationReading.{duration_read, range_read}
@@ -24,6 +25,7 @@ use Rattle.haya_values.specs.Publisher.{PublisherView}
 use Rattle.haya_values.specs.Url.{UrlView}
 use Rattle.haya_entry.specs.SerialNumber.{Serials}
 use Rattle.haya_entry.specs.Tree.{Tree, Trees, Fields, node, no_trees, one_more}
+use Rattle.haya_json.specs.Printed.{page_below_zero}
 use Rattle.haya_json.specs.Whole.{is_i32}
 
 -- Chunks are read from their serialized text. They are exactly where they are in normal form: no
@@ -58,13 +60,23 @@ abbrev pub IsReadableNumber : NumericView → Type 0
 IsReadableNumber n = by (single_number n)
   where
     by : Option ℤ → Type 0
-    by None = result_ok (numeric_read (shown_numeric n)) ≡ Some n
+    by None = result_ok (numeric_read (round_trip_text n)) ≡ Some n
     by (Some alone) = is_i32 alone ≡ true
 
 -- such a number, or a text that isn't read as one
 abbrev pub IsReadableNumberOrText : TypedOrText NumericView → Type 0
 IsReadableNumberOrText (Typed n) = IsReadableNumber n
 IsReadableNumberOrText (Text text) = result_ok (numeric_read text) ≡ None
+
+-- 32 bits hold the number of a page below 0, any other pages are read from their text; or a text that
+-- isn't read as pages
+abbrev pub AreReadablePages : TypedOrText (List PartView) → Type 0
+AreReadablePages (Typed ps) = by (page_below_zero ps)
+  where
+    by : Option ℤ → Type 0
+    by None = result_ok (pages_read (chars (pages.round_trip_text ps))) ≡ Some ps
+    by (Some number) = is_i32 number ≡ true
+AreReadablePages (Text text) = result_ok (pages_read (chars text)) ≡ None
 
 -- a typed value that is read from its text, or a text that isn't read as one
 abbrev pub IsReadableTyped : {V : Type 0} → (List ℕ → Option V) → (V → List ℕ)
@@ -105,8 +117,7 @@ pub record FieldsAreReadable (f : Fields) : Type 0 where
   pub edition : IfSome f.edition IsReadableNumberOrText
   pub volume_total : IfSome f.volume_total IsReadableNumber
   pub page_total : IfSome f.page_total IsReadableNumber
-  pub page_range : IfSome f.page_range
-      (IsReadableTyped (λ text. result_ok (pages_read (chars text))) shown_pages)
+  pub page_range : IfSome f.page_range AreReadablePages
   pub time_range : IfSome f.time_range
       (IsReadableTyped (λ text. result_ok (range_read (chars text))) range_text)
   pub runtime : IfSome f.runtime

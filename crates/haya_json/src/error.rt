@@ -5,15 +5,17 @@ ghost use Rattle.haya_json.specs.Messages.{pointer_step, why_text};
 ghost use Rattle.haya_json.specs.Refusal.{step_view};
 
 use crate::fault::{Step, Why};
+use crate::position::Position;
 use std::fmt;
 
 /// Why a text is no library.
 #[derive(Debug, Drop)]
 pub enum ReadError {
-    /// The text is no JSON, or it nests more than 128 deep.
-    NotJson,
-    /// An object in it has a member twice.
-    NameTwice,
+    /// The text is no JSON, or it nests more than 128 deep. The position is that of the first token
+    /// that can't stand there, or the end of the text.
+    NotJson(Position),
+    /// An object in it has a member twice. The position is that of the second one's name.
+    NameTwice(Position),
     /// The value at the end of these steps is refused.
     Refused(Vec<Step>, Why),
     /// An allocation failed, which says nothing of the text.
@@ -23,12 +25,14 @@ pub enum ReadError {
 impl fmt::Display for ReadError {
     ghost output = { λ e. Some (error_text e) };
 
-    /// What is wrong. A refusal has the place before it, as a JSON Pointer (RFC 6901):
-    /// `/klein2009/parent/1/date: not read as a date`.
+    /// What is wrong, behind its place: a position in the text, `line 3, column 7: no JSON`, or that of
+    /// a refused value as a JSON Pointer (RFC 6901), `/klein2009/parent/1/date: not read as a date`.
     fn fmt<W: fmt::Write>(&self, f: &mut fmt::Formatter<W>) -> fmt::Result {
         match self {
-            ReadError::NotJson => f.write_str("no JSON"),
-            ReadError::NameTwice => f.write_str("an object has a member twice"),
+            ReadError::NotJson(position) => write!(f, "{position}: no JSON"),
+            ReadError::NameTwice(position) => {
+                write!(f, "{position}: an object has a member twice")
+            }
             ReadError::Refused(path, why) => write!(f, "{}: {why}", Pointer(path)),
             ReadError::OutOfMemory => f.write_str("out of memory"),
         }

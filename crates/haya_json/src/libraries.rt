@@ -13,6 +13,7 @@ use crate::error::ReadError;
 use crate::fault::{Fault, Why};
 use crate::ignored::Ignored;
 use crate::passed_over::ignored_in;
+use crate::position::{position_of_fault, position_of_twice};
 use hayagriva::Library;
 use json::{Scratch, Value};
 use std::alloc::Global;
@@ -23,7 +24,8 @@ use std::alloc::Global;
 /// inside values aren't, nor is a null.
 ///
 /// `NotJson`: the text is no JSON. `NameTwice`: it is, and an object has a member twice. `Refused`:
-/// a value is not what its place asks for.
+/// a value is not what its place asks for. That their positions are where the fault is seen is only
+/// tested.
 pub fn read_library(alloc: Global, text: &str) -> Result<(Library, Ignored), ReadError>
     ensures library { IfOk result (λ read. Describes text.now read.0) }
     ensures ignored { IfOk result (λ read. IsPassedOver text.now read.1) }
@@ -36,8 +38,14 @@ pub fn read_library(alloc: Global, text: &str) -> Result<(Library, Ignored), Rea
             Err(Fault::Refused(path, why)) => Err(ReadError::Refused(path, why)),
             Err(Fault::OutOfMemory) => Err(ReadError::OutOfMemory),
         },
-        Err(json::Error::Invalid) => Err(ReadError::NotJson),
-        Err(json::Error::DuplicateKey) => Err(ReadError::NameTwice),
+        Err(json::Error::Invalid) => match position_of_fault(alloc, text) {
+            Ok(position) => Err(ReadError::NotJson(position)),
+            Err(_) => Err(ReadError::OutOfMemory),
+        },
+        Err(json::Error::DuplicateKey) => match position_of_twice(alloc, text) {
+            Ok(position) => Err(ReadError::NameTwice(position)),
+            Err(_) => Err(ReadError::OutOfMemory),
+        },
         Err(_) => Err(ReadError::OutOfMemory),
     }
 }

@@ -16,9 +16,9 @@ use std::alloc::Global;
 /// Whether `read_library` reads what `to_json` prints of the library as the library: it prints,
 /// reads and compares. The only error is out of memory.
 ///
-/// A library that `read_library` gave is read back where its JSON nests no deeper than 128, but
-/// for sets of numbers and pages that their print changes (the law `read_libraries_read_back`). One
-/// that is made by hand isn't where a text has an empty chunk, say, or a role has no name.
+/// A library that `read_library` gave is read back where its JSON nests no deeper than 128 (the law
+/// `read_libraries_read_back`). One that is made by hand isn't where a text has an empty chunk, say,
+/// or a role has no name.
 pub fn reads_back(alloc: Global, library: &Library) -> Result<bool, OutOfMemory>
     ensures { IfOk result (λ back. IsTrue back ↔ ReadsBack library.now) }
 {

@@ -12,16 +12,20 @@ use Rattle.haya_numbers.specs.declared.numeric.NumericDelimiter.TheVariants.{Com
 use Rattle.haya_numbers.specs.declared.numeric.NumericError.{NumericError}
 use Rattle.haya_numbers.specs.declared.page.PageRangesPartErr.{PageRangesPartErr}
 use Rattle.haya_numbers.specs.Numeric.{Item, ValueView, Single, SetOf, NumericView}
+use Rattle.haya_numbers.specs.NumericBack.{reads_back}
 use Rattle.haya_numbers.specs.NumericPrinted.{shown_numeric}
 use Rattle.haya_numbers.specs.NumericReading.{numeric_read}
 use Rattle.haya_numbers.specs.NumericRoundTrip.{exact_text, reads_as, round_trip_text, same_delimiter, same_items, same_numeric, same_value}
 use Rattle.haya_numbers.specs.Pages as part
 use Rattle.haya_numbers.specs.Pages.{PartView}
+use Rattle.haya_numbers.specs.PagesBack.{are_readable}
 use Rattle.haya_numbers.specs.PagesPrinted.{shown_pages}
 use Rattle.haya_numbers.specs.PagesReading.{pages_read}
 use Rattle.haya_numbers.specs.PagesRoundTrip.{exact_pages, same_pages, same_part}
 use Rattle.haya_numbers.specs.PagesRoundTrip as pages
+use Rattle.haya_numbers.proofs.Backs.{numeric-back}
 use Rattle.haya_numbers.proofs.Equal.{ints-tell}
+use Rattle.haya_numbers.proofs.ReadsBack.{pages_back}
 
 delimiters_same : (d e : NumericDelimiter) → Same (same_delimiter d e) d e
 delimiters_same Comma Comma = (λ _. refl, λ _. refl)
@@ -150,6 +154,19 @@ pages_round_trip ps exact = by (pages.reads_as (shown_pages ps) ps) refl
     by : (b : Bool) → pages.reads_as (shown_pages ps) ps ≡ b → pages_read (chars (if b then shown_pages ps else exact_pages ps)) ≡ Ok ps
     by true is = pages_read_as (shown_pages ps) ps is
     by false is = exact
+
+-- what is shown reads as the value where the test of reading back says so
+pub number_shown : (n : NumericView) → reads_back n ≡ true → round_trip_text n ≡ shown_numeric n
+number_shown n h =
+    let read = numeric-back n h in
+    let same : reads_as (shown_numeric n) n ≡ true = rw read ((numbers_same n n).1 refl) in
+    rw same refl
+
+pub pages_shown : (ps : List PartView) → are_readable ps ≡ true → pages.round_trip_text ps ≡ shown_pages ps
+pages_shown ps h =
+    let read = pages_back ps h in
+    let same : pages.reads_as (shown_pages ps) ps ≡ true = rw read ((pages_same ps ps).1 refl) in
+    rw same refl
 
 -- ---- tests that tell the same
 

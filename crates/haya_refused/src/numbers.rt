@@ -122,6 +122,36 @@ fn a_range(rt: HostRuntime) {
     );
 }
 
+fn number_text(alloc: Global, (number, wanted): (&Numeric, &str)) -> Result<bool, OutOfMemory> {
+    Ok(number.round_trip_text(alloc)?.as_str() == wanted)
+}
+
+fn pages_text(alloc: Global, (pages, wanted): (&PageRanges, &str)) -> Result<bool, OutOfMemory> {
+    Ok(pages.round_trip_text(alloc)?.as_str() == wanted)
+}
+
+// A number, and the text from which it is read again.
+const NUMBER_TEXTS: &[(&str, &str)] = &[("A1, 2x", "A1, 2x"), ("1&2x", "1& 2x")];
+
+// The same of pages.
+const PAGES_TEXTS: &[(&str, &str)] = &[("A1-2x, 3", "A1-2x, 3"), ("1\\-2,", "1\\-2,")];
+
+#[test]
+fn texts_to_read_again(rt: HostRuntime) {
+    for (text, wanted) in NUMBER_TEXTS {
+        let number = number(&rt, *text);
+        let row = Row("Numeric::round_trip_text", *text, Taken);
+        asks(&rt, row, (&number, *wanted), number_text);
+        drop(number);
+    }
+    for (text, wanted) in PAGES_TEXTS {
+        let pages = PageRanges::from_str(rt.alloc(), *text).expect(&rt, "pages");
+        let row = Row("PageRanges::round_trip_text", *text, Taken);
+        asks(&rt, row, (&pages, *wanted), pages_text);
+        drop(pages);
+    }
+}
+
 // A year, and what it is shown as.
 const YEARS: &[(i32, &str)] = &[(0, "1 BCE"), (-5, "6 BCE"), (2014, "2014")];
 

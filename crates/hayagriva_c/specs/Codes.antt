@@ -27,8 +27,8 @@ error_code error.OutOfMemory = 14
 
 -- the code of an error of JSON
 abbrev pub json_code : ReadError → ℕ
-json_code json.NotJson = 15
-json_code json.NameTwice = 16
+json_code (json.NotJson position) = 15
+json_code (json.NameTwice position) = 16
 json_code (json.Refused path why) = 17
 json_code json.OutOfMemory = 14
 

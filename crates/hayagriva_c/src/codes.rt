@@ -102,8 +102,8 @@ pub fn of_json(error: &ReadError) -> u32
     ensures { result ≡ json_code error.now }
 {
     match error {
-        ReadError::NotJson => NOT_JSON,
-        ReadError::NameTwice => NAME_TWICE,
+        ReadError::NotJson(_) => NOT_JSON,
+        ReadError::NameTwice(_) => NAME_TWICE,
         ReadError::Refused(_, _) => REFUSED_VALUE,
         ReadError::OutOfMemory => OUT_OF_MEMORY,
     }

@@ -22,8 +22,11 @@ const ITEMS: &str = concat!(
 
 // A text, and what its error shows.
 const FAULTY: &[(&str, &str)] = &[
-    ("[", "no JSON"),
-    (r#"[{"id":"a","id":"a"}]"#, "an object has a member twice"),
+    ("[", "line 1, column 2: no JSON"),
+    (
+        r#"[{"id":"a","id":"a"}]"#,
+        "line 1, column 12: an object has a member twice",
+    ),
     (r#"[{"id":"a","type":"tale"}]"#, "/0/type: unknown type"),
     (
         r#"[{"id":"a","type":"book"},{"id":"a","type":"book"}]"#,

@@ -25,10 +25,10 @@ const PRINTED: &str = concat!(
 
 // A text, and what its error shows.
 const FAULTY: &[(&str, &str)] = &[
-    ("{", "no JSON"),
+    ("{", "line 1, column 2: no JSON"),
     (
         r#"{"a": {"type": "misc"}, "a": {"type": "misc"}}"#,
-        "an object has a member twice",
+        "line 1, column 25: an object has a member twice",
     ),
     (r#"{"a/b~c": {}}"#, "/a~1b~0c/type: missing"),
     (

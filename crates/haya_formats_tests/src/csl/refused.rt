@@ -4,11 +4,11 @@ use std::process::Abort;
 
 // A text, and what its error shows.
 const REFUSED: &[(&str, &str)] = &[
-    ("", "no JSON"),
-    ("[{]", "no JSON"),
+    ("", "line 1, column 1: no JSON"),
+    ("[{]", "line 1, column 3: no JSON"),
     (
         r#"[{"id":"a","x":{"y":1,"y":2}}]"#,
-        "an object has a member twice",
+        "line 1, column 23: an object has a member twice",
     ),
     // of all faults, that the text is no JSON is told first, and then that a member comes twice
     (r#"[{},{"id":"a","type":"x"},{]"#, "no JSON"),

@@ -1,5 +1,5 @@
 //! Deep, wide and long texts, and texts that end early.
-use haya_json::{ReadError, read_library};
+use haya_json::{Position, ReadError, read_library};
 use std::process::Abort;
 
 // A library whose one entry has so many parents above each other: it nests two levels deeper.
@@ -26,7 +26,7 @@ fn is_read(rt: &(impl Abort + AllocGlobal), text: &str) -> bool {
             true
         }
         Err(error) => {
-            assert!(rt; matches!(error, ReadError::NotJson), "{error}");
+            assert!(rt; matches!(error, ReadError::NotJson(_)), "{error}");
             false
         }
     }
@@ -41,11 +41,28 @@ fn nests_to_128(rt: HostRuntime) {
 }
 
 #[test]
-fn reads_many_members(rt: HostRuntime) {
+fn tells_where_it_nests_deeper(rt: HostRuntime) {
+    let mut text = String::new(rt.alloc());
+    for _ in 0..130 {
+        text.push_str("[\n").expect(&rt, "memory");
+    }
+    let position = match read_library(rt.alloc(), text.as_str()) {
+        Err(ReadError::NotJson(position)) => Some(position),
+        _ => None,
+    };
+    let wanted = Position {
+        line: 129,
+        column: 1,
+    };
+    assert_eq!(rt; position, Some(wanted));
+}
+
+#[test]
+fn reads_a_million_members(rt: HostRuntime) {
     let mut text = String::new(rt.alloc());
     text.push_str(r#"{"a": {"type": "misc""#)
         .expect(&rt, "memory");
-    for place in 0..100_000 {
+    for place in 0..1_000_000 {
         write!(text, ", \"n{place}\": 0").expect(&rt, "memory");
     }
     text.push_str("}}").expect(&rt, "memory");
@@ -57,7 +74,7 @@ fn reads_many_members(rt: HostRuntime) {
         assert!(rt; count == 1);
         names = names.saturating_add(1);
     }
-    assert!(rt; names == 100_000);
+    assert!(rt; names == 1_000_000);
 }
 
 #[test]

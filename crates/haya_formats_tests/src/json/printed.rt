@@ -91,7 +91,41 @@ const PRINTED: &[(&str, &str)] = &[
         r#""page-total": "349", "volume-total": -1"#,
         r#""volume-total":-1,"page-total":349"#,
     ),
+    // sets whose print would be read otherwise
+    (r#""issue": "1&2x""#, r#""issue":"1& 2x""#),
+    (r#""issue": "1 , 2x""#, r#""issue":"1 , 2x""#),
+    (
+        r#""issue": "1- -2", "volume": "3--4", "volume-total": "-1-2-3""#,
+        r#""issue":"1- -2","volume":"3–4","volume-total":"-1–2–3""#,
+    ),
+    (
+        r#""issue": "1,2,, ,x", "edition": "1&2–– -x""#,
+        r#""issue":"1, 2–– ,x","edition":"1& 2–– -x""#,
+    ),
+    (
+        r#""issue": "p. 1 & 2", "edition": "no. 007,8 f""#,
+        r#""issue":"p. 1 & 2","edition":"no. 007, 8f""#,
+    ),
+    // pages
     (r#""page-range": 17"#, r#""page-range":"17""#),
+    (r#""page-range": -17"#, r#""page-range":-17"#),
+    (
+        r#""page-range": -2147483648"#,
+        r#""page-range":-2147483648"#,
+    ),
+    (r#""page-range": "1-2,5""#, r#""page-range":"1-2, 5""#),
+    (r#""page-range": "1,""#, r#""page-range":"1,""#),
+    (r#""page-range": "1,,2""#, r#""page-range":"1,,2""#),
+    (r#""page-range": "1&2,&3""#, r#""page-range":"1&2,&3""#),
+    (r#""page-range": "1\\-2""#, r#""page-range":"1\\-2""#),
+    (
+        r#""page-range": "5\\ - 6, 7""#,
+        r#""page-range":"5\\–6,7""#,
+    ),
+    (
+        r#""page-range": "1- -2 x\\-p. 3–4""#,
+        r#""page-range":"1- -2x\\-p. 3- 4""#,
+    ),
     (r#""runtime": "90:00""#, r#""runtime":"01:30:00""#),
     (
         r#""time-range": {"start": "01:00", "end": "02:00"}"#,

@@ -4,16 +4,35 @@ use std::process::Abort;
 
 // A text, and what its error shows.
 const REFUSED: &[(&str, &str)] = &[
-    ("", "no JSON"),
-    ("{", "no JSON"),
-    ("{'a': 1}", "no JSON"),
+    ("", "line 1, column 1: no JSON"),
+    ("{", "line 1, column 2: no JSON"),
+    ("{'a': 1}", "line 1, column 2: no JSON"),
+    (r#"{"a": 1,}"#, "line 1, column 9: no JSON"),
+    (r#"{"a" 1}"#, "line 1, column 2: no JSON"),
+    (r#"{"a": "b": 1}"#, "line 1, column 7: no JSON"),
+    (r#"{"a": [1}"#, "line 1, column 9: no JSON"),
+    (r#"{"a": 1]"#, "line 1, column 8: no JSON"),
+    (r#"["a": 1]"#, "line 1, column 2: no JSON"),
+    (r#"{"a": }"#, "line 1, column 7: no JSON"),
+    ("[1, 2", "line 1, column 6: no JSON"),
+    (r#"{"a": 1} x"#, "line 1, column 10: no JSON"),
+    ("{} {}", "line 1, column 4: no JSON"),
+    (
+        "{\n  \"a\": {\"type\": \"misc\"},\n  \"é\": 1 2}",
+        "line 3, column 10: no JSON",
+    ),
+    ("{\r\n\"a\": 01}\n", "line 2, column 6: no JSON"),
     (
         r#"{"a": {"type": "misc"}, "a": {"type": "misc"}}"#,
-        "an object has a member twice",
+        "line 1, column 25: an object has a member twice",
     ),
     (
         r#"{"a": {"type": "misc", "x": {"y": 1, "\u0079": 2}}}"#,
-        "an object has a member twice",
+        "line 1, column 38: an object has a member twice",
+    ),
+    (
+        "{\"a\": [{\"x\": 1}, {\"x\": 2}],\n \"a\": 1,\n \"a\": 2}",
+        "line 2, column 2: an object has a member twice",
     ),
     ("[]", ": expected an object"),
     ("null", ": expected an object"),

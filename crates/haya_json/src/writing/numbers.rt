@@ -1,7 +1,10 @@
 //! Numbers, pages and times.
+ghost use Rattle.std.specs.Prelude.{◌≡◌};
+ghost use Rattle.haya_numbers.specs.Pages.{parts};
+ghost use Rattle.haya_json.specs.Printed.{below_zero, page_below_zero};
 
 use crate::members::ToJson;
-use haya_numbers::{Numeric, PageRanges};
+use haya_numbers::{Numeric, PageRanges, PageRangesPart};
 use haya_text::OutOfMemory;
 use haya_time::{Duration, DurationRange};
 use haya_values::MaybeTyped;
@@ -18,13 +21,13 @@ impl ToJson for Numeric {
 
     ghost json = { number_json };
 
-    /// A number where it is one without affixes, otherwise its print.
+    /// A number where it is one without affixes, otherwise the text from which it is read again.
     #[tactic(auto, unfolding(crate::specs::Printed::number_json))]
     fn write_json(&self, alloc: Global, out: &mut Writer) -> Result<(), OutOfMemory> {
         match self.single_number() {
             Some(number) => number.write_json(alloc, out),
             None => {
-                let text = format!(in alloc; "{self}")?;
+                let text = self.round_trip_text(alloc)?;
                 Ok(out.string(text.as_str())?)
             }
         }
@@ -55,26 +58,49 @@ impl ToJson for MaybeTyped<Numeric> {
 impl ToJson for MaybeTyped<PageRanges> {
     ghost use Rattle.std.specs.Prelude.{List};
     ghost use Rattle.haya_numbers.specs.Pages.{PartView, parts};
-    ghost use Rattle.haya_numbers.specs.PagesPrinted.{shown_pages};
     ghost use Rattle.haya_values.specs.MaybeTyped.{TypedOrText, maybe_typed_view};
-    ghost use Rattle.haya_json.specs.Printed.{typed_json};
+    ghost use Rattle.haya_json.specs.Printed.{pages_json};
 
     ghost View = { TypedOrText (List PartView) };
 
     ghost view = { maybe_typed_view parts };
 
-    ghost json = { typed_json shown_pages };
+    ghost json = { pages_json };
 
-    /// The print of the pages, or the text.
-    #[tactic(auto, unfolding(crate::specs::Printed::typed_json))]
+    /// The text from which the pages are read again, the number of a page below 0, or the text.
+    #[tactic(auto, unfolding(crate::specs::Printed::pages_json))]
     fn write_json(&self, alloc: Global, out: &mut Writer) -> Result<(), OutOfMemory> {
-        match self {
-            MaybeTyped::Typed(pages) => {
-                let text = format!(in alloc; "{pages}")?;
+        let pages = match self {
+            MaybeTyped::Typed(pages) => pages,
+            MaybeTyped::String(text) => return Ok(out.string(text.as_str())?),
+        };
+        match page_below_zero(pages) {
+            Some(number) => number.write_json(alloc, out),
+            None => {
+                let text = pages.round_trip_text(alloc)?;
                 Ok(out.string(text.as_str())?)
             }
-            MaybeTyped::String(text) => Ok(out.string(text.as_str())?),
         }
+    }
+}
+
+// The number of one page alone that is below 0.
+fn page_below_zero(pages: &PageRanges) -> Option<i32>
+    ensures { result ≡ page_below_zero (parts pages.now) }
+{
+    match pages.ranges.as_slice() {
+        [PageRangesPart::SinglePage(page)] => below_zero(page.single_number()),
+        _ => None,
+    }
+}
+
+// The number where it is below 0.
+fn below_zero(number: Option<i32>) -> Option<i32>
+    ensures { result ≡ below_zero number }
+{
+    match number {
+        Some(number) if number < 0 => Some(number),
+        _ => None,
     }
 }
 

@@ -25,6 +25,9 @@ impl Numeric {
             string_bytes text ≡ round_trip_text (numeric_view self.now)) }
     {
         let shown = format!(in alloc; "{self}")?;
+        if self.reads_back() {
+            return Ok(shown);
+        }
         if reads_as(alloc, shown.as_str(), self)? {
             return Ok(shown);
         }

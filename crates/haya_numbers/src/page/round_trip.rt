@@ -15,10 +15,14 @@ impl PageRanges {
     /// them where that reads as them. Otherwise nothing stands behind a comma, each number has its
     /// exact text, a hyphen that was escaped is escaped again, and any other range has an en dash.
     /// The only error is out of memory.
+    #[tactic(auto, using(crate::proofs::RoundTrips::pages_shown))]
     pub fn round_trip_text(&self, alloc: Global) -> Result<String, OutOfMemory>
         ensures { IfOk result (λ text. string_bytes text ≡ round_trip_text (parts self.now)) }
     {
         let shown = format!(in alloc; "{self}")?;
+        if self.reads_back() {
+            return Ok(shown);
+        }
         if reads_as(alloc, shown.as_str(), self)? {
             return Ok(shown);
         }

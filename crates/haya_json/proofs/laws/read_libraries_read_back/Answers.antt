@@ -6,10 +6,11 @@ pub returns : goal.returns
 returns c = read_again (laws_below (record {
   texts = c.read_texts_read_back.ensures.read;
   chunk = c.read_texts_read_back.ensures.chunk;
-  numbers = c.read_numbers_read_back.ensures.kept;
+  numbers = c.read_numbers_round_trip.ensures;
   bounds = c.read_numbers_read_back.ensures.bounds;
-  pages = c.read_pages_read_back.ensures.kept;
-  page = c.read_pages_read_back.ensures.page;
+  pages = c.read_pages_round_trip.ensures.read;
+  page = c.read_pages_round_trip.ensures.page;
+  page_alone = c.read_pages_round_trip.ensures.from_zero;
   durations = c.read_durations_read_back.ensures.duration;
   ranges = c.read_durations_read_back.ensures.range;
   ends = c.read_durations_read_back.ensures.ends;

@@ -1,6 +1,5 @@
 use Rattle.std.proofs.Common.{ap, ◌∙◌}
 use Rattle.std.specs.Prelude.{Some}
-use Rattle.haya_text.specs.Chunks.{chunks}
 use Rattle.haya_json.proofs.PersonsBack.{person_back}
 use Rattle.haya_json.proofs.DatesBack.{date_back}
 use Rattle.haya_json.proofs.laws.values_read_back.Goals as goal

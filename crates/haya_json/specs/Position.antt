@@ -1,0 +1,17 @@
+-- A position in a text.
+use Rattle.std.specs.Prelude.{ℕ, ◌+◌, ◌==◌, List, fold, if◌then◌else◌}
+use Rattle.haya_json.specs.declared.position.Position.{Position}
+
+-- the first position of a text
+abbrev pub start : Position
+start = record { line = 1; column = 1 }
+
+-- the position behind a character: a line feed begins a line
+abbrev pub behind_char : Position → ℕ → Position
+behind_char p c =
+    if c == 10 then record { line = p.line + 1; column = 1 }
+    else record { line = p.line; column = p.column + 1 }
+
+-- the position behind characters that begin a text
+abbrev pub position_behind : List ℕ → Position
+position_behind cs = fold behind_char start cs

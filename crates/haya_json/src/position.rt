@@ -1,0 +1,100 @@
+//! Positions in a text, and the position of a fault in a text that is no library.
+ghost use Rattle.std.specs.Prelude.{◌≡◌};
+ghost use Rattle.std.specs.Str.{chars};
+ghost use Rattle.haya_json.specs.Position.{position_behind};
+
+use crate::nesting::Nesting;
+use haya_text::cursor::Cursor;
+use json::{Reader, Scratch, Token};
+use std::alloc::{AllocError, Global};
+use std::collections::BTreeSet;
+use std::fmt;
+
+/// A position in a text.
+#[derive(Clone, Copy, Debug, PartialEq, Eq)]
+pub struct Position {
+    /// The line, from 1 on. Each line feed begins one.
+    pub line: usize,
+    /// The character of that line, from 1 on.
+    pub column: usize,
+}
+
+impl fmt::Display for Position {
+    ghost use Rattle.std.specs.Prelude.{Some};
+    ghost use Rattle.haya_json.specs.Messages.{position_text};
+
+    ghost output = { λ p. Some (position_text p) };
+
+    /// The line and the column: `line 3, column 7`.
+    fn fmt<W: fmt::Write>(&self, f: &mut fmt::Formatter<W>) -> fmt::Result {
+        write!(f, "line {}, column {}", self.line, self.column)
+    }
+}
+
+/// Where a text that is no JSON stops being JSON: at the first token that can't stand there, or that
+/// opens an array or an object more than 128 deep, or at the end.
+pub fn position_of_fault(alloc: Global, text: &str) -> Result<Position, AllocError> {
+    let mut scratch = Scratch::new(alloc);
+    let mut reader = Reader::new(text, &mut scratch)?;
+    let mut nesting = Nesting::new(alloc);
+    let mut place = reader.offset();
+    'tokens: while let Some(token) = reader.next() {
+        if !nesting.takes(&token)? {
+            break;
+        }
+        place = reader.offset();
+    }
+    Ok(position_at(text, place))
+}
+
+/// Where a name stands the second time in an object of a text that is JSON: the first such place, or
+/// the end where there is none.
+pub fn position_of_twice(alloc: Global, text: &str) -> Result<Position, AllocError> {
+    let mut scratch = Scratch::new(alloc);
+    let mut reader = Reader::new(text, &mut scratch)?;
+    let mut objects = Vec::new(alloc);
+    let mut place = reader.offset();
+    'tokens: while let Some(token) = reader.next() {
+        match token {
+            Token::BeginObject => objects.push(BTreeSet::new(alloc))?,
+            Token::EndObject => drop(objects.pop()),
+            Token::Key(name) if is_twice(&mut objects, name)? => break,
+            _ => {}
+        }
+        place = reader.offset();
+    }
+    Ok(position_at(text, place))
+}
+
+// Whether the innermost object has this name already; from now on it has.
+fn is_twice<'a>(objects: &mut Vec<BTreeSet<&'a str>>, name: &'a str) -> Result<bool, AllocError> {
+    match objects.last_mut() {
+        Some(names) => Ok(!names.insert(name)?),
+        None => Ok(false),
+    }
+}
+
+// The position of this place of a text.
+fn position_at(text: &str, place: usize) -> Position {
+    match text.get(..place) {
+        Some(front) => position_behind(front),
+        None => position_behind(text),
+    }
+}
+
+// The position behind a text that begins another.
+fn position_behind(front: &str) -> Position
+    ensures { result ≡ position_behind (chars front.now) }
+{
+    let mut cursor = Cursor::new(front);
+    let mut position = Position { line: 1, column: 1 };
+    'chars: while let Some(c) = cursor.eat() {
+        if c == '\n' {
+            position.line += 1;
+            position.column = 1;
+        } else {
+            position.column += 1;
+        }
+    }
+    position
+}
