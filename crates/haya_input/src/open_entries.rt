@@ -188,7 +188,11 @@ fn push_new(
     ensures fault { IfErr result (λ e. e ≡ LineFault.OutOfMemory) }
 {
     chain.reserve(1)?;
-    chain.push_reserved(Entry::new(alloc, key, kind)?);
+    // Without `?`, by which the entry would be moved once more.
+    let Ok(entry) = Entry::new(alloc, key, kind) else {
+        return Err(LineFault::OutOfMemory);
+    };
+    chain.push_reserved(entry);
     Ok(())
 }
 

@@ -5,6 +5,7 @@ ghost use Rattle.std.specs.Iterator.{Drains, IsFinite};
 ghost use Rattle.haya_entry.specs.declared.entry.Entry.{Entry as EntryData};
 ghost use Rattle.haya_entry.specs.Tree.{view};
 ghost use Rattle.haya_selectors.specs.Applied.{entry_value};
+ghost use Rattle.indexmap.specs.IndexMap.{IsUnchanged, IsUnique, insert_entry};
 ghost use Rattle.hayagriva.specs.Library.{key_of, get, push, from_entries, remove, AreDistinct};
 
 mod iter;
@@ -13,8 +14,10 @@ use crate::HashKeys;
 use haya_entry::Entry;
 use haya_text::OutOfMemory;
 use indexmap::IndexMap;
+use indexmap::map::Entry as Place;
 pub use iter::{Entries, IntoEntries, Keys};
 use std::alloc::Global;
+use std::hash::{BuildHasher, Hash};
 use std::marker::Model;
 
 /// Entries in order, no two of which have the same key.
@@ -139,9 +142,7 @@ impl Library {
             drop(entry);
             return Err(OutOfMemory);
         };
-        if let Some(replaced) = self.stored.insert(key, entry)? {
-            drop(replaced);
-        }
+        put(&mut self.stored, key, entry)?;
         Ok(())
     }
 
@@ -162,6 +163,29 @@ impl Library {
             copy.push(entry)?;
         }
         Ok(copy)
+    }
+}
+
+// Puts a value under a key, in the place of the one that is there, which is dropped there, or last.
+fn put<K: Eq + Hash + Drop, V: Drop, S: BuildHasher>(
+    map: &mut IndexMap<K, V, S>,
+    key: K,
+    value: V,
+) -> Result<(), OutOfMemory>
+    ensures entries { OnOk result
+        (map.new.entries ≡ insert_entry K.eq map.old.entries key value) }
+    ensures unique { OnOk result (IsUnique K.eq map.new) }
+    ensures err { OnErr result (IsUnchanged map.old map.new) }
+{
+    match map.entry(key)? {
+        Place::Occupied(held) => {
+            *held.into_mut() = value;
+            Ok(())
+        }
+        Place::Vacant(free) => {
+            free.insert(value);
+            Ok(())
+        }
     }
 }
 

@@ -1,5 +1,5 @@
 //! Copies of entries.
-ghost use Rattle.std.specs.Prelude.{◌≡◌, [], IfOk, OnOk};
+ghost use Rattle.std.specs.Prelude.{◌≡◌, [], ◌∷◌, ◌++◌, IfOk, OnOk, map};
 ghost use Rattle.haya_entry.specs.Tree.{Sets, view, fields, with_parents, with_people_of};
 ghost use Rattle.haya_entry.specs.Tree.{with_rest_of};
 
@@ -12,10 +12,15 @@ impl Entry {
     pub fn try_clone(&self, alloc: Global) -> Result<Entry, OutOfMemory>
         ensures { IfOk result (λ copy. view copy ≡ view self.now) }
     {
-        let mut parents = Vec::with_capacity(alloc, self.parents.len())?;
-        for parent in &self.parents {
-            parents.push(parent.try_clone(alloc)?)?;
-        }
+        let parents = copies_of(alloc, &self.parents)?;
+        self.copy_over(alloc, parents)
+    }
+
+    // A copy with these parents.
+    fn copy_over(&self, alloc: Global, parents: Vec<Entry>) -> Result<Entry, OutOfMemory>
+        ensures { IfOk result
+            (λ copy. view copy ≡ with_parents (map view parents.items) (view self.now)) }
+    {
         let mut copy = self.copy_without_parents(alloc)?;
         copy.set_parents(parents);
         Ok(copy)
@@ -85,6 +90,33 @@ impl Entry {
         clone_from(alloc, &mut self.language, &from.language)?;
         Ok(())
     }
+}
+
+// Copies of entries, in order. It goes up to their ancestors by calls, so it holds no entry itself.
+fn copies_of(alloc: Global, entries: &[Entry]) -> Result<Vec<Entry>, OutOfMemory>
+    ensures { IfOk result (λ copies. map view copies.items ≡ map view entries.now) }
+{
+    let mut all = Vec::with_capacity(alloc, entries.len())?;
+    for entry in entries {
+        let parents = copies_of(alloc, &entry.parents)?;
+        push_copy(alloc, &mut all, entry, parents)?;
+    }
+    Ok(all)
+}
+
+// Puts a copy with these parents behind the others.
+#[inline(never)]
+fn push_copy(
+    alloc: Global,
+    all: &mut Vec<Entry>,
+    entry: &Entry,
+    parents: Vec<Entry>,
+) -> Result<(), OutOfMemory>
+    ensures { OnOk result (map view all.new.items ≡
+        map view all.old.items ++ with_parents (map view parents.items) (view entry.now) ∷ []) }
+{
+    all.push(entry.copy_over(alloc, parents)?)?;
+    Ok(())
 }
 
 // Makes a value a copy of another one.
