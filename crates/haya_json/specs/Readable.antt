@@ -68,8 +68,8 @@ abbrev pub IsReadableNumberOrText : TypedOrText NumericView → Type 0
 IsReadableNumberOrText (Typed n) = IsReadableNumber n
 IsReadableNumberOrText (Text text) = result_ok (numeric_read text) ≡ None
 
--- 32 bits hold the number of a page below 0, any other pages are read from their text; or a text that
--- isn't read as pages
+-- 32 bits hold the number of a page below 0, any other pages are read from their text; or a text
+-- that isn't read as pages
 abbrev pub AreReadablePages : TypedOrText (List PartView) → Type 0
 AreReadablePages (Typed ps) = by (page_below_zero ps)
   where

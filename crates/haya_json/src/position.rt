@@ -31,8 +31,8 @@ impl fmt::Display for Position {
     }
 }
 
-/// Where a text that is no JSON stops being JSON: at the first token that can't stand there, or that
-/// opens an array or an object more than 128 deep, or at the end.
+/// Where a text that is no JSON stops being JSON: at the first token that can't stand there, or
+/// that opens an array or an object more than 128 deep, or at the end.
 pub fn position_of_fault(alloc: Global, text: &str) -> Result<Position, AllocError> {
     let mut scratch = Scratch::new(alloc);
     let mut reader = Reader::new(text, &mut scratch)?;
@@ -47,8 +47,8 @@ pub fn position_of_fault(alloc: Global, text: &str) -> Result<Position, AllocErr
     Ok(position_at(text, place))
 }
 
-/// Where a name stands the second time in an object of a text that is JSON: the first such place, or
-/// the end where there is none.
+/// Where a name stands the second time in an object of a text that is JSON: the first such place,
+/// or the end where there is none.
 pub fn position_of_twice(alloc: Global, text: &str) -> Result<Position, AllocError> {
     let mut scratch = Scratch::new(alloc);
     let mut reader = Reader::new(text, &mut scratch)?;

@@ -17,8 +17,8 @@ use std::alloc::Global;
 /// reads and compares. The only error is out of memory.
 ///
 /// A library that `read_library` gave is read back where its JSON nests no deeper than 128 (the law
-/// `read_libraries_read_back`). One that is made by hand isn't where a text has an empty chunk, say,
-/// or a role has no name.
+/// `read_libraries_read_back`). One that is made by hand isn't where a text has an empty chunk,
+/// say, or a role has no name.
 pub fn reads_back(alloc: Global, library: &Library) -> Result<bool, OutOfMemory>
     ensures { IfOk result (λ back. IsTrue back ↔ ReadsBack library.now) }
 {

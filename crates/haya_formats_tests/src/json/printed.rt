@@ -118,10 +118,7 @@ const PRINTED: &[(&str, &str)] = &[
     (r#""page-range": "1,,2""#, r#""page-range":"1,,2""#),
     (r#""page-range": "1&2,&3""#, r#""page-range":"1&2,&3""#),
     (r#""page-range": "1\\-2""#, r#""page-range":"1\\-2""#),
-    (
-        r#""page-range": "5\\ - 6, 7""#,
-        r#""page-range":"5\\–6,7""#,
-    ),
+    (r#""page-range": "5\\ - 6, 7""#, r#""page-range":"5\\–6,7""#),
     (
         r#""page-range": "1- -2 x\\-p. 3–4""#,
         r#""page-range":"1- -2x\\-p. 3- 4""#,
