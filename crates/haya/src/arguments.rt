@@ -10,18 +10,35 @@ Status: 0 where an entry is found, 1 where none is, 2 at a fault.";
 const EXAMPLES: &str = "Examples:
   haya 'article > periodical' refs.json      the articles that appear in a periodical
   haya -c '*[doi]' refs.json more.json       how many entries of both files have a DOI
-  haya -t lines '!*[date]' < refs.json       what has no date, with all its fields";
+  haya -t lines '!*[date]' < refs.json       what has no date, with all its fields
+  haya -s -f lines 'article' works.tsv       the articles of a library larger than memory
+
+With --stream the entries that the input lists are asked as they come. A key that comes again isn't
+replaced (`cut -f1 | sort | uniq -d` over the keys printed shows such), and at a fault what was
+printed before stays.";
 
 const FORMATS: [&str; 3] = ["hayagriva", "csl-json", "lines"];
 
 const FORMS: [&str; 4] = ["keys", "lines", "hayagriva", "json-lines"];
 
+/// What is asked, and how the input is read.
+#[derive(Drop)]
+pub struct Arguments {
+    /// What is asked, and how it is answered.
+    pub options: Options,
+    /// Whether each entry is asked as soon as it is read, and let go.
+    pub stream: bool,
+}
+
 /// What the words ask for, the first of which is the program's own name. The error is help, the
 /// version or what is wrong.
-pub fn options_of(alloc: Global, words: &[String]) -> Result<Options, Error> {
+pub fn arguments_of(alloc: Global, words: &[String]) -> Result<Arguments, Error> {
     let command = command(alloc)?;
     let matches = command.try_get_matches_from(words)?;
-    Ok(options_in(alloc, &matches)?)
+    Ok(Arguments {
+        options: options_in(alloc, &matches)?,
+        stream: matches.get_flag("stream"),
+    })
 }
 
 // All arguments.
@@ -48,7 +65,13 @@ fn command<'a>(alloc: Global) -> Result<Command<'a>, AllocError> {
             'v',
             "Print the entries that it doesn't pick",
         ))?
-        .arg(strict(alloc))
+        .arg(strict(alloc))?
+        .arg(flag(
+            alloc,
+            "stream",
+            's',
+            "Ask each entry as it is read, and let it go: in little memory, keys that come again not looked for",
+        ))
 }
 
 // The selector.

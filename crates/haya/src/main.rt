@@ -5,8 +5,9 @@ mod arguments;
 mod fault;
 mod files;
 mod progress;
+mod streaming;
 
-use arguments::options_of;
+use arguments::{Arguments, arguments_of};
 use fault::StartFault;
 use files::read_files;
 use haya_command::{Fault, Options, complain, run};
@@ -16,6 +17,7 @@ use std::alloc::Global;
 use std::env;
 use std::io::{IsTerminal, Write};
 use std::process::ExitCode;
+use streaming::stream;
 
 fn main(rt: HostRuntime) -> ExitCode {
     let alloc = rt.alloc();
@@ -24,8 +26,8 @@ fn main(rt: HostRuntime) -> ExitCode {
         Ok(words) => words,
         Err(fault) => return ended(tell(&fault, &mut err)),
     };
-    let options = match options_of(alloc, words.as_slice()) {
-        Ok(options) => options,
+    let Arguments { options, stream: streams } = match arguments_of(alloc, words.as_slice()) {
+        Ok(arguments) => arguments,
         Err(error) => {
             let _ = error.print(&rt);
             return ended(if error.use_stderr() { 2 } else { 0 });
@@ -34,6 +36,9 @@ fn main(rt: HostRuntime) -> ExitCode {
     // A fault of the selector is told before any input is waited for.
     if let Err(error) = Selector::parse(alloc, options.selector.as_str()) {
         return ended(complain(alloc, &options, &Fault::Selector(error), &mut err));
+    }
+    if streams {
+        return ended(stream(alloc, &rt, &options, &mut stdin, &mut out, &mut err));
     }
     let Ok(keys) = HashKeys::random(&rt) else {
         return ended(tell_of(&options, &StartFault::NoKeys, &mut err));

@@ -1,3 +1,4 @@
 mod Lines
+mod Streams
 mod Together
 mod Written

@@ -4,3 +4,4 @@ pub mod Picks
 pub mod Printed
 pub mod Reading
 pub mod Run
+pub mod Streamed

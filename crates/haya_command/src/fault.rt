@@ -1,11 +1,12 @@
 //! Why a run of the command ends with status 2.
-use crate::writing::WriteFault;
 use haya_input::InputFault;
 use haya_json::ReadError;
 use haya_printing::LinesError;
+use haya_stream::WriteFault;
 use haya_text::OutOfMemory;
 use hayagriva::SelectorError;
 use std::alloc::{AllocError, AllocFailed};
+use std::io;
 use thiserror::Error;
 
 /// Why a text is no library in its format.
@@ -28,6 +29,15 @@ pub enum Fault {
     /// The text that is called so has members that its format doesn't know, which are listed.
     #[error("{0}: unknown members: {1}")]
     Unknown(String, String),
+    /// The input that is called so can't be read to its end.
+    #[error("{0}: {1}")]
+    CannotRead(String, io::Error),
+    /// The input that is called so isn't UTF-8.
+    #[error("{0}: not text")]
+    NotText(String),
+    /// Hits are to be printed as a library, of which nothing can be said before the last is there.
+    #[error("--stream prints no library: --to keys, lines or json-lines")]
+    Unstreamed,
     /// The selector's text is none.
     #[error("{0}")]
     Selector(SelectorError),

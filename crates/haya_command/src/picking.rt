@@ -32,8 +32,8 @@ pub fn picks<'l>(
     Ok(hits)
 }
 
-// A selector that holds where this one doesn't.
-fn negated(alloc: Global, selector: Selector) -> Result<Selector, OutOfMemory>
+/// A selector that holds where this one doesn't.
+pub(crate) fn negated(alloc: Global, selector: Selector) -> Result<Selector, OutOfMemory>
     ensures { IfOk result (λ s. syntax s ≡ Neg (syntax selector)) }
 {
     Ok(Selector::Neg(Box::new(alloc, selector)?))

@@ -9,7 +9,7 @@ use crate::fault::Fault;
 use crate::notes::{fault_text, names_text};
 use crate::options::{Input, Options};
 use crate::reading::{Collected, read_inputs};
-use crate::writing::write_text;
+use haya_stream::write_text;
 use hayagriva::HashKeys;
 use std::alloc::Global;
 use std::io::Write;
@@ -91,8 +91,8 @@ fn print_answer<W: Write, E: Write>(
     Ok(answer.found)
 }
 
-// Tells what was passed over, and which names in brackets no entry can have.
-fn warn<E: Write>(alloc: Global, options: &Options, notes: &str, err: &mut E)
+/// Tells what was passed over, and which names in brackets no entry can have; nothing in a quiet run.
+pub fn warn<E: Write>(alloc: Global, options: &Options, notes: &str, err: &mut E)
     ensures { IsTrue options.now.quiet → Keeps (E.contents err.old) (E.contents err.new) }
 {
     if options.quiet {

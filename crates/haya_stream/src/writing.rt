@@ -3,22 +3,15 @@ ghost use Rattle.std.specs.Prelude.{◌≡◌, ◌++◌, ◌↔◌, List, ℕ, O
 ghost use Rattle.std.specs.Io.KnownBytes.{Appends, Keeps};
 ghost use Rattle.std.specs.IoError.{error_kind};
 ghost use Rattle.std.specs.declared.io.ErrorKind.TheVariants.{BrokenPipe};
-ghost use Rattle.haya_command.specs.declared.writing.WriteFault.TheVariants.{Closed};
+ghost use Rattle.haya_stream.specs.declared.fault.WriteFault.TheVariants.{Closed};
 
+use crate::fault::WriteFault;
 use std::io;
 use std::io::Write;
 
-/// Why a text isn't written to its end.
-#[derive(Clone, Copy, Debug, Drop, PartialEq, Eq)]
-pub(crate) enum WriteFault {
-    /// Nobody reads what is written.
-    Closed,
-    /// A write failed otherwise.
-    CannotWrite,
-}
-
-/// Writes the whole text. Where a write fails, a first part of it is written.
-pub(crate) fn write_text<W: Write>(out: &mut W, text: &str) -> Result<(), WriteFault>
+/// Writes the whole text, and hands on what the writer holds back. Where a write fails, a first
+/// part of it is written.
+pub fn write_text<W: Write>(out: &mut W, text: &str) -> Result<(), WriteFault>
     ensures written { OnOk result (Appends (W.contents out.old) (W.contents out.new) text.now) }
     ensures begun { OnErr result ((first : List ℕ) × (rest : List ℕ)
         × (text.now ≡ first ++ rest) × Appends (W.contents out.old) (W.contents out.new) first) }

@@ -1,0 +1,3 @@
+pub mod Answered
+pub mod Streamed
+pub mod Turns

@@ -1,0 +1,14 @@
+//! Answers a text line by line, as it is read: any reader, any writer, and no more memory than the
+//! longest line and what is printed of a block.
+#![tactic(auto)]
+
+mod answerer;
+mod fault;
+mod line_end;
+mod stream;
+mod writing;
+
+pub use answerer::Answerer;
+pub use fault::{StreamFault, WriteFault};
+pub use stream::answer_all;
+pub use writing::write_text;
