@@ -4,7 +4,7 @@ use crate::near::{field_question, type_question};
 use crate::words::listed_unknown;
 use haya_json::Ignored;
 use haya_text::OutOfMemory;
-use hayagriva::SelectorError;
+use hayagriva::{Selector, SelectorError};
 use std::alloc::Global;
 
 /// The names of members that are passed over, each with how often it comes.
@@ -68,16 +68,11 @@ fn selector_text(
         SelectorError::UnknownEntryType(name) => (name.len(), type_question(alloc, name.as_str())?),
         _ => (1, String::new(alloc)),
     };
-    let mark = match fault_place(alloc, selector)? {
+    let mark = match Selector::fault_place(alloc, selector)? {
         Some(place) => mark(alloc, column_of(selector, place), length)?,
         None => String::new(alloc),
     };
     Ok(format!(in alloc; "haya: {selector}\n      {mark}{error}{like}\n")?)
-}
-
-// The byte of the selector at which it has its fault.
-fn fault_place(_alloc: Global, _selector: &str) -> Result<Option<usize>, OutOfMemory> {
-    Ok(None)
 }
 
 // How many characters of the selector stand before this byte.
