@@ -1,7 +1,7 @@
 -- Hits that are counted and printed as they come.
 use Rattle.std.proofs.Common.{◌≡◌, ◌≢◌, ℕ, ◌+◌, ◌<◌, Bool, true, false, ◌&&◌, List, [], ◌∷◌, ◌++◌, Option, length, length-append, refl, sym, ap, ◌∙◌, subst, append_assoc, append-nil, arith}
 use Rattle.std.specs.Prelude.{MatchBool, cond, decimal, filter, nat_lt}
-use Rattle.std.specs.List.{AllZip, concat, flat_map}
+use Rattle.std.specs.List.{concat}
 use Rattle.std.specs.Io.KnownBytes.{Appends}
 use Rattle.std.proofs.lemmas.Bool.Decides.{nat_tests}
 use Rattle.std.proofs.lemmas.List.Elements.{filter-append}
@@ -14,10 +14,9 @@ use Rattle.hayagriva.specs.Tree.{Tree}
 use Rattle.hayagriva.specs.declared.query.Hit.{Hit}
 use Rattle.haya_hits.specs.Line.{AreLines, IsLineOf}
 use Rattle.haya_lines.specs.Signs.{line_feed}
-use Rattle.haya_list.specs.Lines.{BeginsList, IsFaultOf, IsListOf}
+use Rattle.haya_list.specs.Lines.{BeginsList, IsListOf}
 use Rattle.haya_list.specs.Listed as list
 use Rattle.haya_list.specs.Listed.{Run, Told, entries_of, printed_of}
-use Rattle.haya_list.proofs.Lists.{printed_of-append}
 use Rattle.haya_printing.specs.Printed.{entry_text}
 use Rattle.haya_stream.proofs.Taken.{flat_map-append}
 use Rattle.haya_command.specs.Printed.{IsJsonLineOf, IsTextOf}

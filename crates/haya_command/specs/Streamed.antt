@@ -1,5 +1,5 @@
 -- Entries asked one after another, as they are read.
-use Rattle.std.specs.Prelude.{◌≡◌, ◌≢◌, ◌<◌, ◌+◌, ℕ, MatchBool, List, [], ◌∷◌, ◌++◌, Option, decimal, length, true, if◌then◌else◌}
+use Rattle.std.specs.Prelude.{◌≡◌, ◌<◌, ◌+◌, ℕ, MatchBool, List, [], ◌∷◌, ◌++◌, Option, decimal, length, true, if◌then◌else◌}
 use Rattle.std.specs.Io.KnownBytes.{Appends, Consumes, IsAtEnd}
 use Rattle.hayagriva.specs.Query.{AreHits}
 use Rattle.hayagriva.specs.Syntax.{Syntax}

@@ -60,7 +60,11 @@ impl<'o> Asker<'o> {
             Ok(read) => read,
             Err(error) => return Err(Fault::Selector(error)),
         };
-        let selector = if options.invert { negated(alloc, read)? } else { read };
+        let selector = if options.invert {
+            negated(alloc, read)?
+        } else {
+            read
+        };
         Ok(Asker {
             alloc,
             options,
@@ -146,9 +150,9 @@ pub fn ask_lines<'o, R: Read, W: Write>(
     ensures selector { IfOk result (λ asked. asked.selector ≡ asker.entry.selector) }
     ensures asks { IfOk result (λ asked.
         AsksInput asker.entry.options.now asker.entry.selector asker.entry.hits asked.hits (R.remaining input.old)
-            (R.remaining input.new) (W.contents out.old) (W.contents out.new)
+        (R.remaining input.new) (W.contents out.old) (W.contents out.new)
         ⊎ AsksFirst asker.entry.options.now asker.entry.selector asker.entry.hits asked.hits (R.remaining input.old)
-            (R.remaining input.new) (W.contents out.old) (W.contents out.new)) }
+        (R.remaining input.new) (W.contents out.old) (W.contents out.new)) }
     ensures part { OnErr result (AsksPart asker.entry.options.now asker.entry.selector (R.remaining input.old)
         (R.remaining input.new) (W.contents out.old) (W.contents out.new)) }
 {
