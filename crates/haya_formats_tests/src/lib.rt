@@ -9,6 +9,8 @@ mod hits;
 #[cfg(test)]
 mod json;
 #[cfg(test)]
+mod open_entries;
+#[cfg(test)]
 mod printing;
 #[cfg(test)]
 mod runs;
