@@ -36,8 +36,8 @@ struct Made {
     are_unique: bool,
 }
 
-/// The library of a text that begins as a list, and what is passed over of it. None is of any other
-/// text.
+/// The library of a text that begins as a list, and what is passed over of it. `None` where it
+/// begins as anything else.
 pub(crate) fn read_list_text(
     alloc: Global,
     text: &str,
@@ -82,7 +82,7 @@ fn made_of(alloc: Global, text: &str, scratch: &mut Scratch) -> Result<Option<Ma
     }
 }
 
-// What is made of all items of a list. None is where it is no list of JSON values.
+// What is made of all items of a list. `None` where it is no list of JSON values.
 fn read_items(alloc: Global, reader: &mut Reader<'_>) -> Result<Option<Made>, OutOfMemory>
     ensures { IfOk result (λ r. MatchOption r (items_left reader.old ≡ None)
         (λ made. (place : ℕ) ×
