@@ -365,8 +365,17 @@ fn apply_prepared<'e>(
     }
 }
 
+// Whether a call takes memory that needn't compile its selector.
+fn after_compiling(memory: Memory) -> Memory {
+    if matches!(memory, Optional) {
+        Optional
+    } else {
+        Maybe
+    }
+}
+
 // Applies a compiled selector.
-fn is_applied(
+fn is_answered(
     _alloc: Global,
     (compiled, entry, holds): (&CompiledSelector, &Entry, bool),
 ) -> Result<bool, OutOfMemory> {
@@ -383,8 +392,8 @@ fn compile_each(rt: &(impl Abort + AllocGlobal + Print), entry: &Entry) {
         asks(rt, row, &selector, is_compiled);
         let compiled = CompiledSelector::new(rt.alloc(), &selector).expect(rt, "memory");
         drop(selector);
-        let row = Row("CompiledSelector::apply", *text, *memory);
-        asks(rt, row, (&compiled, entry, *holds), is_applied);
+        let row = Row("CompiledSelector::apply", *text, after_compiling(*memory));
+        asks(rt, row, (&compiled, entry, *holds), is_answered);
         drop(compiled);
     }
 }
@@ -399,12 +408,7 @@ fn prepare_each(rt: &(impl Abort + AllocGlobal + Print), entry: &Entry) {
             is_prepared,
         );
         let mut prepared = PreparedSelector::new(rt.alloc(), &selector).expect(rt, "memory");
-        let memory = if matches!(*memory, Optional) {
-            Optional
-        } else {
-            Maybe
-        };
-        let row = Row("PreparedSelector::apply", *text, memory);
+        let row = Row("PreparedSelector::apply", *text, after_compiling(*memory));
         apply_prepared(rt, row, &mut prepared, entry, *holds);
         apply_prepared(rt, row, &mut prepared, entry, *holds);
         drop(prepared);
