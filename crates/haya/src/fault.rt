@@ -12,6 +12,9 @@ pub enum StartFault {
     /// It isn't UTF-8.
     #[error("{0}: not text")]
     NotText(String),
+    /// The input is to be read as it comes, and is in a format that is read whole.
+    #[error("--stream reads lines: --from lines")]
+    NotStreamed,
     /// An argument isn't UTF-8, or the arguments can't be had.
     #[error("an argument is not text")]
     NoWords,

@@ -10,13 +10,14 @@ mod streaming;
 use arguments::{Arguments, arguments_of};
 use fault::StartFault;
 use files::read_files;
-use haya_command::{Fault, Options, complain, run};
+use haya_command::{Fault, Format, Options, complain, run};
 use hayagriva::{HashKeys, Selector};
 use progress::Progress;
 use std::alloc::Global;
 use std::env;
-use std::io::{IsTerminal, Write};
+use std::io::{IsTerminal, Read, Write};
 use std::process::ExitCode;
+use std::rt::Files;
 use streaming::stream;
 
 fn main(rt: HostRuntime) -> ExitCode {
@@ -26,7 +27,10 @@ fn main(rt: HostRuntime) -> ExitCode {
         Ok(words) => words,
         Err(fault) => return ended(tell(&fault, &mut err)),
     };
-    let Arguments { options, stream: streams } = match arguments_of(alloc, words.as_slice()) {
+    let Arguments {
+        options,
+        stream: streams,
+    } = match arguments_of(alloc, words.as_slice()) {
         Ok(arguments) => arguments,
         Err(error) => {
             let _ = error.print(&rt);
@@ -38,7 +42,7 @@ fn main(rt: HostRuntime) -> ExitCode {
         return ended(complain(alloc, &options, &Fault::Selector(error), &mut err));
     }
     if streams {
-        return ended(stream(alloc, &rt, &options, &mut stdin, &mut out, &mut err));
+        return ended(stream_lines(alloc, &rt, &options, &mut stdin, &mut out, &mut err));
     }
     let Ok(keys) = HashKeys::random(&rt) else {
         return ended(tell_of(&options, &StartFault::NoKeys, &mut err));
@@ -56,6 +60,21 @@ fn main(rt: HostRuntime) -> ExitCode {
     match read {
         Ok(inputs) => ended(run(alloc, keys, &options, inputs.as_slice(), &mut out, &mut err)),
         Err(fault) => ended(tell_of(&options, &fault, &mut err)),
+    }
+}
+
+// Asks the entries of the input as they are read, where it is in lines.
+fn stream_lines<F: Files, R: Read, W: Write, E: Write>(
+    alloc: Global,
+    rt: &F,
+    options: &Options,
+    stdin: &mut R,
+    out: &mut W,
+    err: &mut E,
+) -> u8 {
+    match options.from {
+        None | Some(Format::Lines) => stream(alloc, rt, options, stdin, out, err),
+        Some(_) => tell_of(options, &StartFault::NotStreamed, err),
     }
 }
 
