@@ -58,11 +58,11 @@ fn tells_where_it_nests_deeper(rt: HostRuntime) {
 }
 
 #[test]
-fn reads_a_million_members(rt: HostRuntime) {
+fn reads_many_members(rt: HostRuntime) {
     let mut text = String::new(rt.alloc());
     text.push_str(r#"{"a": {"type": "misc""#)
         .expect(&rt, "memory");
-    for place in 0..1_000_000 {
+    for place in 0..100_000 {
         write!(text, ", \"n{place}\": 0").expect(&rt, "memory");
     }
     text.push_str("}}").expect(&rt, "memory");
@@ -74,7 +74,7 @@ fn reads_a_million_members(rt: HostRuntime) {
         assert!(rt; count == 1);
         names = names.saturating_add(1);
     }
-    assert!(rt; names == 1_000_000);
+    assert!(rt; names == 100_000);
 }
 
 #[test]
