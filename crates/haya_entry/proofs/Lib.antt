@@ -1,4 +1,5 @@
 pub mod Trees
+pub mod Depths
 pub mod Equal
 mod SerialLemmas
 pub mod LevelLemmas

@@ -18,11 +18,11 @@ use Rattle.haya_entry.specs.declared.types.EntryType.{EntryType}
 use Rattle.haya_entry.specs.SerialNumber.{Serials, serial_view, serial_text, with_serial}
 
 -- all of an entry but its parents
--- A field that is added stands here by its name and the type of its value, and below in `fields_of`
--- and `no_fields`; as a `FieldName` in `specs/FieldName.antt`, and in `has_field`; with its test in the
--- proof that `==` tells values apart; and in the code in the struct, `new`, the enum `FieldName`,
--- `has_field`, its getter and setter, and the copy. Crates above name it too: `docs/architecture.md`
--- has the list.
+-- A field that is added stands here by its name and the type of its value, and below in
+-- `fields_of` and `no_fields`; as a `FieldName` in `specs/FieldName.antt`, and in `has_field`; with
+-- its test in the proof that `==` tells values apart; and in the code in the struct, `new`, the
+-- enum `FieldName`, `has_field`, its getter and setter, and the copy. Crates above name it too:
+-- `docs/architecture.md` has the list.
 pub record Fields : Type 0 where
   pub key : List ℕ
   pub entry_type : EntryType

@@ -19,7 +19,7 @@ use std::alloc::Global;
 
 /// A work of the literature: its key, its type, its fields, and the works that it appears in, its
 /// parents.
-#[derive(PartialEq, Eq, Hash, Debug, Drop)]
+#[derive(PartialEq, Eq, Hash, Debug)]
 pub struct Entry {
     /// The key, under which a library keeps the entry.
     pub key: String,
@@ -79,6 +79,50 @@ pub struct Entry {
     pub serial_number: Option<SerialNumber>,
     /// The language of the work.
     pub language: Option<String>,
+}
+
+// A loop along the first parents, so that a long chain takes no stack. The other parents are dropped
+// by calls.
+impl Drop for Entry {
+    fn drop(mut self) {
+        loop {
+            let Entry {
+                key: _,
+                entry_type: _,
+                mut parents,
+                title: _,
+                location: _,
+                organization: _,
+                archive: _,
+                archive_location: _,
+                call_number: _,
+                note: _,
+                abstract_: _,
+                genre: _,
+                authors: _,
+                editors: _,
+                affiliated: _,
+                date: _,
+                publisher: _,
+                url: _,
+                issue: _,
+                chapter: _,
+                volume: _,
+                edition: _,
+                volume_total: _,
+                page_total: _,
+                page_range: _,
+                time_range: _,
+                runtime: _,
+                serial_number: _,
+                language: _,
+            } = self;
+            if parents.is_empty() {
+                return;
+            }
+            self = parents.swap_remove(0);
+        }
+    }
 }
 
 impl Entry {

@@ -8,7 +8,8 @@ use Rattle.json.specs.Json.{Json, Items}
 use Rattle.haya_people.specs.Person.{PersonView}
 use Rattle.haya_people.specs.Reading.{person_read}
 use Rattle.haya_json.specs.Values.{person_of, person_in, persons_of, role_of, roles_of, affiliated_of}
-use Rattle.haya_json.specs.Printed.{one_or_many_json, person_json, person_parts, person_text, roles_json, same_person, reads_as_person}
+use Rattle.haya_people.specs.PersonText.{person_text}
+use Rattle.haya_json.specs.Printed.{one_or_many_json, person_json, person_parts, roles_json, same_person, reads_as_person}
 use Rattle.haya_json.specs.Readable.{HasNamedRole}
 use Rattle.haya_json.proofs.Looked.{get_also, get_also_true, true_back, nothing_earlier, text_optional, both_are, same_texts, same_truths, is_alone, EachBack, each_back, many_back}
 use Rattle.haya_json.proofs.Solids.{solid, persons_of_null}

@@ -30,7 +30,8 @@ use Rattle.haya_values.specs.Publisher.{PublisherView}
 use Rattle.haya_values.specs.Url.{UrlView}
 use Rattle.haya_entry.specs.SerialNumber.{Serials}
 use Rattle.haya_json.specs.Whole.{is_i32}
-use Rattle.haya_json.specs.Printed.{also, also_true, array_of, one_or_many_json, chunks_json, format_json, forms_json, person_json, person_parts, person_text, reads_as_person, roles_json, whole_json, byte_json, season_json, date_json, date_parts, is_year, reads_as_date, publisher_json, publisher_parts, url_json, number_json, number_or_text_json, page_below_zero, pages_json, typed_json, serial_json, serial_members}
+use Rattle.haya_people.specs.PersonText.{person_text}
+use Rattle.haya_json.specs.Printed.{also, also_true, array_of, one_or_many_json, chunks_json, format_json, forms_json, person_json, person_parts, reads_as_person, roles_json, whole_json, byte_json, season_json, date_json, date_parts, is_year, reads_as_date, publisher_json, publisher_parts, url_json, number_json, number_or_text_json, page_below_zero, pages_json, typed_json, serial_json, serial_members}
 use Rattle.haya_json.specs.Readable.{AreReadablePages, IsReadableDate, IsReadableUrl, IsReadableNumber, IsReadableNumberOrText, ComesBehind, AreInOrder}
 use Rattle.haya_json.proofs.FieldsBack.{weaken, always}
 use Rattle.haya_json.proofs.Wholes.{small, byte_fits}

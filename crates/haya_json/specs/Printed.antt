@@ -21,6 +21,7 @@ use Rattle.haya_numbers.specs.NumericRoundTrip.{round_trip_text}
 use Rattle.haya_numbers.specs.Pages.{PartView, SinglePage}
 use Rattle.haya_numbers.specs.PagesRoundTrip as pages
 use Rattle.haya_people.specs.Person.{PersonView}
+use Rattle.haya_people.specs.PersonText.{person_text}
 use Rattle.haya_people.specs.Reading.{person_read}
 use Rattle.haya_people.specs.Roles.{RolesView, role_name}
 use Rattle.haya_values.specs.MaybeTyped.{TypedOrText, Typed, Text}
@@ -67,19 +68,6 @@ unfoldable pub format_json : TextView → Json
 format_json t = forms_json t.value t.short
 
 -- ---- persons
-
-abbrev pub family_text : Option (List ℕ) → List ℕ → List ℕ
-family_text None name = name
-family_text (Some prefix) name = prefix ++ (codes " " ++ name)
-
-abbrev pub behind_comma : Option (List ℕ) → List ℕ
-behind_comma None = []
-behind_comma (Some part) = codes ", " ++ part
-
--- a person as one text: the family name, the suffix, the given name
-abbrev pub person_text : PersonView → List ℕ
-person_text p =
-    family_text p.prefix p.name ++ (behind_comma p.suffix ++ behind_comma p.given_name)
 
 -- both are true, or neither is
 abbrev pub same_truth : Bool → Bool → Bool

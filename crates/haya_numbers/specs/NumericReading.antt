@@ -39,7 +39,8 @@ is_suffix c = not (is_numeric c || is_whitespace c)
 -- number is its own.
 abbrev pub spare_zeros : List ℕ → List ℕ
 spare_zeros [] = []
-spare_zeros (c ∷ cs) = if c == zero_digit && begins_with is_numeric cs then c ∷ spare_zeros cs else []
+spare_zeros (c ∷ cs) =
+    if c == zero_digit && begins_with is_numeric cs then c ∷ spare_zeros cs else []
 
 abbrev pub past_zeros : List ℕ → List ℕ
 past_zeros [] = []
@@ -70,8 +71,9 @@ signed false n = pos n
 -- the number at the front, and what stands behind it
 abbrev pub number_front : List ℕ → Option (ℤ × List ℕ)
 number_front cs =
-    option_map (λ n. (signed (begins_with (λ c. c == hyphen) cs) n, behind_run is_numeric (past_sign cs)))
-    (magnitude (run is_numeric (past_sign cs)))
+    option_map
+        (λ n. (signed (begins_with (λ c. c == hyphen) cs) n, behind_run is_numeric (past_sign cs)))
+        (magnitude (run is_numeric (past_sign cs)))
 
 -- a number of a set with its delimiter: the run behind the number names it
 abbrev pub delimited : ℤ → List ℕ → Item × List ℕ

@@ -29,7 +29,8 @@ spaced_delimiter d = delimiter_char d ∷ blank ∷ []
 -- characters that is none, and a blank.
 abbrev pub set_end : List ℕ → List ℕ
 set_end text =
-    if begins_with is_delimiter (chars text) then en_dash_bytes ++ (en_dash_bytes ++ blank ∷ []) else []
+    if begins_with is_delimiter (chars text) then en_dash_bytes ++ (en_dash_bytes ++ blank ∷ [])
+    else []
 
 -- A value with a suffix. Of a set the white space that begins the suffix stands behind the first
 -- number, which is where it is read from, and each delimiter has a blank behind it.

@@ -11,8 +11,8 @@ use Rattle.haya_numbers.specs.Pages.{PartView, Ampersand, Comma, EscapedRange, S
 use Rattle.haya_numbers.specs.PagesPrinted.{shown_pages}
 use Rattle.haya_numbers.specs.PagesReading.{pages_read}
 
--- A part, each number by its exact text. Nothing stands behind a comma; a hyphen that was escaped is
--- escaped again, and any other range has an en dash.
+-- A part, each number by its exact text. Nothing stands behind a comma; a hyphen that was escaped
+-- is escaped again, and any other range has an en dash.
 abbrev pub exact_part : PartView → List ℕ
 exact_part Ampersand = ampersand ∷ []
 exact_part Comma = comma ∷ []

@@ -4,7 +4,8 @@ ghost use Rattle.std.specs.Prelude.{◌≡◌, ◌↔◌, ◌<◌, ℕ, ℤ, Lis
 ghost use Rattle.std.specs.Str.{IsUtf8, chars};
 ghost use Rattle.std.specs.Cmp.{IsTotalOrder};
 ghost use Rattle.haya_text.specs.Equality.{EqualsByValue, EqualsByView, HashesAlike};
-ghost use Rattle.haya_numbers.specs.Numeric.{NumericView, Single, value_view, numeric_view, csl_order};
+ghost use Rattle.haya_numbers.specs.Numeric.{NumericView, Single, value_view, numeric_view};
+ghost use Rattle.haya_numbers.specs.Numeric.{csl_order};
 ghost use Rattle.haya_numbers.specs.NumericBack.{is_kept, is_readable, reads_back as is_back};
 ghost use Rattle.haya_numbers.specs.NumericForms.{roman_text};
 ghost use Rattle.haya_numbers.specs.NumericGrammar.{IsFault, ReadsAs};

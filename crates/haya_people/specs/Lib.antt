@@ -5,6 +5,7 @@ pub mod Roles
 pub mod Tables
 pub mod Signs
 pub mod PersonOrder
+pub mod PersonText
 pub mod FirstName
 pub mod Forms
 pub mod Initials

@@ -1,6 +1,7 @@
 //! Persons: the parts of a name.
-ghost use Rattle.std.specs.Prelude.{◌≡◌, IfOk};
+ghost use Rattle.std.specs.Prelude.{◌≡◌, string_bytes, IfOk};
 ghost use Rattle.haya_people.specs.Person.{person_view};
+ghost use Rattle.haya_people.specs.PersonText.{person_text};
 
 use haya_text::{OutOfMemory, ReadFault, TryClone};
 use std::alloc::Global;
@@ -36,6 +37,29 @@ impl Person {
             comma_suffix: self.comma_suffix,
             alias: self.alias.try_clone(alloc)?,
         })
+    }
+
+    /// The name as one text: the prefix and the family name, then the suffix and the given name,
+    /// each behind a comma, as `van der Kooy, Jr., Ruben`. `from_str` reads it; the alias, and
+    /// whether the suffix stands after a comma, aren't in it.
+    pub fn to_serialized(&self, alloc: Global) -> Result<String, OutOfMemory>
+        ensures { IfOk result (λ text. string_bytes text ≡ person_text (person_view self.now)) }
+    {
+        let mut text = String::new(alloc);
+        if let Some(prefix) = &self.prefix {
+            text.push_str(prefix.as_str())?;
+            text.push_str(" ")?;
+        }
+        text.push_str(self.name.as_str())?;
+        if let Some(suffix) = &self.suffix {
+            text.push_str(", ")?;
+            text.push_str(suffix.as_str())?;
+        }
+        if let Some(given_name) = &self.given_name {
+            text.push_str(", ")?;
+            text.push_str(given_name.as_str())?;
+        }
+        Ok(text)
     }
 }
 

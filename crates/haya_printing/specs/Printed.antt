@@ -8,6 +8,7 @@ use Rattle.haya_numbers.specs.NumericPrinted.{shown_numeric}
 use Rattle.haya_numbers.specs.Pages.{PartView}
 use Rattle.haya_numbers.specs.PagesPrinted.{shown_pages}
 use Rattle.haya_people.specs.Person.{PersonView}
+use Rattle.haya_people.specs.PersonText.{person_text}
 use Rattle.haya_people.specs.Roles.{RoleView, RolesView, role_name}
 use Rattle.haya_time.specs.DatePrinted.{date_text}
 use Rattle.haya_time.specs.DurationPrint.{duration_text, range_text}
@@ -45,19 +46,6 @@ also_each name print (Some vs) rest = each name print vs rest
 -- the long form
 abbrev pub long_text : TextView → List ℕ
 long_text t = to_serialized t.value
-
-abbrev pub family_text : Option (List ℕ) → List ℕ → List ℕ
-family_text None name = name
-family_text (Some prefix) name = prefix ++ (codes " " ++ name)
-
-abbrev pub behind_comma : Option (List ℕ) → List ℕ
-behind_comma None = []
-behind_comma (Some part) = codes ", " ++ part
-
--- the family name, the suffix, the given name
-abbrev pub person_text : PersonView → List ℕ
-person_text p =
-    family_text p.prefix p.name ++ (behind_comma p.suffix ++ behind_comma p.given_name)
 
 -- a typed value as it is shown, or the text
 abbrev pub typed_text : {V : Type 0} → (V → List ℕ) → TypedOrText V → List ℕ

@@ -1,10 +1,9 @@
 //! The texts of values.
-ghost use Rattle.std.specs.Prelude.{◌≡◌, ◌∷◌, ◌++◌, map, option_map, string_bytes, OnOk};
+ghost use Rattle.std.specs.Prelude.{◌≡◌, ◌∷◌, ◌++◌, map, option_map, OnOk};
 ghost use Rattle.haya_lines.specs.Signs.{colon};
 ghost use Rattle.haya_people.specs.Person.{person_view};
 ghost use Rattle.haya_people.specs.Roles.{role_name, role_view, roles_view};
-ghost use Rattle.haya_printing.specs.Printed.{affiliated_item, also_roles, behind_comma};
-ghost use Rattle.haya_printing.specs.Printed.{family_text, role_items, roles_items};
+ghost use Rattle.haya_printing.specs.Printed.{affiliated_item, also_roles, role_items, roles_items};
 ghost use Rattle.haya_printing.specs.Pushed.{Pushes};
 
 use crate::items::{ToItem, push_name};
@@ -35,7 +34,7 @@ impl ToItem for FormatString {
 
 impl ToItem for Person {
     ghost use Rattle.haya_people.specs.Person.{PersonView, person_view};
-    ghost use Rattle.haya_printing.specs.Printed.{person_text};
+    ghost use Rattle.haya_people.specs.PersonText.{person_text};
 
     ghost View = { PersonView };
 
@@ -44,37 +43,11 @@ impl ToItem for Person {
     ghost text = { person_text };
 
     /// The family name, the suffix, the given name.
-    fn push_text(&self, _alloc: Global, line: &mut String) -> Result<(), OutOfMemory> {
-        push_family(line, self)?;
-        push_behind_comma(line, &self.suffix)?;
-        push_behind_comma(line, &self.given_name)
+    fn push_text(&self, alloc: Global, line: &mut String) -> Result<(), OutOfMemory> {
+        let text = self.to_serialized(alloc)?;
+        line.push_str(text.as_str())?;
+        Ok(())
     }
-}
-
-// The prefix, if there is one, and the name.
-fn push_family(line: &mut String, person: &Person) -> Result<(), OutOfMemory>
-    ensures { OnOk result (Pushes line.old line.new
-        (λ rest. family_text (option_map string_bytes person.now.prefix)
-        (string_bytes person.now.name) ++ rest)) }
-{
-    if let Some(prefix) = &person.prefix {
-        line.push_str(prefix.as_str())?;
-        line.push_str(" ")?;
-    }
-    line.push_str(person.name.as_str())?;
-    Ok(())
-}
-
-// A comma and the part, if there is one.
-fn push_behind_comma(line: &mut String, part: &Option<String>) -> Result<(), OutOfMemory>
-    ensures { OnOk result (Pushes line.old line.new
-        (λ rest. behind_comma (option_map string_bytes part.now) ++ rest)) }
-{
-    if let Some(part) = part {
-        line.push_str(", ")?;
-        line.push_str(part.as_str())?;
-    }
-    Ok(())
 }
 
 /// An item of each person in each role, where there are any.

@@ -1,6 +1,5 @@
 pub mod Options
 pub mod Syntaxes
-mod Depths
 mod Sides
 mod Equals
 mod NameSets

@@ -34,7 +34,8 @@ mutual
   pub syntax_eq-Decides : (s t : Syntax) → Decides (syntax_eq s t) (s ≡ t)
   syntax_eq-Decides Wildcard Wildcard = (λ _. refl, λ _. refl)
   syntax_eq-Decides (Entry k) (Entry l) =
-      one Entry (λ _ _ e. cc) _ _ _ (same_true entry_type.the_type tt k l, true_same entry_type.the_type k l)
+      one Entry (λ _ _ e. cc) _ _ _
+      (same_true entry_type.the_type tt k l, true_same entry_type.the_type k l)
   syntax_eq-Decides (Neg s) (Neg t) = one Neg (λ _ _ e. cc) _ _ _ (syntax_eq-Decides s t)
   syntax_eq-Decides (Binding n s) (Binding m t) =
       two Binding (λ _ _ _ _ e. (cc, cc)) _ _ _ _ _ _ (bytes_decides n m) (syntax_eq-Decides s t)
@@ -42,7 +43,8 @@ mutual
       two (λ names r. Attr r names) (λ _ _ _ _ e. (cc, cc)) _ _ _ _ _ _
       (pointwise_decides bytes_decides ns ms) (syntax_eq-Decides s t)
   syntax_eq-Decides (Alt ss) (Alt ts) = one Alt (λ _ _ e. cc) _ _ _ (syntaxes_eq-Decides ss ts)
-  syntax_eq-Decides (Multi ss) (Multi ts) = one Multi (λ _ _ e. cc) _ _ _ (syntaxes_eq-Decides ss ts)
+  syntax_eq-Decides (Multi ss) (Multi ts) =
+      one Multi (λ _ _ e. cc) _ _ _ (syntaxes_eq-Decides ss ts)
   syntax_eq-Decides (Ancestrage l r) (Ancestrage m s) =
       two (λ right left. Ancestrage left right) (λ _ _ _ _ e. (cc, cc)) _ _ _ _ _ _
       (syntax_eq-Decides r s) (syntax_eq-Decides l m)

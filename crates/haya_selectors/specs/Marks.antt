@@ -6,4 +6,5 @@ use Rattle.haya_selectors.specs.Simple.{is_simple}
 
 -- of the first nodes, whether the selector of each is simple
 abbrev pub AreMarked : List (List ℕ) → List Node → List Bool → Type 0
-AreMarked names nodes marks = marks ≡ map is_simple (take (length marks) (node_syntaxes names nodes))
+AreMarked names nodes marks =
+    marks ≡ map is_simple (take (length marks) (node_syntaxes names nodes))

@@ -169,8 +169,8 @@ impl Entry {
         }
     }
 
-    /// The date of the entry, otherwise of its first ancestor that has one: the parents are looked at
-    /// in order, then all parents of these, and so on. `None` where none has a date.
+    /// The date of the entry, otherwise of its first ancestor that has one: the parents are looked
+    /// at in order, then all parents of these, and so on. `None` where none has a date.
     pub fn date_any(&self) -> Option<&Date>
         ensures { option_map (λ d. d.now) result
             ≡ first_value (λ t. (fields t).date) (view self.now) }

@@ -4,7 +4,7 @@ ghost use Rattle.std.specs.Option.{option_eq};
 ghost use Rattle.std.specs.Str.{bytes_eq};
 ghost use Rattle.haya_people.specs.Person.{person_view};
 ghost use Rattle.haya_people.specs.Roles.{roles_view};
-ghost use Rattle.haya_json.specs.Printed.{person_parts, person_text, reads_as_person};
+ghost use Rattle.haya_json.specs.Printed.{person_parts, reads_as_person};
 ghost use Rattle.haya_json.specs.Printed.{same_person, same_truth};
 ghost use Rattle.haya_json.specs.Writing.{KeepsBefore, WritesValue};
 
@@ -27,33 +27,12 @@ impl ToJson for Person {
     /// A text where that reads as the person, otherwise an object of the parts of the name.
     #[tactic(auto, unfolding(crate::specs::Printed::person_json))]
     fn write_json(&self, alloc: Global, out: &mut Writer) -> Result<(), OutOfMemory> {
-        let text = person_text(alloc, self)?;
+        let text = self.to_serialized(alloc)?;
         if reads_as(alloc, text.as_str(), self)? {
             return Ok(out.string(text.as_str())?);
         }
         write_parts(out, self)
     }
-}
-
-// A person as one text: the family name, the suffix, the given name.
-fn person_text(alloc: Global, person: &Person) -> Result<String, OutOfMemory>
-    ensures { IfOk result (λ s. string_bytes s ≡ person_text (person_view person.now)) }
-{
-    let mut text = String::new(alloc);
-    if let Some(prefix) = &person.prefix {
-        text.push_str(prefix.as_str())?;
-        text.push_str(" ")?;
-    }
-    text.push_str(person.name.as_str())?;
-    if let Some(suffix) = &person.suffix {
-        text.push_str(", ")?;
-        text.push_str(suffix.as_str())?;
-    }
-    if let Some(given_name) = &person.given_name {
-        text.push_str(", ")?;
-        text.push_str(given_name.as_str())?;
-    }
-    Ok(text)
 }
 
 // Whether the text reads as the person.

@@ -1,7 +1,7 @@
 use Rattle.std.proofs.Common.{◌<◌, length, rules, arith, ap}
 use denote.Param.Weighed.{most}
 use Rattle.haya_selectors.specs.declared.selector.Selector.TheViews.{sized-Alt, sized-Multi}
-use Rattle.haya_selectors.proofs.Depths.{most_swap_remove}
+use Rattle.haya_entry.proofs.Depths.{most_swap_remove}
 use Rattle.haya_selectors.proofs.selector.Selector.TheLaws.{the_size}
 use Rattle.haya_selectors.proofs.selector.Selector.+drop.Goals as goal
 
