@@ -3,6 +3,7 @@ ghost use Rattle.std.specs.Prelude.{◌≡◌, ◌≢◌};
 ghost use Rattle.haya_run.specs.declared.fault.Fault.TheVariants.{Usage};
 
 use haya_input::InputFault;
+use haya_stream::WriteFault;
 use hayagriva::{OutOfMemory, SelectorError};
 use std::alloc::{AllocError, AllocFailed};
 use thiserror::Error;
@@ -73,6 +74,16 @@ impl From<SelectorError> for Fault {
             SelectorError::OutOfMemory => Fault::OutOfMemory,
             _ => Fault::Selector(error),
         }
+    }
+}
+
+impl From<WriteFault> for Fault {
+    ghost use Rattle.haya_run.specs.declared.fault.Fault.TheVariants.{CannotWrite};
+
+    ghost from_gives = { λ _ e. e ≡ CannotWrite };
+
+    fn from(_fault: WriteFault) -> Fault {
+        Fault::CannotWrite
     }
 }
 

@@ -11,4 +11,4 @@ mod writing;
 pub use answerer::Answerer;
 pub use fault::{StreamFault, WriteFault};
 pub use stream::answer_all;
-pub use writing::write_text;
+pub use writing::{write_all, write_text};

@@ -16,10 +16,21 @@ pub fn write_text<W: Write>(out: &mut W, text: &str) -> Result<(), WriteFault>
     ensures begun { OnErr result ((first : List ℕ) × (rest : List ℕ)
         × (text.now ≡ first ++ rest) × Appends (W.contents out.old) (W.contents out.new) first) }
 {
+    write_all(out, text)?;
+    flushed(out)
+}
+
+/// Writes the whole text, by one write but where the writer takes less of it or is interrupted.
+/// Where a write fails, a first part of it is written.
+pub fn write_all<W: Write>(out: &mut W, text: &str) -> Result<(), WriteFault>
+    ensures written { OnOk result (Appends (W.contents out.old) (W.contents out.new) text.now) }
+    ensures begun { OnErr result ((first : List ℕ) × (rest : List ℕ)
+        × (text.now ≡ first ++ rest) × Appends (W.contents out.old) (W.contents out.new) first) }
+{
     let mut rest = text.as_bytes();
     'writes: for _ in 0..u64::MAX {
         if rest.is_empty() {
-            return flushed(out);
+            return Ok(());
         }
         match out.write(rest) {
             Ok(0) => return Err(WriteFault::CannotWrite),

@@ -19,16 +19,16 @@ pub hits-preserved : goal.hits-preserved
 hits-preserved g c =
     let (line, is, put) = c.in_ok-push_line.ensures in
     let whole : string_bytes c.push_line.new.text ≡ line = put ∙ ap (λ l. l ++ line) c.clear.ensures.bytes in
-    one_printed _ _ _ _ _ c.hits.invariant c.in_ok-hit.field-0 _ line (rw c.in_ok-hit.was at c.in-Some.ensures.steps) is (rw (c.as_bytes.ensures.value, whole) at c.in_ok-write_line.ensures.written)
+    one_printed _ _ _ _ _ c.hits.invariant c.in_ok-hit.field-0 _ line (rw c.in_ok-hit.was at c.in-Some.ensures.steps) is (rw (c.as_str.ensures.value, whole) at c.in_ok-write_all.ensures.written)
 
-pub returns-in_err-write_line-clause-part : goal.returns-in_err-write_line-clause-part
-returns-in_err-write_line-clause-part g c =
-    let p = err_from_is_err_and c.from_residual-in_err-write_line.result c.from_residual-in_err-write_line.ensures.1 in
-    let (piece, behind, parts, taken) = c.in_err-write_line.ensures.begun in
+pub returns-in_err-write_all-clause-part : goal.returns-in_err-write_all-clause-part
+returns-in_err-write_all-clause-part g c =
+    let p = err_from_is_err_and c.from_residual-in_err-write_all.result c.from_residual-in_err-write_all.ensures.1 in
+    let (piece, behind, parts, taken) = c.in_err-write_all.ensures.begun in
     let (line, is, put) = c.in_ok-push_line.ensures in
     let whole : string_bytes c.push_line.new.text ≡ line = put ∙ ap (λ l. l ++ line) c.clear.ensures.bytes in
-    rw (p.1, p.2, c.in_err-write_line.ensures.fault)
-    (piece_printed _ _ _ _ _ c.hits.invariant c.in_ok-hit.field-0 _ piece behind (rw c.in_ok-hit.was at c.in-Some.ensures.steps) (subst (IsLineOf c.in_ok-hit.field-0) (sym whole ∙ sym c.as_bytes.ensures.value ∙ parts) is) taken)
+    rw (p.1, p.2)
+    (piece_printed _ _ _ _ _ c.hits.invariant c.in_ok-hit.field-0 _ piece behind (rw c.in_ok-hit.was at c.in-Some.ensures.steps) (subst (IsLineOf c.in_ok-hit.field-0) (sym whole ∙ sym c.as_str.ensures.value ∙ parts) is) taken)
 
 pub returns-clause-part : goal.returns-clause-part
 returns-clause-part g c = part_printed _ _ _ _ _ c.hits.invariant _ c.in-Err.ensures.bytes

@@ -1,6 +1,6 @@
 use Rattle.std.proofs.Common.{List, ℕ, ◌≡◌, ◌++◌}
 use Rattle.std.specs.Io.KnownBytes.{Appends}
-use Rattle.haya_stream.proofs.writing.write_text.Given as goal
+use Rattle.haya_stream.proofs.writing.write_all.Given as goal
 
 -- what is written of the text, and what is left of it
 abbrev pub invariant-writes : goal.invariant-writes

@@ -1,8 +1,8 @@
 use Rattle.std.proofs.Common.{◌≡◌, ◌++◌, ◌-◌, ap, sym, ◌∙◌, length, take, drop, append_assoc, take-append-drop}
 use Rattle.std.proofs.KnownBytes.{Appends-kept, Appends-trans}
 use Rattle.std.proofs.lemmas.List.{take_rest}
-use Rattle.haya_run.proofs.printing.write_line.Goals as goal
-use Rattle.haya_run.proofs.printing.write_line.Goals.{in-Ok, in-Err+else-ne}
+use Rattle.haya_stream.proofs.writing.write_all.Goals as goal
+use Rattle.haya_stream.proofs.writing.write_all.Goals.{in-Ok, in-Err+else-ne}
 
 pub writes-preserved : goal.writes-preserved
 writes-preserved g c =
