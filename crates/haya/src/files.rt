@@ -1,11 +1,11 @@
 //! Reads the input: files, and standard input.
-ghost use Rattle.std.specs.Prelude.{◌≡◌, ◌<◌, ℕ, List, Option, Ok, Some, length};
-ghost use Rattle.std.specs.Prelude.{IfOk, OnOk, string_bytes};
+ghost use Rattle.std.specs.Prelude.{◌≡◌, IfOk, OnOk, string_bytes};
 ghost use Rattle.std.specs.Io.KnownBytes.{Consumes, IsAtEnd};
 
 use crate::fault::StartFault;
 use crate::progress::Progress;
 use haya_command::Input;
+use haya_stream::read_all;
 use std::alloc::Global;
 use std::fs::File;
 use std::io;
@@ -67,55 +67,6 @@ fn read_input<R: Read, E: Write>(
     match String::from_utf8(bytes) {
         Ok(text) => Ok(Input { name, text }),
         Err(_) => Err(StartFault::NotText(name)),
-    }
-}
-
-// All bytes that a reader has left. A read that is only interrupted is tried again.
-fn read_all<R: Read, E: Write>(
-    alloc: Global,
-    reader: &mut R,
-    progress: &mut Progress<'_, E>,
-) -> io::Result<Vec<u8>>
-    ensures bytes { IfOk result (λ bytes.
-        Consumes (R.remaining reader.old) (R.remaining reader.new) bytes.items) }
-    ensures end { OnOk result (IsAtEnd (R.remaining reader.new)) }
-{
-    let mut bytes = Vec::new(alloc);
-    let mut chunk = [0u8; 65536];
-    'reads: for _ in 0..u64::MAX {
-        match read_more(reader, &mut chunk, &mut bytes)? {
-            Some(0) => return Ok(bytes),
-            Some(taken) => progress.add(taken),
-            None => {}
-        }
-    }
-    Err(io::Error::from(io::ErrorKind::Other))
-}
-
-// Reads once, and puts what it takes behind the bytes: how many there are, 0 at the end, and none
-// where the read was interrupted.
-fn read_more<R: Read>(
-    reader: &mut R,
-    chunk: &mut [u8],
-    bytes: &mut Vec<u8>,
-) -> io::Result<Option<usize>>
-    requires { 0 < length chunk.old }
-    ensures bytes { OnOk result ((start : Option (List ℕ)) →
-        Consumes start (R.remaining reader.old) bytes.old.items →
-        Consumes start (R.remaining reader.new) bytes.new.items) }
-    ensures end { result ≡ Ok (Some 0) → IsAtEnd (R.remaining reader.new) }
-{
-    match reader.read(chunk) {
-        Ok(taken) => {
-            bytes.extend_from_slice(&chunk[..taken])?;
-            Ok(Some(taken))
-        }
-        Err(error) => {
-            if error.kind() == io::ErrorKind::Interrupted {
-                return Ok(None);
-            }
-            Err(error)
-        }
     }
 }
 

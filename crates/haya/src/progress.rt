@@ -1,4 +1,5 @@
 //! How far the reading of a long input is, shown to a person.
+use haya_stream::ByteCounter;
 use std::io::Write;
 
 // A line is shown at each ten megabytes.
@@ -22,20 +23,22 @@ impl<'e, E: Write> Progress<'e, E> {
         }
     }
 
-    /// So many bytes more were read.
-    pub fn add(&mut self, bytes: usize) {
-        let before = self.read / STEP;
-        self.read = self.read.saturating_add(bytes as u64);
-        if self.is_shown && self.read / STEP > before {
-            let _ = write!(self.err, "\rhaya: {} MB read", self.read / 1_000_000);
-            let _ = self.err.flush();
-        }
-    }
-
     /// Takes away what was shown.
     pub fn end(&mut self) {
         if self.is_shown && self.read >= STEP {
             let _ = write!(self.err, "\r                              \r");
+            let _ = self.err.flush();
+        }
+    }
+}
+
+impl<E: Write> ByteCounter for Progress<'_, E> {
+    /// Shows the count where a step is passed.
+    fn add(&mut self, bytes: usize) {
+        let before = self.read / STEP;
+        self.read = self.read.saturating_add(bytes as u64);
+        if self.is_shown && self.read / STEP > before {
+            let _ = write!(self.err, "\rhaya: {} MB read", self.read / 1_000_000);
             let _ = self.err.flush();
         }
     }

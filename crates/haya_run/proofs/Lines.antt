@@ -1,21 +1,16 @@
 -- Lines that are printed one after another as a query gives its hits.
-use Rattle.std.proofs.Common.{◌≡◌, List, [], ◌∷◌, ◌++◌, ℕ, Option, None, Some, refl, ap, sym, ◌∙◌, append-nil, inl, inr}
+use Rattle.std.proofs.Common.{◌≡◌, List, [], ◌∷◌, ◌++◌, ℕ, Option, refl, ap, sym, ◌∙◌, append-nil, inl, inr}
 use Rattle.std.proofs.KnownBytes.{Appends-kept, Appends-nil, Appends-trans}
 use Rattle.std.specs.Io.KnownBytes.{Appends, Keeps}
-use Rattle.std.specs.Prelude.{IfErr, Result, Ok, Err, filter, option_map}
-use Rattle.std.specs.List.{AllZip, concat, flat_map}
+use Rattle.std.specs.Prelude.{IfErr, Result, Ok, Err, filter}
 use Rattle.std.proofs.lemmas.List.Elements.{filter-append}
-use Rattle.std.proofs.lemmas.List.Folds.{concat-append}
 use Rattle.hayagriva.specs.Holds.{holds}
-use Rattle.hayagriva.specs.Library.{key_of}
-use Rattle.hayagriva.specs.Query.{IsHit}
 use Rattle.hayagriva.specs.QueryIter.{Asks, GivesHit, GivesNone}
 use Rattle.hayagriva.specs.QueryState.{QueryState}
-use Rattle.hayagriva.specs.Syntax.{Syntax}
-use Rattle.hayagriva.specs.Tree.{Tree, view}
+use Rattle.hayagriva.specs.Tree.{Tree}
 use Rattle.hayagriva.specs.declared.query.Hit.{Hit}
 use Rattle.hayagriva.proofs.Queries.{asks-none, asks-more}
-use Rattle.haya_hits.specs.Line.{AreLines, AreLinesAt, IsLineAt, IsLineOf, binding_text}
+use Rattle.haya_hits.specs.Line.{AreLinesAt, IsLineAt, IsLineOf}
 use Rattle.haya_run.specs.Output.{PrintsPart}
 use Rattle.haya_hits.proofs.Lines.{line_at, one_more_line}
 use Rattle.haya_run.specs.declared.fault.Fault.{Fault}

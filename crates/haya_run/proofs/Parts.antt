@@ -1,5 +1,5 @@
 -- What is printed over a library in parts.
-use Rattle.std.proofs.Common.{◌≡◌, ℕ, List, [], ◌∷◌, ◌++◌, refl, sym}
+use Rattle.std.proofs.Common.{ℕ, List, [], ◌∷◌, ◌++◌, refl, sym}
 use Rattle.std.specs.Prelude.{filter}
 use Rattle.std.specs.List.{AllZip, concat, flat_map}
 use Rattle.std.proofs.lemmas.List.Elements.{filter-append}

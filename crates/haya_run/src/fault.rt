@@ -6,6 +6,7 @@ use haya_input::InputFault;
 use haya_stream::WriteFault;
 use hayagriva::{OutOfMemory, SelectorError};
 use std::alloc::{AllocError, AllocFailed};
+use std::io;
 use thiserror::Error;
 
 /// Why the program prints no hits, or not all of them.
@@ -73,6 +74,22 @@ impl From<SelectorError> for Fault {
         match error {
             SelectorError::OutOfMemory => Fault::OutOfMemory,
             _ => Fault::Selector(error),
+        }
+    }
+}
+
+impl From<io::Error> for Fault {
+    ghost use Rattle.std.specs.IoError.{error_kind};
+    ghost use Rattle.std.specs.declared.io.ErrorKind.TheVariants as kind;
+    ghost use Rattle.haya_run.specs.declared.fault.Fault.TheVariants.{CannotRead, OutOfMemory};
+
+    ghost from_gives = { λ s e. (error_kind s ≡ kind.OutOfMemory → e ≡ OutOfMemory)
+        × (error_kind s ≢ kind.OutOfMemory → e ≡ CannotRead) };
+
+    fn from(error: io::Error) -> Fault {
+        match error.kind() {
+            io::ErrorKind::OutOfMemory => Fault::OutOfMemory,
+            _ => Fault::CannotRead,
         }
     }
 }

@@ -5,7 +5,6 @@
 mod fault;
 pub mod laws;
 mod printing;
-mod reading;
 mod running;
 
 pub use fault::Fault;

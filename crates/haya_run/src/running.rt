@@ -10,8 +10,8 @@ ghost use Rattle.haya_run.specs.Words.{IsStatus, words_of};
 
 use crate::fault::Fault;
 use crate::printing::print_hits;
-use crate::reading::read_all;
 use haya_input::read_library;
+use haya_stream::read_all;
 use hayagriva::HashKeys;
 use std::alloc::Global;
 use std::io::{Read, Write};
@@ -130,7 +130,7 @@ fn answer<R: Read, W: Write>(
     let Some(keys) = keys else {
         return Err(Fault::CannotRead);
     };
-    let bytes = read_all(alloc, input)?;
+    let bytes = read_all(alloc, input, &mut ())?;
     let Ok(text) = str::from_utf8(bytes.as_slice()) else {
         return Err(Fault::NotText);
     };

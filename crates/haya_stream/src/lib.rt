@@ -4,11 +4,13 @@
 
 mod answerer;
 mod fault;
+mod input;
 mod line_end;
 mod stream;
 mod writing;
 
 pub use answerer::Answerer;
 pub use fault::{StreamFault, WriteFault};
+pub use input::{ByteCounter, read_all};
 pub use stream::answer_all;
 pub use writing::{write_all, write_text};

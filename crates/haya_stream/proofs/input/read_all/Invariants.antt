@@ -1,5 +1,5 @@
 use Rattle.std.specs.Io.KnownBytes.{Consumes}
-use Rattle.haya.proofs.files.read_all.Given as goal
+use Rattle.haya_stream.proofs.input.read_all.Given as goal
 
 -- what was read so far is what the reader has given
 abbrev pub invariant-reads : goal.invariant-reads
