@@ -1,15 +1,15 @@
 -- The library that a text says in CSL-JSON.
-use Rattle.std.specs.Prelude.{◌≡◌, ℕ, ◌+◌, List, [], Option, None, Some, IsSomeAnd, Result, Ok, Err, codes, ⊤}
+use Rattle.std.specs.Prelude.{◌≡◌, ℕ, ◌+◌, List, [], Option, None, Some, Result, Ok, codes}
 use Rattle.json.specs.Json as json
 use Rattle.json.specs.Json.{Json, Items, Members, document}
 use Rattle.json.specs.Strict.{HasUniqueKeys}
 use Rattle.haya_entry.specs.Tree.{Tree}
 use Rattle.hayagriva.specs.Library.{push}
-use Rattle.haya_json.specs.Refusal.{Refusal, refused, within, and_then, to_item, to_member, refusal_at}
+use Rattle.haya_json.specs.Libraries.{IsErrorOfReading}
+use Rattle.haya_json.specs.Refusal.{Refusal, refused, within, and_then, to_item, to_member}
 use Rattle.haya_json.specs.Parts.{member_of}
 use Rattle.haya_json.specs.declared.fault.Why.TheVariants.{NotList}
 use Rattle.haya_json.specs.declared.error.ReadError.{ReadError}
-use Rattle.haya_json.specs.declared.error.ReadError.TheVariants.{NotJson, NameTwice, Refused, OutOfMemory}
 use Rattle.haya_csl.specs.Items.{item_of}
 
 -- the library after the entries of items, the first of which stands at this place
@@ -42,9 +42,4 @@ pub record DescribesAsCsl (text : List ℕ) (library : List Tree) : Type 0 where
 
 -- what an error says of a text
 abbrev pub IsCslErrorOf : List ℕ → ReadError → Type 0
-IsCslErrorOf text (NotJson p) = document text ≡ None
-IsCslErrorOf text (NameTwice p) = IsSomeAnd (document text) (λ j. ¬ HasUniqueKeys j)
-IsCslErrorOf text (Refused path why) =
-    IsSomeAnd (document text)
-    (λ j. HasUniqueKeys j × (csl_library_of j ≡ Err (refusal_at path.items why)))
-IsCslErrorOf text OutOfMemory = ⊤
+IsCslErrorOf text error = IsErrorOfReading csl_library_of text error

@@ -5,6 +5,7 @@ mod dates;
 mod draft;
 mod errors;
 mod fields;
+mod item_lines;
 mod items;
 mod kinds;
 mod libraries;
@@ -14,4 +15,5 @@ mod names;
 mod turns;
 mod unique;
 
+pub use item_lines::read_item_line;
 pub use libraries::read_csl_json;
