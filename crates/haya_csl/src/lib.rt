@@ -16,4 +16,4 @@ mod turns;
 mod unique;
 
 pub use item_lines::read_item_line;
-pub use libraries::read_csl_json;
+pub use libraries::{read_csl_json, read_csl_json_with_hash_keys};
