@@ -10,6 +10,5 @@ pub mod Items
 pub mod Draft
 pub mod Libraries
 pub mod Ignored
-pub mod ItemLines
 pub mod Turns
 pub mod Made

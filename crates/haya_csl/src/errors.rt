@@ -2,7 +2,6 @@
 ghost use Rattle.std.specs.Prelude.{◌≡◌, None, IsSomeAnd};
 ghost use Rattle.json.specs.Json.{document};
 ghost use Rattle.json.specs.Strict.{HasUniqueKeys};
-ghost use Rattle.haya_csl.specs.ItemLines.{IsItemErrorOf};
 ghost use Rattle.haya_csl.specs.Libraries.{IsCslErrorOf};
 
 use haya_json::ReadError;
@@ -11,8 +10,7 @@ use std::alloc::Global;
 
 /// The error of a text that is no JSON.
 pub(crate) fn not_json(alloc: Global, text: &str) -> ReadError
-    ensures library { document text.now ≡ None → IsCslErrorOf text.now result }
-    ensures item { document text.now ≡ None → IsItemErrorOf text.now result }
+    ensures { document text.now ≡ None → IsCslErrorOf text.now result }
 {
     match position_of_fault(alloc, text) {
         Ok(position) => ReadError::NotJson(position),
@@ -22,10 +20,8 @@ pub(crate) fn not_json(alloc: Global, text: &str) -> ReadError
 
 /// The error of a text of JSON in which an object has a name twice.
 pub(crate) fn name_twice(alloc: Global, text: &str) -> ReadError
-    ensures library { IsSomeAnd (document text.now) (λ j. ¬ HasUniqueKeys j)
+    ensures { IsSomeAnd (document text.now) (λ j. ¬ HasUniqueKeys j)
         → IsCslErrorOf text.now result }
-    ensures item { IsSomeAnd (document text.now) (λ j. ¬ HasUniqueKeys j)
-        → IsItemErrorOf text.now result }
 {
     match position_of_twice(alloc, text) {
         Ok(position) => ReadError::NameTwice(position),

@@ -5,7 +5,6 @@ mod dates;
 mod draft;
 mod errors;
 mod fields;
-mod item_lines;
 mod items;
 mod kinds;
 mod libraries;
@@ -15,5 +14,4 @@ mod names;
 mod turns;
 mod unique;
 
-pub use item_lines::read_item_line;
 pub use libraries::{read_csl_json, read_csl_json_with_hash_keys};
