@@ -14,7 +14,7 @@ fn put<D: fmt::Display>(out: &mut String, name: &str, value: Option<&D>) -> Resu
     }
 }
 
-// A typed value stands in brackets.
+// A typed value is shown in brackets.
 fn put_typed<D: fmt::Display>(
     out: &mut String,
     name: &str,

@@ -231,7 +231,7 @@ fn holds_without_parents(rt: HostRuntime) {
     }
 }
 
-// An article whose periodical stands in a web site: the web isn't a parent of the article.
+// An article whose periodical appears in a web site: the web isn't a parent of the article.
 #[test]
 fn asks_direct_parents_alone(rt: HostRuntime) {
     let periodical = below(

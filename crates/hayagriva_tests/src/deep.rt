@@ -1,5 +1,5 @@
-//! Selectors and entries as deep as the program's input goes, and texts past ASCII.
-use crate::works::{below, entry, selector, string};
+//! Selectors and entries as deep as the program's input goes and deeper, and texts past ASCII.
+use crate::works::{dated, entry, selector, string};
 use hayagriva::types::EntryType;
 use hayagriva::{Entry, PreparedSelector, Selector, Steps};
 use std::process::Abort;
@@ -25,11 +25,13 @@ fn nested(
     text
 }
 
-// An entry with so many ancestors, each the one parent of the one before.
+// An entry with so many ancestors, each the one parent of the one before. The last has a date.
 fn chain(rt: &(impl Abort + AllocGlobal), ancestors: usize) -> Entry {
-    let mut chain = entry(rt, "end", EntryType::Book);
+    let mut chain = dated(rt, "end", EntryType::Book);
     for _ in 0..ancestors {
-        chain = below(rt, entry(rt, "link", EntryType::Book), chain);
+        let mut link = entry(rt, "link", EntryType::Book);
+        link.set_parents(vec![in rt.alloc(); chain].expect(rt, "memory"));
+        chain = link;
     }
     chain
 }
@@ -81,8 +83,8 @@ fn deep_texts_and_texts_past_ascii(rt: HostRuntime) {
     assert!(rt; reads_as(&rt, accented, "Err(UnknownEntryType(\"b\"))"));
 }
 
-// How often a text is repeated in a long one. Not optimized, as `./test` runs it, a longer one takes
-// minutes; `tests/long` asks the program itself for as many as an argument holds.
+// How often a text is repeated in a long one. Not optimized, as `./test` runs it, a longer one
+// takes minutes; `tests/long` asks the program itself for as many as an argument holds.
 const LONG: usize = 20_000;
 
 // A text that many times, and a value behind it.
@@ -137,8 +139,8 @@ fn long_selectors_are_printed(rt: HostRuntime) {
     }
 }
 
-// Each row: a beginning, a text that is repeated, whether the whole holds at a book with one parent,
-// and the evaluator's calls.
+// Each row: a beginning, a text that is repeated, whether the whole holds at a book with one
+// parent, and the evaluator's calls.
 const HELD: &[(&str, &str, (bool, u64))] = &[
     ("", "* > ", (true, 40_001)),
     ("", "a:* > ", (true, 60_001)),
@@ -160,4 +162,40 @@ fn long_selectors_are_asked(rt: HostRuntime) {
         drop(behind);
         assert_eq!(rt; asked(&rt, text, 1), *wanted, "{begin}{repeated}");
     }
+}
+
+// A chain of parents takes no stack where it is let go.
+#[test]
+fn a_chain_of_200_000_is_let_go(rt: HostRuntime) {
+    drop(chain(&rt, 200_000));
+}
+
+// Copies and comparisons take a call for each entry, and look-ups a step for each entry at each
+// depth: so these chains are shorter. `./test` builds the calls with larger frames than a program's.
+const CALLED: usize = 2_000;
+
+// Whether a copy is equal to the chain, and a shorter chain isn't.
+fn is_copied(rt: &(impl Abort + AllocGlobal), chain: &Entry, shorter: &Entry) -> bool {
+    let copy = chain.try_clone(rt.alloc()).expect(rt, "memory");
+    let compared = copy == *chain && copy != *shorter;
+    drop(copy);
+    compared
+}
+
+#[test]
+fn long_chains_are_copied_and_compared(rt: HostRuntime) {
+    let (long, shorter) = (chain(&rt, CALLED), chain(&rt, CALLED - 1));
+    assert!(rt; is_copied(&rt, &long, &shorter));
+    drop(long);
+    drop(shorter);
+}
+
+#[test]
+fn long_chains_are_asked(rt: HostRuntime) {
+    let joined = string(&rt, "book > book");
+    assert!(rt; asked(&rt, joined, LONG).0);
+    let long = chain(&rt, CALLED);
+    let year = long.date_any().map(|date| date.year);
+    drop(long);
+    assert_eq!(rt; year, Some(1961));
 }

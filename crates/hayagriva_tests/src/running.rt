@@ -304,7 +304,7 @@ fn prints_in_parts_what_the_whole_prints(rt: HostRuntime) {
 }
 
 // Where a run over the first bytes of an input ends with a fault, nothing is printed; where it ends
-// well, what is printed is a beginning of what a run over all prints, if the input ends with a line.
+// well, what is printed begins what a run over all prints, if the input ends with a line.
 fn is_good_cut(
     rt: &(impl Abort + AllocGlobal),
     selector: &str,

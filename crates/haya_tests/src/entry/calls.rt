@@ -354,7 +354,7 @@ fn under(rt: &(impl Abort + AllocGlobal), mut entry: Entry, parent: Entry) -> En
     entry
 }
 
-// An article in a journal that stands in a site.
+// An article in a journal that appears in a site.
 fn article(rt: &(impl Abort + AllocGlobal), site: &str) -> Entry {
     let journal = under(rt, with_serials(rt), entry(rt, site, EntryType::Web));
     under(rt, with_texts(rt, "article"), journal)

@@ -261,7 +261,7 @@ fn finds_collections_among_the_parents(rt: HostRuntime) {
     }
 }
 
-// An article whose first parent, a web page, stands in another one, and whose second, a book, in
+// An article whose first parent, a web page, appears in another one, and whose second, a book, in
 // two series.
 fn article(rt: &(impl Abort + AllocGlobal)) -> Entry {
     let page = entry(rt, "page", EntryType::Web, parents(rt, &[EntryType::Web]));
