@@ -2,6 +2,7 @@
 ghost use Rattle.std.specs.Prelude.{◌≡◌, IfOk, map};
 ghost use Rattle.haya_entry.specs.Names.{has_field, has_name};
 ghost use Rattle.haya_entry.specs.Tree.{view, fields, parents, with_parents, new_entry};
+ghost use Rattle.haya_entry.specs.declared.entry.Entry.{out-Entry};
 
 mod ancestors;
 mod copies;
@@ -81,47 +82,55 @@ pub struct Entry {
     pub language: Option<String>,
 }
 
-// A loop along the first parents, so that a long chain takes no stack. The other parents are dropped
-// by calls.
+// A loop along the first parents, so that a long chain of them takes no room on the stack. Other
+// parents are dropped by a call.
 impl Drop for Entry {
-    fn drop(mut self) {
-        loop {
-            let Entry {
-                key: _,
-                entry_type: _,
-                mut parents,
-                title: _,
-                location: _,
-                organization: _,
-                archive: _,
-                archive_location: _,
-                call_number: _,
-                note: _,
-                abstract_: _,
-                genre: _,
-                authors: _,
-                editors: _,
-                affiliated: _,
-                date: _,
-                publisher: _,
-                url: _,
-                issue: _,
-                chapter: _,
-                volume: _,
-                edition: _,
-                volume_total: _,
-                page_total: _,
-                page_range: _,
-                time_range: _,
-                runtime: _,
-                serial_number: _,
-                language: _,
-            } = self;
-            if parents.is_empty() {
-                return;
-            }
-            self = parents.swap_remove(0);
+    fn drop(self) {
+        let mut parents = self.into_parents();
+        'parents: while !parents.is_empty() {
+            let first = parents.swap_remove(0);
+            parents = first.into_parents();
         }
+    }
+}
+
+impl Entry {
+    // The parents; all else is dropped.
+    fn into_parents(self) -> Vec<Entry>
+        ensures { result ≡ (out-Entry self).parents }
+    {
+        let Entry {
+            key: _,
+            entry_type: _,
+            parents,
+            title: _,
+            location: _,
+            organization: _,
+            archive: _,
+            archive_location: _,
+            call_number: _,
+            note: _,
+            abstract_: _,
+            genre: _,
+            authors: _,
+            editors: _,
+            affiliated: _,
+            date: _,
+            publisher: _,
+            url: _,
+            issue: _,
+            chapter: _,
+            volume: _,
+            edition: _,
+            volume_total: _,
+            page_total: _,
+            page_range: _,
+            time_range: _,
+            runtime: _,
+            serial_number: _,
+            language: _,
+        } = self;
+        parents
     }
 }
 
