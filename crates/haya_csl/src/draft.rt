@@ -99,17 +99,8 @@ impl Draft {
     {
         let mut own = self.own;
         let parents = below(self.host, below(self.venue, self.series));
-        match joined(parents, self.original) {
-            Ok(parents) => {
-                own.set_parents(parents);
-                Ok(own)
-            }
-            Err(_) => {
-                // By a call: at an exit, the drop of an entry is proved field by field.
-                drop(own);
-                Err(Fault::OutOfMemory)
-            }
-        }
+        own.set_parents(joined(parents, self.original)?);
+        Ok(own)
     }
 }
 

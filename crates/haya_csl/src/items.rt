@@ -76,16 +76,10 @@ fn read_under(
     let key = key_in(id);
     let kind = kind_of(item);
     let mut draft = Draft::new(alloc, Entry::new(alloc, key, kind.entry)?);
-    match set_members(
+    set_members(
         alloc, &mut draft, library, kind, item, key, members, ignored,
-    ) {
-        Ok(()) => draft.into_entry(),
-        Err(fault) => {
-            // By a call: at an exit, the drop of an entry is proved field by field.
-            drop(draft);
-            Err(fault)
-        }
-    }
+    )?;
+    draft.into_entry()
 }
 
 // The key of an item with this id, or an empty text where it is none.

@@ -238,11 +238,7 @@ fn put_behind(list: &mut Vec<Entry>, entry: Entry) -> Result<(), InputFault>
     ensures error { IsOkUnless result OutOfMemory }
     ensures ok { OnOk result (list.new.items ≡ list.old.items ++ entry ∷ []) }
 {
-    if list.reserve(1).is_err() {
-        // By a call: at an exit, the drop of an entry is proved field by field.
-        drop(entry);
-        return Err(InputFault::OutOfMemory);
-    }
+    list.reserve(1)?;
     list.push_reserved(entry);
     Ok(())
 }

@@ -40,14 +40,8 @@ pub fn read_line(alloc: Global, line: &str, deepest: usize) -> Result<(usize, En
     let mut items = split_line(line);
     let head = read_head(&mut items, deepest)?;
     let mut entry = Entry::new(alloc, head.key, head.kind)?;
-    match read_fields(alloc, &mut entry, items) {
-        Ok(()) => Ok((head.depth, entry)),
-        Err(fault) => {
-            // By a call: at an exit, the drop of an entry is proved field by field.
-            drop(entry);
-            Err(fault)
-        }
-    }
+    read_fields(alloc, &mut entry, items)?;
+    Ok((head.depth, entry))
 }
 
 /// Takes the head of a line, of which these are the items: what is left are its fields. Fails with

@@ -61,10 +61,7 @@ fn first_unsaid(alloc: Global, entry: &Entry) -> Result<Option<LinesError>, OutO
 // The first name of an entry whose value no line says, or `key`.
 fn unsaid_name(alloc: Global, entry: &Entry) -> Result<Option<&'static str>, OutOfMemory> {
     let mut part = Entry::new(alloc, entry.key(), entry.entry_type())?;
-    let found = first_name(alloc, entry, &mut part);
-    // By a call: at an exit, the drop of an entry is proved field by field.
-    drop(part);
-    found
+    first_name(alloc, entry, &mut part)
 }
 
 // The same, where the part is an entry of the same key and type alone. Its fields are set in turn.

@@ -113,6 +113,30 @@ fn forms(rt: HostRuntime) {
     }
 }
 
+// A person, and its text.
+const SERIALIZED: &[(&str, &str)] = &[
+    (
+        "van Dissmer ,Jr.,  Courtney Deliah",
+        "van Dissmer, Jr., Courtney Deliah",
+    ),
+    ("Günther,Hans-Joseph", "Günther, Hans-Joseph"),
+    ("Dissmer", "Dissmer"),
+];
+
+fn to_serialized(alloc: Global, (person, wanted): (&Person, &str)) -> Result<bool, OutOfMemory> {
+    Ok(person.to_serialized(alloc)?.as_str() == wanted)
+}
+
+#[test]
+fn serialized(rt: HostRuntime) {
+    for (text, wanted) in SERIALIZED {
+        let person = person(&rt, *text);
+        let row = Row("Person::to_serialized", *wanted, Taken);
+        asks(&rt, row, (&person, *wanted), to_serialized);
+        drop(person);
+    }
+}
+
 const PARTICLES: &[&str] = &["al", "de", "de la"];
 
 // A person, its particle, what stands behind it, and its particles with the prefix.

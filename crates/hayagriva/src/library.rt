@@ -137,11 +137,7 @@ impl Library {
         ensures err { OnErr result (self.new ≡ self.old) }
     {
         let alloc = *self.stored.allocator();
-        let Ok(key) = String::from_str(alloc, entry.key()) else {
-            // By a call: at an exit, the drop of an entry is proved field by field.
-            drop(entry);
-            return Err(OutOfMemory);
-        };
+        let key = String::from_str(alloc, entry.key())?;
         put(&mut self.stored, key, entry)?;
         Ok(())
     }

@@ -31,14 +31,8 @@ impl Entry {
         ensures { IfOk result (λ copy. view copy ≡ with_parents [] (view self.now)) }
     {
         let mut copy = Entry::new(alloc, self.key(), self.entry_type())?;
-        match copy.copy_fields(alloc, self) {
-            Ok(()) => Ok(copy),
-            Err(fault) => {
-                // By a call: at an exit, the drop of an entry is proved field by field.
-                drop(copy);
-                Err(fault)
-            }
-        }
+        copy.copy_fields(alloc, self)?;
+        Ok(copy)
     }
 
     // Takes all that isn't the key, the type or a parent over from another entry.

@@ -8,10 +8,10 @@ use Rattle.hayagriva.proofs.library.Library.insert.Goals as goal
 pub invariant_of-self-2 : goal.invariant_of-self-2
 invariant_of-self-2 c =
     Fits-keyed_entries c.put.new.map.entries _ c.in_ok-put.ensures.unique
-    (ap pairs_of c.in_ok-put.ensures.entries ∙ pairs-insert c.in-Ok.key c.args.entry c.self.inside.stored.entries (c.in-Ok.ensures.ok ∙ c.key.ensures) c.self.invariant)
+    (ap pairs_of c.in_ok-put.ensures.entries ∙ pairs-insert c.in_ok-key.key c.args.entry c.self.inside.stored.entries (c.in_ok-key.ensures.ok ∙ c.key.ensures) c.self.invariant)
 
 pub returns-clause-ok : goal.returns-clause-ok
 returns-clause-ok c =
     entries-keyed_entries c.put.new.map.entries _
-    (ap pairs_of c.in_ok-put.ensures.entries ∙ pairs-insert c.in-Ok.key c.args.entry c.self.inside.stored.entries (c.in-Ok.ensures.ok ∙ c.key.ensures) c.self.invariant)
+    (ap pairs_of c.in_ok-put.ensures.entries ∙ pairs-insert c.in_ok-key.key c.args.entry c.self.inside.stored.entries (c.in_ok-key.ensures.ok ∙ c.key.ensures) c.self.invariant)
     ∙ ap (push (view c.args.entry)) c.self.view_is
