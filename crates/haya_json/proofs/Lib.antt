@@ -28,4 +28,5 @@ mod TextsParsed
 mod TokensParsed
 mod NamedRead
 mod Positions
+pub mod LinesTaken
 mod LawsBelow

@@ -13,3 +13,4 @@ pub mod Printed
 pub mod Writing
 pub mod Readable
 pub mod ReadBack
+pub mod JsonLines

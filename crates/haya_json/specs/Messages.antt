@@ -4,6 +4,7 @@ use Rattle.std.specs.Char.{encode_utf8}
 use Rattle.std.specs.Fmt.{decimal}
 use Rattle.std.specs.Str.{chars}
 use Rattle.haya_json.specs.Refusal.{StepView, to_member, to_item, step_view}
+use Rattle.haya_json.specs.declared.error.LineError.{LineError}
 use Rattle.haya_json.specs.declared.error.ReadError.{ReadError}
 use Rattle.haya_json.specs.declared.error.ReadError.TheVariants.{NotJson, NameTwice, Refused, OutOfMemory}
 use Rattle.haya_json.specs.declared.fault.Why.{Why}
@@ -54,3 +55,15 @@ error_text (NameTwice p) = position_text p ++ codes ": an object has a member tw
 error_text (Refused path why) =
     pointer (map step_view path.items) ++ (codes ": " ++ why_text why)
 error_text OutOfMemory = codes "out of memory"
+
+-- an error of the line with this number: a position in the line is shown as that of the text
+abbrev pub text_in_line : ℕ → ReadError → List ℕ
+text_in_line n (NotJson p) = error_text (NotJson (record p { line = n }))
+text_in_line n (NameTwice p) = error_text (NameTwice (record p { line = n }))
+text_in_line n (Refused path why) =
+    codes "line " ++ (decimal n ++ (codes ": " ++ error_text (Refused path why)))
+text_in_line n OutOfMemory =
+    codes "line " ++ (decimal n ++ (codes ": " ++ error_text OutOfMemory))
+
+abbrev pub line_error_text : LineError → List ℕ
+line_error_text e = text_in_line e.line e.error

@@ -1,5 +1,6 @@
 -- A position in a text.
-use Rattle.std.specs.Prelude.{ℕ, ◌+◌, ◌==◌, List, fold, if◌then◌else◌}
+use Rattle.std.specs.Prelude.{◌≡◌, ℕ, ◌+◌, ◌==◌, List, ◌++◌, fold, if◌then◌else◌}
+use Rattle.std.specs.Str.{IsUtf8, chars}
 use Rattle.haya_json.specs.declared.position.Position.{Position}
 
 -- the first position of a text
@@ -15,3 +16,11 @@ behind_char p c =
 -- the position behind characters that begin a text
 abbrev pub position_behind : List ℕ → Position
 position_behind cs = fold behind_char start cs
+
+-- the position behind whole characters that begin the text
+pub record IsPositionIn (text : List ℕ) (p : Position) : Type 0 where
+  pub front : List ℕ
+  pub rest : List ℕ
+  pub parts : text ≡ front ++ rest
+  pub whole : IsUtf8 front
+  pub behind : p ≡ position_behind (chars front)

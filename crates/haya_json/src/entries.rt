@@ -113,14 +113,8 @@ fn read_members(
         (new_entry key.now kind))) }
 {
     let mut entry = Entry::new(alloc, key, kind)?;
-    match set_members(alloc, &mut entry, key, default, kind, members) {
-        Ok(()) => Ok(entry),
-        Err(fault) => {
-            // By a call: at an exit, the drop of an entry is proved field by field.
-            drop(entry);
-            Err(fault)
-        }
-    }
+    set_members(alloc, &mut entry, key, default, kind, members)?;
+    Ok(entry)
 }
 
 // Sets the members in turn.
@@ -204,13 +198,8 @@ fn read_parents(
     match json {
         Value::Array(items) => {
             let mut entries = Vec::with_capacity(alloc, items.len())?;
-            match read_each(alloc, key, default, items, &mut entries) {
-                Ok(()) => Ok(entries),
-                Err(fault) => {
-                    drop(entries);
-                    Err(fault)
-                }
-            }
+            read_each(alloc, key, default, items, &mut entries)?;
+            Ok(entries)
         }
         Value::Object(_) => {
             let mut entries = Vec::with_capacity(alloc, 1)?;

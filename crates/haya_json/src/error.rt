@@ -1,7 +1,7 @@
-//! Why a text is no library, and how that is shown.
+//! Why a text is no library, or a line no entry, and how that is shown.
 ghost use Rattle.std.specs.Prelude.{Some, map, string_bytes};
-ghost use Rattle.haya_json.specs.Messages.{error_text, pointer, pointer_char, pointer_name};
-ghost use Rattle.haya_json.specs.Messages.{pointer_step, why_text};
+ghost use Rattle.haya_json.specs.Messages.{error_text, line_error_text, pointer, pointer_char};
+ghost use Rattle.haya_json.specs.Messages.{pointer_name, pointer_step, why_text};
 ghost use Rattle.haya_json.specs.Refusal.{step_view};
 
 use crate::fault::{Step, Why};
@@ -41,6 +41,38 @@ impl fmt::Display for ReadError {
 }
 
 impl std::error::Error for ReadError {}
+
+/// Why a line of a text is no entry.
+#[derive(Debug, Drop)]
+pub struct LineError {
+    /// The number of the line, from 1 on.
+    pub line: usize,
+    /// What is wrong with it. A position is one in the line alone, and so its line is 1.
+    pub error: ReadError,
+}
+
+impl fmt::Display for LineError {
+    ghost output = { λ e. Some (line_error_text e) };
+
+    /// What is wrong, behind its place in the text: `line 3, column 7: no JSON`, or
+    /// `line 3: /entry/date: not read as a date`.
+    fn fmt<W: fmt::Write>(&self, f: &mut fmt::Formatter<W>) -> fmt::Result {
+        let line = self.line;
+        match &self.error {
+            ReadError::NotJson(position) => {
+                let position = Position { line, ..*position };
+                write!(f, "{position}: no JSON")
+            }
+            ReadError::NameTwice(position) => {
+                let position = Position { line, ..*position };
+                write!(f, "{position}: an object has a member twice")
+            }
+            error => write!(f, "line {line}: {error}"),
+        }
+    }
+}
+
+impl std::error::Error for LineError {}
 
 impl fmt::Display for Why {
     ghost output = { λ why. Some (why_text why) };

@@ -17,12 +17,19 @@ pub struct Ignored {
 }
 
 impl Ignored {
-    /// No names.
+    /// No names, in a map that hashes with keys that are always the same.
     pub fn new(alloc: Global) -> Ignored
         ensures { counts_of result ≡ [] }
     {
+        Ignored::with_hash_keys(alloc, HashKeys::new(0, 0))
+    }
+
+    /// No names, in a map that hashes with these keys.
+    pub fn with_hash_keys(alloc: Global, keys: HashKeys) -> Ignored
+        ensures { counts_of result ≡ [] }
+    {
         Ignored {
-            counts: IndexMap::with_hasher(alloc, HashKeys::new(0, 0)),
+            counts: IndexMap::with_hasher(alloc, keys),
         }
     }
 

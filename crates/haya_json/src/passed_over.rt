@@ -1,55 +1,23 @@
 //! Which members of entries are passed over.
-ghost use Rattle.std.specs.Prelude.{◌≡◌, true, map, IfOk, OnOk};
+ghost use Rattle.std.specs.Prelude.{◌≡◌, true, OnOk};
 ghost use Rattle.json.specs.Value.{items_view, members_view, value_view};
 ghost use Rattle.haya_json.specs.Fields.{field_table, number_table, text_table};
-ghost use Rattle.haya_json.specs.Ignored.{counts_of, entries_passed_over, is_in, is_read};
-ghost use Rattle.haya_json.specs.Ignored.{items_passed_over, members_passed_over, passed_over};
+ghost use Rattle.haya_json.specs.Ignored.{counts_of, is_in, is_read};
+ghost use Rattle.haya_json.specs.Ignored.{items_passed_over, members_passed_over};
 ghost use Rattle.haya_json.specs.Ignored.{parents_passed_over, passed_over_at, passed_over_in};
-ghost use Rattle.haya_json.specs.Tally.{all_counted, tally};
+ghost use Rattle.haya_json.specs.Tally.{all_counted};
 
 use crate::ignored::Ignored;
 use haya_text::OutOfMemory;
 use json::Value;
-use std::alloc::Global;
 
-/// What: of its entries, and of all their ancestors.
-pub(crate) fn ignored_in(alloc: Global, json: &Value<'_>) -> Result<Ignored, OutOfMemory>
-    ensures { IfOk result (λ ignored.
-        counts_of ignored ≡ tally (passed_over (value_view json.now))) }
-{
-    match json {
-        Value::Object(entries) => ignored_among(alloc, entries),
-        _ => Ok(Ignored::new(alloc)),
-    }
-}
-
-// What is passed over of entries.
-#[tactic(auto, using(crate::proofs::Tallies::counted_from_none))]
-fn ignored_among(alloc: Global, entries: &Vec<(&str, Value<'_>)>) -> Result<Ignored, OutOfMemory>
-    ensures { IfOk result (λ ignored.
-        counts_of ignored ≡ tally (entries_passed_over (members_view entries.now.items))) }
-{
-    let mut ignored = Ignored::new(alloc);
-    note_entries(&mut ignored, entries)?;
-    Ok(ignored)
-}
-
-// Counts what is passed over of the entries of a library.
-#[tactic(auto, using(crate::proofs::Tallies::counted_together))]
-fn note_entries(ignored: &mut Ignored, entries: &Vec<(&str, Value<'_>)>) -> Result<(), OutOfMemory>
-    ensures { OnOk result (counts_of ignored.new
-        ≡ all_counted (entries_passed_over (members_view entries.now.items))
-        (counts_of ignored.old)) }
-{
-    'entries: for entry in entries {
-        note_entry(ignored, false, &entry.1)?;
-    }
-    Ok(())
-}
-
-// Counts what is passed over of an entry, which is a parent or not, and of its ancestors.
+/// Counts what is passed over of an entry, which is a parent or not, and of its ancestors.
 #[cycle(passed_over)]
-fn note_entry(ignored: &mut Ignored, is_parent: bool, json: &Value<'_>) -> Result<(), OutOfMemory>
+pub(crate) fn note_entry(
+    ignored: &mut Ignored,
+    is_parent: bool,
+    json: &Value<'_>,
+) -> Result<(), OutOfMemory>
     ensures { OnOk result (counts_of ignored.new
         ≡ all_counted (passed_over_in is_parent (value_view json.now)) (counts_of ignored.old)) }
 {

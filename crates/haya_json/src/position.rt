@@ -1,7 +1,7 @@
 //! Positions in a text, and the position of a fault in a text that is no library.
-ghost use Rattle.std.specs.Prelude.{◌≡◌};
+ghost use Rattle.std.specs.Prelude.{◌≡◌, IfOk};
 ghost use Rattle.std.specs.Str.{chars};
-ghost use Rattle.haya_json.specs.Position.{position_behind};
+ghost use Rattle.haya_json.specs.Position.{IsPositionIn, position_behind};
 
 use crate::nesting::Nesting;
 use haya_text::cursor::Cursor;
@@ -33,7 +33,9 @@ impl fmt::Display for Position {
 
 /// Where a text that is no JSON stops being JSON: at the first token that can't stand there, or
 /// that opens an array or an object more than 128 deep, or at the end.
-pub fn position_of_fault(alloc: Global, text: &str) -> Result<Position, AllocError> {
+pub fn position_of_fault(alloc: Global, text: &str) -> Result<Position, AllocError>
+    ensures { IfOk result (IsPositionIn text.now) }
+{
     let mut scratch = Scratch::new(alloc);
     let mut reader = Reader::new(text, &mut scratch)?;
     let mut nesting = Nesting::new(alloc);
@@ -49,7 +51,9 @@ pub fn position_of_fault(alloc: Global, text: &str) -> Result<Position, AllocErr
 
 /// Where a name stands the second time in an object of a text that is JSON: the first such place,
 /// or the end where there is none.
-pub fn position_of_twice(alloc: Global, text: &str) -> Result<Position, AllocError> {
+pub fn position_of_twice(alloc: Global, text: &str) -> Result<Position, AllocError>
+    ensures { IfOk result (IsPositionIn text.now) }
+{
     let mut scratch = Scratch::new(alloc);
     let mut reader = Reader::new(text, &mut scratch)?;
     let mut objects = Vec::new(alloc);
@@ -75,7 +79,9 @@ fn is_twice<'a>(objects: &mut Vec<BTreeSet<&'a str>>, name: &'a str) -> Result<b
 }
 
 // The position of this place of a text.
-fn position_at(text: &str, place: usize) -> Position {
+fn position_at(text: &str, place: usize) -> Position
+    ensures { IsPositionIn text.now result }
+{
     match text.get(..place) {
         Some(front) => position_behind(front),
         None => position_behind(text),
