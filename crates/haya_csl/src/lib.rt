@@ -14,4 +14,4 @@ mod names;
 mod turns;
 mod unique;
 
-pub use libraries::read_csl_json;
+pub use libraries::{read_csl_json, read_csl_json_with_hash_keys};

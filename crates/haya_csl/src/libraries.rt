@@ -14,7 +14,7 @@ use crate::items::read_item;
 use crate::turns::read_list_text;
 use haya_json::reading::{Fault, member};
 use haya_json::{Ignored, ReadError, Why};
-use hayagriva::Library;
+use hayagriva::{HashKeys, Library};
 use json::{Scratch, Value};
 use std::alloc::Global;
 
@@ -26,15 +26,30 @@ use std::alloc::Global;
 /// `NotJson`: the text is no JSON. `NameTwice`: it is, and an object has a member twice. `Refused`:
 /// a value is not what its place asks for, a type is none of CSL's, or an `id` is missing or comes
 /// a second time.
+///
+/// The maps of the library and of what is passed over hash with keys that are always the same.
 pub fn read_csl_json(alloc: Global, text: &str) -> Result<(Library, Ignored), ReadError>
     ensures library { IfOk result (λ read. DescribesAsCsl text.now read.0) }
     ensures ignored { IfOk result (λ read. IsPassedOver text.now read.1) }
     ensures error { IfErr result (IsCslErrorOf text.now) }
 {
+    read_csl_json_with_hash_keys(alloc, HashKeys::new(0, 0), text)
+}
+
+/// As `read_csl_json`, with maps that hash with these keys.
+pub fn read_csl_json_with_hash_keys(
+    alloc: Global,
+    keys: HashKeys,
+    text: &str,
+) -> Result<(Library, Ignored), ReadError>
+    ensures library { IfOk result (λ read. DescribesAsCsl text.now read.0) }
+    ensures ignored { IfOk result (λ read. IsPassedOver text.now read.1) }
+    ensures error { IfErr result (IsCslErrorOf text.now) }
+{
     let mut scratch = Scratch::new(alloc);
-    match read_list_text(alloc, text, &mut scratch) {
+    match read_list_text(alloc, keys, text, &mut scratch) {
         Ok(Some(read)) => Ok(read),
-        Ok(None) => read_text(alloc, text, &mut scratch),
+        Ok(None) => read_text(alloc, keys, text, &mut scratch),
         Err(error) => Err(error),
     }
 }
@@ -42,6 +57,7 @@ pub fn read_csl_json(alloc: Global, text: &str) -> Result<(Library, Ignored), Re
 // The library of a text that is no list, and what is passed over of it.
 fn read_text(
     alloc: Global,
+    keys: HashKeys,
     text: &str,
     scratch: &mut Scratch,
 ) -> Result<(Library, Ignored), ReadError>
@@ -50,7 +66,7 @@ fn read_text(
     ensures error { IfErr result (IsCslErrorOf text.now) }
 {
     match Value::parse_strict(alloc, text, scratch) {
-        Ok(json) => match library_and_ignored(alloc, &json) {
+        Ok(json) => match library_and_ignored(alloc, keys, &json) {
             Ok(read) => Ok(read),
             Err(Fault::Refused(path, why)) => Err(ReadError::Refused(path, why)),
             Err(Fault::OutOfMemory) => Err(ReadError::OutOfMemory),
@@ -63,34 +79,48 @@ fn read_text(
 
 // The library that a value says, and what is passed over of it.
 #[tactic(auto, using(haya_json::proofs::Tallies::counted_from_none))]
-fn library_and_ignored(alloc: Global, json: &Value<'_>) -> Result<(Library, Ignored), Fault>
+fn library_and_ignored(
+    alloc: Global,
+    keys: HashKeys,
+    json: &Value<'_>,
+) -> Result<(Library, Ignored), Fault>
     ensures ok { IfOk result (λ read. csl_library_of (value_view json.now) ≡ Ok read.0) }
     ensures ignored { IfOk result (λ read.
         counts_of read.1 ≡ tally (passed_over (value_view json.now))) }
     ensures fault { IfErr result (IsFaultOf (csl_library_of (value_view json.now))) }
 {
-    let mut ignored = Ignored::new(alloc);
-    match library_of(alloc, json, &mut ignored) {
+    let mut ignored = Ignored::with_hash_keys(alloc, keys);
+    match library_of(alloc, keys, json, &mut ignored) {
         Ok(library) => Ok((library, ignored)),
         Err(fault) => Err(fault),
     }
 }
 
 // The library that a value says.
-fn library_of(alloc: Global, json: &Value<'_>, ignored: &mut Ignored) -> Result<Library, Fault>
+fn library_of(
+    alloc: Global,
+    keys: HashKeys,
+    json: &Value<'_>,
+    ignored: &mut Ignored,
+) -> Result<Library, Fault>
     ensures ok { IfOk result (λ library. csl_library_of (value_view json.now) ≡ Ok library) }
     ensures counts { OnOk result (counts_of ignored.new
         ≡ all_counted (passed_over (value_view json.now)) (counts_of ignored.old)) }
     ensures fault { IfErr result (IsFaultOf (csl_library_of (value_view json.now))) }
 {
     match json {
-        Value::Object(_) => read_in(alloc, member(json, "items"), ignored),
-        _ => read_list(alloc, json, ignored),
+        Value::Object(_) => read_in(alloc, keys, member(json, "items"), ignored),
+        _ => read_list(alloc, keys, json, ignored),
     }
 }
 
 // The library of the list that an object has.
-fn read_in(alloc: Global, list: Option<&Value<'_>>, ignored: &mut Ignored) -> Result<Library, Fault>
+fn read_in(
+    alloc: Global,
+    keys: HashKeys,
+    list: Option<&Value<'_>>,
+    ignored: &mut Ignored,
+) -> Result<Library, Fault>
     ensures ok { IfOk result (λ library.
         list_in (option_map (λ j. value_view j.now) list.entry) ≡ Ok library) }
     ensures counts { OnOk result (counts_of ignored.new ≡ all_counted
@@ -102,21 +132,26 @@ fn read_in(alloc: Global, list: Option<&Value<'_>>, ignored: &mut Ignored) -> Re
     let Some(list) = list else {
         return Err(Fault::refused(alloc, Why::NotList));
     };
-    match read_list(alloc, list, ignored) {
+    match read_list(alloc, keys, list, ignored) {
         Ok(library) => Ok(library),
         Err(fault) => Err(fault.in_member(alloc, "items")),
     }
 }
 
 // The library of a list of items.
-fn read_list(alloc: Global, json: &Value<'_>, ignored: &mut Ignored) -> Result<Library, Fault>
+fn read_list(
+    alloc: Global,
+    keys: HashKeys,
+    json: &Value<'_>,
+    ignored: &mut Ignored,
+) -> Result<Library, Fault>
     ensures ok { IfOk result (λ library. list_of (value_view json.now) ≡ Ok library) }
     ensures counts { OnOk result (counts_of ignored.new
         ≡ all_counted (list_passed_over (value_view json.now)) (counts_of ignored.old)) }
     ensures fault { IfErr result (IsFaultOf (list_of (value_view json.now))) }
 {
     match json {
-        Value::Array(items) => read_items(alloc, items, ignored),
+        Value::Array(items) => read_items(alloc, keys, items, ignored),
         _ => Err(Fault::refused(alloc, Why::NotList)),
     }
 }
@@ -125,6 +160,7 @@ fn read_list(alloc: Global, json: &Value<'_>, ignored: &mut Ignored) -> Result<L
 #[tactic(auto, using(haya_json::proofs::Tallies::counted_together))]
 fn read_items(
     alloc: Global,
+    keys: HashKeys,
     items: &Vec<Value<'_>>,
     ignored: &mut Ignored,
 ) -> Result<Library, Fault>
@@ -134,7 +170,7 @@ fn read_items(
         ≡ all_counted (items_passed_over (items_view items.now.items)) (counts_of ignored.old)) }
     ensures fault { IfErr result (IsFaultOf (items_pushed [] 0 (items_view items.now.items))) }
 {
-    let mut library = Library::new(alloc);
+    let mut library = Library::with_hash_keys(alloc, keys);
     'items: for place in 0..items.len() {
         match read_item(alloc, &library, &items[place], ignored) {
             Ok(entry) => library.insert(entry)?,

@@ -16,7 +16,7 @@ use crate::unique::has_unique_names;
 use haya_json::reading::Fault;
 use haya_json::{Ignored, ReadError};
 use haya_text::OutOfMemory;
-use hayagriva::Library;
+use hayagriva::{HashKeys, Library};
 use json::{Error, Reader, Scratch, Token, Value};
 use std::alloc::Global;
 
@@ -40,6 +40,7 @@ struct Made {
 /// begins as anything else.
 pub(crate) fn read_list_text(
     alloc: Global,
+    keys: HashKeys,
     text: &str,
     scratch: &mut Scratch,
 ) -> Result<Option<(Library, Ignored)>, ReadError>
@@ -47,7 +48,7 @@ pub(crate) fn read_list_text(
     ensures ignored { IfOk result (λ r. IfSome r (λ read. IsPassedOver text.now read.1)) }
     ensures error { IfErr result (IsCslErrorOf text.now) }
 {
-    match made_of(alloc, text, scratch) {
+    match made_of(alloc, keys, text, scratch) {
         Ok(Some(made)) => match made.into_read(alloc, text) {
             Ok(read) => Ok(Some(read)),
             Err(error) => Err(error),
@@ -58,7 +59,12 @@ pub(crate) fn read_list_text(
 }
 
 // What is made of the items of a text that begins as a list.
-fn made_of(alloc: Global, text: &str, scratch: &mut Scratch) -> Result<Option<Made>, ReadError>
+fn made_of(
+    alloc: Global,
+    keys: HashKeys,
+    text: &str,
+    scratch: &mut Scratch,
+) -> Result<Option<Made>, ReadError>
     ensures made { IfOk result (λ r. IfSome r (IsMadeOfText text.now)) }
     ensures error { IfErr result (IsCslErrorOf text.now) }
 {
@@ -68,7 +74,7 @@ fn made_of(alloc: Global, text: &str, scratch: &mut Scratch) -> Result<Option<Ma
     let Some(Token::BeginArray) = reader.next() else {
         return Ok(None);
     };
-    let made = match read_items(alloc, &mut reader) {
+    let made = match read_items(alloc, keys, &mut reader) {
         Ok(Some(made)) => made,
         Ok(None) => return Err(not_json(alloc, text)),
         Err(_) => return Err(ReadError::OutOfMemory),
@@ -83,12 +89,16 @@ fn made_of(alloc: Global, text: &str, scratch: &mut Scratch) -> Result<Option<Ma
 }
 
 // What is made of all items of a list. `None` where it is no list of JSON values.
-fn read_items(alloc: Global, reader: &mut Reader<'_>) -> Result<Option<Made>, OutOfMemory>
+fn read_items(
+    alloc: Global,
+    keys: HashKeys,
+    reader: &mut Reader<'_>,
+) -> Result<Option<Made>, OutOfMemory>
     ensures { IfOk result (λ r. MatchOption r (items_left reader.old ≡ None)
         (λ made. (place : ℕ) ×
         IsMadeOf (Some (no_items, reader.new)) (items_left reader.old) place made)) }
 {
-    let mut made = Made::new(alloc);
+    let mut made = Made::new(alloc, keys);
     let mut names = Vec::new(alloc);
     'items: for place in 0..usize::MAX {
         let item = match next_item(alloc, reader) {
@@ -121,12 +131,12 @@ fn next_item<'a>(alloc: Global, reader: &mut Reader<'a>) -> Result<Option<Value<
 impl Made {
     // Of no items.
     #[tactic(auto, using(haya_json::proofs::Tallies::counted_from_none))]
-    fn new(alloc: Global) -> Made
+    fn new(alloc: Global, keys: HashKeys) -> Made
         ensures { (items : Items) → IsMadeBut items items 0 result }
     {
         Made {
-            library: Library::new(alloc),
-            ignored: Ignored::new(alloc),
+            library: Library::with_hash_keys(alloc, keys),
+            ignored: Ignored::with_hash_keys(alloc, keys),
             fault: None,
             are_unique: true,
         }

@@ -2,6 +2,7 @@
 mod examples;
 mod ignored;
 mod limits;
+mod lines;
 mod printed;
 mod refused;
 mod rows;
