@@ -13,11 +13,11 @@ const EXAMPLES: &str = "Examples:
   haya -t lines '!*[date]' < refs.json       what has no date, with all its fields
   haya -s -f lines 'article' works.tsv       the articles of a library larger than memory
 
-With --stream the entries that the input lists are asked as they come. A key that comes again isn't
-replaced (`cut -f1 | sort | uniq -d` over the keys printed shows such), and at a fault what was
-printed before stays.";
+With --stream the entries that the input lists, in lines or as json-lines, are asked as they come. A
+key that comes again isn't replaced (`cut -f1 | sort | uniq -d` over the keys printed shows such),
+and at a fault what was printed before stays.";
 
-const FORMATS: [&str; 3] = ["hayagriva", "csl-json", "lines"];
+const FORMATS: [&str; 4] = ["hayagriva", "csl-json", "json-lines", "lines"];
 
 const FORMS: [&str; 4] = ["keys", "lines", "hayagriva", "json-lines"];
 
@@ -70,7 +70,7 @@ fn command<'a>(alloc: Global) -> Result<Command<'a>, AllocError> {
             alloc,
             "stream",
             's',
-            "Ask each entry as it is read, and let it go: in little memory, keys that come again not looked for",
+            "Ask each entry as it is read: in little memory, keys that come again not looked for",
         ))
 }
 
@@ -155,6 +155,7 @@ fn format_in(matches: &ArgMatches<'_>) -> Option<Format> {
     match matches.get_str("from")? {
         "hayagriva" => Some(Format::Hayagriva),
         "csl-json" => Some(Format::CslJson),
+        "json-lines" => Some(Format::JsonLines),
         _ => Some(Format::Lines),
     }
 }

@@ -13,7 +13,7 @@ pub enum StartFault {
     #[error("{0}: not text")]
     NotText(String),
     /// The input is to be read as it comes, and is in a format that is read whole.
-    #[error("--stream reads lines: --from lines")]
+    #[error("--stream reads lines: --from lines or json-lines")]
     NotStreamed,
     /// An argument isn't UTF-8, or the arguments can't be had.
     #[error("an argument is not text")]

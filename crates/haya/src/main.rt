@@ -41,39 +41,50 @@ fn main(rt: HostRuntime) -> ExitCode {
     if let Err(error) = Selector::parse(alloc, options.selector.as_str()) {
         return ended(complain(alloc, &options, &Fault::Selector(error), &mut err));
     }
-    if streams {
-        return ended(stream_lines(alloc, &rt, &options, &mut stdin, &mut out, &mut err));
-    }
     let Ok(keys) = HashKeys::random(&rt) else {
         return ended(tell_of(&options, &StartFault::NoKeys, &mut err));
     };
+    ended(if streams {
+        stream_list(alloc, &rt, keys, &options, &mut stdin, &mut out, &mut err)
+    } else {
+        run_files(alloc, &rt, keys, &options, &mut stdin, &mut out, &mut err)
+    })
+}
+
+// Asks the library of the input. How far the reading is is shown to a person.
+fn run_files<F: Files, R: Read, W: Write, E: Write + IsTerminal>(
+    alloc: Global,
+    rt: &F,
+    keys: HashKeys,
+    options: &Options,
+    stdin: &mut R,
+    out: &mut W,
+    err: &mut E,
+) -> u8 {
     let is_shown = err.is_terminal() && !options.quiet;
-    let mut progress = Progress::new(&mut err, is_shown);
-    let read = read_files(
-        alloc,
-        &rt,
-        options.files.as_slice(),
-        &mut stdin,
-        &mut progress,
-    );
+    let mut progress = Progress::new(err, is_shown);
+    let read = read_files(alloc, rt, options.files.as_slice(), stdin, &mut progress);
     progress.end();
     match read {
-        Ok(inputs) => ended(run(alloc, keys, &options, inputs.as_slice(), &mut out, &mut err)),
-        Err(fault) => ended(tell_of(&options, &fault, &mut err)),
+        Ok(inputs) => run(alloc, keys, options, inputs.as_slice(), out, err),
+        Err(fault) => tell_of(options, &fault, err),
     }
 }
 
-// Asks the entries of the input as they are read, where it is in lines.
-fn stream_lines<F: Files, R: Read, W: Write, E: Write>(
+// Asks the entries of the input as they are read, where its format lists them one after another.
+fn stream_list<F: Files, R: Read, W: Write, E: Write>(
     alloc: Global,
     rt: &F,
+    keys: HashKeys,
     options: &Options,
     stdin: &mut R,
     out: &mut W,
     err: &mut E,
 ) -> u8 {
     match options.from {
-        None | Some(Format::Lines) => stream(alloc, rt, options, stdin, out, err),
+        None | Some(Format::Lines | Format::JsonLines) => {
+            stream(alloc, rt, keys, options, stdin, out, err)
+        }
         Some(_) => tell_of(options, &StartFault::NotStreamed, err),
     }
 }

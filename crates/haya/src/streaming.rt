@@ -1,5 +1,9 @@
 //! Asks the entries of files one after another, as they are read.
-use haya_command::{Asker, Fault, Options, ask_lines, complain, end_asking, warn};
+use haya_command::{
+    Asker, Fault, Format, Options, ask_json_lines, ask_lines, complain, end_asking, tell_notes,
+    warn,
+};
+use hayagriva::HashKeys;
 use std::alloc::Global;
 use std::fs::File;
 use std::io::{Read, Write};
@@ -10,12 +14,13 @@ use std::rt::Files;
 pub fn stream<F: Files, R: Read, W: Write, E: Write>(
     alloc: Global,
     rt: &F,
+    keys: HashKeys,
     options: &Options,
     stdin: &mut R,
     out: &mut W,
     err: &mut E,
 ) -> u8 {
-    match print_hits(alloc, rt, options, stdin, out, err) {
+    match print_hits(alloc, rt, keys, options, stdin, out, err) {
         Ok(true) => 0,
         Ok(false) => 1,
         Err(fault) => complain(alloc, options, &fault, err),
@@ -26,42 +31,62 @@ pub fn stream<F: Files, R: Read, W: Write, E: Write>(
 fn print_hits<F: Files, R: Read, W: Write, E: Write>(
     alloc: Global,
     rt: &F,
+    keys: HashKeys,
     options: &Options,
     stdin: &mut R,
     out: &mut W,
     err: &mut E,
 ) -> Result<bool, Fault> {
-    let mut asker = Asker::new(alloc, options)?;
-    warn(alloc, options, "", err);
+    let mut asker = Asker::new(alloc, keys, options)?;
+    warn(alloc, options, err);
     if options.files.is_empty() {
-        asker = ask_lines(asker, "standard input", stdin, out)?;
+        asker = ask_input(alloc, asker, "standard input", stdin, out, err)?;
     }
     for file in &options.files {
         if options.quiet && asker.hits > 0 {
             break;
         }
-        asker = ask_file(alloc, rt, asker, file.as_str(), stdin, out)?;
+        asker = ask_file(alloc, rt, asker, file.as_str(), stdin, out, err)?;
     }
     end_asking(asker, out)
 }
 
 // Asks the entries of a file, or of standard input.
-fn ask_file<'o, F: Files, R: Read, W: Write>(
+fn ask_file<'o, F: Files, R: Read, W: Write, E: Write>(
     alloc: Global,
     rt: &F,
     asker: Asker<'o>,
     name: &str,
     stdin: &mut R,
     out: &mut W,
+    err: &mut E,
 ) -> Result<Asker<'o>, Fault> {
     if name == "-" {
-        return ask_lines(asker, "standard input", stdin, out);
+        return ask_input(alloc, asker, "standard input", stdin, out, err);
     }
     match File::open(rt, name) {
-        Ok(mut file) => ask_lines(asker, name, &mut file, out),
+        Ok(mut file) => ask_input(alloc, asker, name, &mut file, out, err),
         Err(error) => {
-            drop(asker);
-            Err(Fault::CannotRead(String::from_str(alloc, name)?, error))
+            let name = String::from_str(alloc, name)?;
+            Err(Fault::CannotRead(name, error))
         }
     }
+}
+
+// Asks the entries of an input that is called so, and tells what is passed over of it.
+fn ask_input<'o, R: Read, W: Write, E: Write>(
+    alloc: Global,
+    asker: Asker<'o>,
+    name: &str,
+    input: &mut R,
+    out: &mut W,
+    err: &mut E,
+) -> Result<Asker<'o>, Fault> {
+    if asker.options.from != Some(Format::JsonLines) {
+        return ask_lines(asker, name, input, out);
+    }
+    let mut notes = String::new(alloc);
+    let asked = ask_json_lines(asker, name, &mut notes, input, out)?;
+    tell_notes(asked.options, notes.as_str(), err);
+    Ok(asked)
 }

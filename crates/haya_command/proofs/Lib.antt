@@ -1,3 +1,4 @@
+mod JsonLists
 mod Lines
 mod Streams
 mod Together

@@ -1,12 +1,12 @@
 -- Hits that are counted and printed as they come.
-use Rattle.std.proofs.Common.{◌≡◌, ◌≢◌, ℕ, ◌+◌, ◌<◌, Bool, true, false, ◌&&◌, List, [], ◌∷◌, ◌++◌, Option, length, length-append, refl, sym, ap, ◌∙◌, subst, append_assoc, append-nil, arith}
-use Rattle.std.specs.Prelude.{MatchBool, cond, decimal, filter, nat_lt}
+use Rattle.std.proofs.Common.{◌≡◌, ◌≢◌, ◌⊎◌, inl, inr, IsTrue, ℕ, ◌+◌, ◌<◌, Bool, true, false, ◌&&◌, List, [], ◌∷◌, ◌++◌, Option, length, length-append, refl, sym, ap, ◌∙◌, subst, append_assoc, append-nil, arith}
+use Rattle.std.specs.Prelude.{Err, MatchBool, None, Ok, OnErr, Result, Some, cond, decimal, filter, nat_lt}
 use Rattle.std.specs.List.{concat}
-use Rattle.std.specs.Io.KnownBytes.{Appends}
+use Rattle.std.specs.Io.KnownBytes.{Appends, Consumes}
 use Rattle.std.proofs.lemmas.Bool.Decides.{nat_tests}
 use Rattle.std.proofs.lemmas.List.Elements.{filter-append}
 use Rattle.hayagriva.proofs.Parts.{AllZip-append, from_entries-distinct}
-use Rattle.hayagriva.specs.Library.{AreDistinct}
+use Rattle.hayagriva.specs.Library.{AreDistinct, from_entries}
 use Rattle.hayagriva.specs.Holds.{holds}
 use Rattle.hayagriva.specs.Query.{AreHits, IsHit, hit_entry}
 use Rattle.hayagriva.specs.Syntax.{Syntax}
@@ -14,18 +14,34 @@ use Rattle.hayagriva.specs.Tree.{Tree}
 use Rattle.hayagriva.specs.declared.query.Hit.{Hit}
 use Rattle.haya_hits.specs.Line.{AreLines, IsLineOf}
 use Rattle.haya_lines.specs.Signs.{line_feed}
-use Rattle.haya_list.specs.Lines.{BeginsList, IsListOf}
 use Rattle.haya_list.specs.Listed as list
-use Rattle.haya_list.specs.Listed.{Run, Told, entries_of, printed_of}
+use Rattle.haya_list.specs.Listed.{Replies, Run, entries_of, printed_of}
+use Rattle.haya_list.specs.declared.fault.ListRefusal.{ListRefusal}
+use Rattle.haya_list.specs.declared.fault.ListRefusal.TheVariants.{Entry, Line}
 use Rattle.haya_printing.specs.Printed.{entry_text}
+use Rattle.haya_printing.specs.declared.error.LinesError.{LinesError}
 use Rattle.haya_stream.proofs.Taken.{flat_map-append}
+use Rattle.haya_stream.specs.declared.fault.StreamFault.{StreamFault}
+use Rattle.haya_stream.specs.declared.fault.StreamFault.TheVariants as stream
 use Rattle.haya_command.specs.Printed.{IsJsonLineOf, IsTextOf}
-use Rattle.haya_command.specs.Reading.{Describes, IsReadAs, format_in}
+use Rattle.haya_command.specs.Reading.{Describes, IsErrorOf, IsReadAs, IsWhole, format_in}
+use Rattle.haya_command.specs.Streamed.{AsksEntry, AsksFirst, AsksInput, AsksPart, BeginsListIn, IsAccepted, IsListIn, IsStreamFault, IsTold, Why}
+use Rattle.haya_command.specs.declared.fault.Fault.{Fault}
+use Rattle.haya_command.specs.declared.fault.Fault.TheVariants as fault
+use Rattle.haya_command.specs.declared.fault.InputError.{InputError}
+use Rattle.haya_command.specs.declared.format.Format.{Format}
 use Rattle.haya_command.specs.declared.format.Format.TheVariants as format
-use Rattle.haya_command.specs.Streamed.{AsksEntry, AsksFirst, AsksInput, AsksPart, IsTold}
 use Rattle.haya_command.specs.declared.form.Form.{Form}
 use Rattle.haya_command.specs.declared.form.Form.TheVariants.{Hayagriva, JsonLines, Keys, Lines}
 use Rattle.haya_command.specs.declared.options.Options.{Options}
+
+pub on_err : {T E P : Type 0} (r : Result T E) → P → OnErr r P
+on_err (Ok x) p = tt
+on_err (Err e) p = p
+
+pub appends_none : (known : Option (List ℕ)) → Appends known known []
+appends_none None = tt
+appends_none (Some bytes) = sym (append-nil bytes)
 
 concat-append : (xs ys : List (List ℕ)) → concat (xs ++ ys) ≡ concat xs ++ concat ys
 concat-append [] ys = refl
@@ -85,15 +101,15 @@ module _ {S : Type 0} (options : S → Options) (selector : S → Syntax) (hits 
   Asks s entry printed t = AsksEntry (options s) (selector s) (hits s) entry printed (options t) (selector t) (hits t)
 
   -- the hits of entries that were asked one after another
-  record Counted (s t : S) (told : Told) : Type 0 where
+  record Counted (s t : S) (replies : Replies) : Type 0 where
     found : List Hit
-    are : AreHits (selector s) (entries_of told) found
-    shows : IsTold (options s) found (printed_of told)
+    are : AreHits (selector s) (entries_of replies) found
+    shows : IsTold (options s) found (printed_of replies)
     count : hits t ≡ hits s + length found
     same_options : options t ≡ options s
     same_selector : selector t ≡ selector s
 
-  counted : (told : Told) (s t : S) → (options s).to ≢ Hayagriva → Run Asks is_done s told t → Counted s t told
+  counted : (replies : Replies) (s t : S) → (options s).to ≢ Hayagriva → Run Asks is_done s replies t → Counted s t replies
   counted [] s t not run =
       rw (← run)
       (record {
@@ -104,44 +120,51 @@ module _ {S : Type 0} (options : S → Options) (selector : S → Syntax) (hits 
         same_options = refl;
         same_selector = refl;
       })
-  counted ((entry, printed) ∷ told) s t not run =
+  counted ((entry, printed) ∷ replies) s t not run =
       let u = run.0 in
       let one = run.1.1 in
-      let rest = counted told u t (rw one.same_options not) run.2 in
+      let rest = counted replies u t (rw one.same_options not) run.2 in
       let n : hits u ≡ hits s + length one.hits = one.count in
       let m : hits t ≡ hits u + length rest.found = rest.count in
       record {
         found = one.hits ++ rest.found;
-        are = AreHits-append (selector s) (entry ∷ []) (entries_of told) one.hits rest.found one.are (rw one.same_selector at rest.are);
+        are = AreHits-append (selector s) (entry ∷ []) (entries_of replies) one.hits rest.found one.are (rw one.same_selector at rest.are);
         shows =
-            shows-append (options s).quiet (options s).count (options s).to not one.hits rest.found printed (printed_of told) one.told
+            shows-append (options s).quiet (options s).count (options s).to not one.hits rest.found printed (printed_of replies) one.told
             (rw one.same_options at rest.shows);
         count = rw (length-append one.hits rest.found) (omega arith);
         same_options = rest.same_options ∙ one.same_options;
         same_selector = rest.same_selector ∙ one.same_selector;
       }
 
+  pub options_kept : (s t : S) (replies : Replies) → (options s).to ≢ Hayagriva → Run Asks is_done s replies t → options t ≡ options s
+  options_kept s t replies not run = (counted replies s t not run).same_options
+
+  pub selector_kept : (s t : S) (replies : Replies) → (options s).to ≢ Hayagriva → Run Asks is_done s replies t → selector t ≡ selector s
+  selector_kept s t replies not run = (counted replies s t not run).same_selector
+
   module _ (s t : S) (not : (options s).to ≢ Hayagriva) (unread left before after : Option (List ℕ)) where
-    pub asks_input : list.AnswersList IsListOf Asks is_done s t unread left before after
-        → AsksInput (options s) (selector s) (hits s) (hits t) unread left before after × (options t ≡ options s) × (selector t ≡ selector s)
-    asks_input a =
-        let c = counted a.told s t not a.run in (
-          record {
-            text = a.text;
-            entries = entries_of a.told;
-            hits = c.found;
-            printed = printed_of a.told;
-            read = a.read;
-            at_end = a.at_end;
-            list = a.list;
-            are = c.are;
-            told = c.shows;
-            count = c.count;
-            prints = a.prints;
-          },
-          c.same_options,
-          c.same_selector,
-        )
+    pub asks_input : (format : Format) (IsList : List ℕ → List Tree → Type 0)
+        → ((text : List ℕ) (entries : List Tree) → IsList text entries → IsListIn format text entries × IsAccepted (options s) format text)
+        → list.AnswersList IsList Asks is_done s t unread left before after
+        → AsksInput format (options s) (selector s) (hits s) (hits t) unread left before after
+    asks_input format IsList is_list a =
+        let c = counted a.replies s t not a.run in
+        let l = is_list a.text (entries_of a.replies) a.list in
+        record {
+          text = a.text;
+          entries = entries_of a.replies;
+          hits = c.found;
+          printed = printed_of a.replies;
+          read = a.read;
+          at_end = a.at_end;
+          list = l.0;
+          accepted = l.1;
+          are = c.are;
+          told = c.shows;
+          count = c.count;
+          prints = a.prints;
+        }
 
     nothing : (quiet count : Bool) (to : Form) (xs : List Hit) (text : List ℕ) → quiet ≡ true → Shows quiet count to xs text → text ≡ []
     nothing true count to xs text h shows = shows
@@ -155,50 +178,67 @@ module _ {S : Type 0} (options : S → Options) (selector : S → Syntax) (hits 
     some_of true n both = grind (arith, nat_tests)
     some_of false n both = absurd (cc)
 
-    pub asks_first : list.AnswersEnough BeginsList Asks is_done s t unread left before after → (options t).quiet ≡ true → 0 < hits t
-        → AsksFirst (options s) (selector s) (hits s) (hits t) unread left before after × (options t ≡ options s) × (selector t ≡ selector s)
-    asks_first a quiet some =
-        let c = counted a.told s t not a.run in
-        let still : (options s).quiet ≡ true = rw c.same_options at quiet in (
-          record {
-            text = a.text;
-            entries = entries_of a.told;
-            hits = c.found;
-            read = a.read;
-            list = a.list;
-            are = c.are;
-            count = c.count;
-            quiet = still;
-            found = some;
-            prints =
-                subst (Appends before after) (nothing (options s).quiet (options s).count (options s).to c.found (printed_of a.told) still c.shows) a.prints;
-          },
-          c.same_options,
-          c.same_selector,
-        )
-
-    pub asks_enough : is_done t ≡ ((options t).quiet && nat_lt 0 (hits t)) → list.AnswersEnough BeginsList Asks is_done s t unread left before after
-        → AsksFirst (options s) (selector s) (hits s) (hits t) unread left before after × (options t ≡ options s) × (selector t ≡ selector s)
-    asks_enough same a =
-        let both = sym same ∙ a.enough in
-        asks_first a (quiet_of (options t).quiet (nat_lt 0 (hits t)) both) (some_of (options t).quiet (hits t) both)
-
-    pub asks_part : {L E : Type 0} (IsFault : List ℕ → L → Type 0) (refuses : S → Tree → E → Type 0) (fault : _)
-        → list.AnswersPart BeginsList IsFault Asks is_done refuses s unread left before after fault → AsksPart (options s) (selector s) unread left before after
-    asks_part IsFault refuses fault a =
-        let c = counted a.told s a.last not a.run in
+    asks_first : (format : Format) (Begins : List ℕ → List Tree → Type 0) → ((text : List ℕ) (entries : List Tree) → Begins text entries → BeginsListIn format text entries)
+        → list.AnswersEnough Begins Asks is_done s t unread left before after → (options t).quiet ≡ true → 0 < hits t
+        → AsksFirst format (options s) (selector s) (hits s) (hits t) unread left before after
+    asks_first format Begins begins a quiet some =
+        let c = counted a.replies s t not a.run in
+        let still : (options s).quiet ≡ true = rw c.same_options at quiet in
         record {
           text = a.text;
-          entries = entries_of a.told;
+          entries = entries_of a.replies;
           hits = c.found;
-          written = a.written;
-          unwritten = a.unwritten;
           read = a.read;
-          list = a.list;
+          list = begins a.text (entries_of a.replies) a.list;
           are = c.are;
-          told = rw (← a.parts) c.shows;
-          prints = a.prints;
+          count = c.count;
+          quiet = still;
+          found = some;
+          prints = subst (Appends before after) (nothing (options s).quiet (options s).count (options s).to c.found (printed_of a.replies) still c.shows) a.prints;
         }
+
+    pub asks_enough : (format : Format) (Begins : List ℕ → List Tree → Type 0) → ((text : List ℕ) (entries : List Tree) → Begins text entries → BeginsListIn format text entries)
+        → is_done t ≡ ((options t).quiet && nat_lt 0 (hits t)) → list.AnswersEnough Begins Asks is_done s t unread left before after
+        → AsksFirst format (options s) (selector s) (hits s) (hits t) unread left before after
+    asks_enough format Begins begins same a =
+        let both = sym same ∙ a.enough in
+        asks_first format Begins begins a (quiet_of (options t).quiet (nat_lt 0 (hits t)) both) (some_of (options t).quiet (hits t) both)
+
+    -- the entries that were answered are asked, where it stops for this reason
+    pub asks_part : (format : Format) (name : List ℕ) (e : Fault) (text : List ℕ) (replies : Replies) (written unwritten : List ℕ) → Consumes unread left text
+        → BeginsListIn format text (entries_of replies) → Run Asks is_done s replies t → printed_of replies ≡ written ++ unwritten
+        → Why (options s) format name text unwritten e → Appends before after written → AsksPart format name (options s) (selector s) unread left before after e
+    asks_part format name e text replies written unwritten read begins run parts why prints =
+        let c = counted replies s t not run in
+        record {
+          text = text;
+          entries = entries_of replies;
+          hits = c.found;
+          written = written;
+          unwritten = unwritten;
+          read = read;
+          list = begins;
+          are = c.are;
+          told = rw (← parts) c.shows;
+          why = why;
+          prints = prints;
+        }
+
+-- ---- faults
+
+module _ {L : Type 0} (options : Options) (format : Format) (name : List ℕ) (IsFault : List ℕ → L → Type 0) (IsRefusal : LinesError → Type 0) (converts : L → InputError → Type 0)
+    (is_error : (text : List ℕ) (l : L) (e : InputError) → converts l e → IsFault text l → IsErrorOf format text e) where
+  -- what the fault of a stream says of the text, the fault of its input does
+  pub stream_why : (text unwritten : List ℕ) (sf : StreamFault (ListRefusal L LinesError)) (e : Fault) → (e ≡ fault.OutOfMemory) ⊎ IsStreamFault converts name sf e
+      → list.Why IsFault IsRefusal text unwritten sf → Why options format name text unwritten e
+  stream_why text unwritten sf e (inl memory) why = rw memory tt
+  stream_why text unwritten (stream.CannotRead error) e (inr h) why = rw h.2 (h.1, why)
+  stream_why text unwritten stream.NotText e (inr h) why = rw h.2 (h.1, why.0, why.1)
+  stream_why text unwritten (stream.Refused (Line l)) e (inr h) why = rw h.4 (h.2, is_error text l h.1 h.3 why.0, why.1)
+  stream_why text unwritten (stream.Refused (Entry x)) e (inr h) why = rw h why.1
+  stream_why text unwritten (stream.CannotWrite w) e (inr (inl h)) why = rw h tt
+  stream_why text unwritten (stream.CannotWrite w) e (inr (inr h)) why = rw h tt
+  stream_why text unwritten stream.OutOfMemory e (inr h) why = rw h tt
 
 -- ---- laws
 pub told_answers : (quiet count : Bool) (to : Form) (hits : List Hit) (printed : List ℕ) → Shows quiet count to hits printed
@@ -209,10 +249,15 @@ told_answers false true to hits printed told = rw told refl
 told_answers false false to hits printed told = rw (append-nil printed) told
 
 -- where no key comes again, the entries that a text lists are its library
-pub lines_read : (options : Options) (text : List ℕ) (entries : List Tree) → options.strict ≡ false → format_in options text ≡ format.Lines → IsListOf text entries → AreDistinct entries
-    → IsReadAs options text entries
-lines_read options text entries lax lines listed distinct = record {
-  describes =
-      subst (λ f. Describes f text entries) (sym lines) (record { entries = entries; rows = listed; of_entries = sym (from_entries-distinct entries distinct) });
-  whole = λ strict. absurd (let wrong = sym strict ∙ lax in cc);
-}
+pub list_read : (options : Options) (text : List ℕ) (entries : List Tree) → (IsTrue options.strict → IsWhole (format_in options text) text) → IsListIn (format_in options text) text entries
+    → AreDistinct entries → IsReadAs options text entries
+list_read options text entries whole listed distinct = record { describes = by (format_in options text) listed; whole = whole }
+  where
+    of_list : entries ≡ from_entries entries
+    of_list = sym (from_entries-distinct entries distinct)
+
+    by : (f : Format) → IsListIn f text entries → Describes f text entries
+    by format.Lines listed = record { entries = entries; rows = listed; of_entries = of_list }
+    by format.JsonLines listed = record { entries = entries; listed = listed; of_entries = of_list }
+    by format.Hayagriva listed = absurd listed
+    by format.CslJson listed = absurd listed

@@ -46,8 +46,9 @@ pub record IsJsonLineOf (hit : Hit) (line : List ℕ) : Type 0 where
   pub names : List (List ℕ × List ℕ)
   pub all : (name : List ℕ) → lookup (bytes_eq name) names ≡ bound_key hit name
   pub order : IsStrictlySortedBy (slice_cmp nat_cmp) (keys_of names)
-  pub text : line
-      ≡ print (json_tokens (hit_json (key_of (hit_entry hit)) names (hit_entry hit))) ++ line_feed ∷ []
+  pub text : line ≡
+      print (json_tokens (hit_json (key_of (hit_entry hit)) names (hit_entry hit)))
+      ++ line_feed ∷ []
 
 -- ---- all hits
 

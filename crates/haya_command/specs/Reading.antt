@@ -1,7 +1,8 @@
 -- The library of texts in any of the formats.
-use Rattle.std.specs.Prelude.{◌≡◌, ◌≢◌, ◌⊎◌, ℕ, List, [], Any, IsTrue, flat_map, map, string_bytes}
+use Rattle.std.specs.Prelude.{◌≡◌, ◌≢◌, ◌⊎◌, ℕ, List, [], Any, IsTrue, String, flat_map, map, string_bytes}
 use Rattle.std.specs.List.{AllZip}
 use Rattle.std.specs.Str.Lines.{lines}
+use Rattle.std.specs.declared.alloc.Global.{Global}
 use Rattle.hayagriva.specs.Library.{from_entries}
 use Rattle.hayagriva.specs.Tree.{Tree}
 use Rattle.haya_csl.specs.Ignored as csl
@@ -9,15 +10,16 @@ use Rattle.haya_csl.specs.Libraries.{DescribesAsCsl, IsCslErrorOf}
 use Rattle.haya_input.specs.Input as input
 use Rattle.haya_input.specs.TextReading.{FaultInText}
 use Rattle.haya_json.specs.Ignored.{IsPassedOver, counts_of}
+use Rattle.haya_json.specs.JsonLines as json_lines
 use Rattle.haya_json.specs.Libraries as json
 use Rattle.haya_json.specs.declared.ignored.Ignored.{Ignored}
 use Rattle.haya_command.specs.Formats.{format_for}
 use Rattle.haya_command.specs.declared.fault.Fault.{Fault}
 use Rattle.haya_command.specs.declared.fault.Fault.TheVariants as fault
 use Rattle.haya_command.specs.declared.fault.InputError.{InputError}
-use Rattle.haya_command.specs.declared.fault.InputError.TheVariants.{Json, Lines as LinesError}
+use Rattle.haya_command.specs.declared.fault.InputError.TheVariants.{Json, JsonLines as JsonLinesError, Lines as LinesError}
 use Rattle.haya_command.specs.declared.format.Format.{Format}
-use Rattle.haya_command.specs.declared.format.Format.TheVariants.{Hayagriva, CslJson, Lines}
+use Rattle.haya_command.specs.declared.format.Format.TheVariants.{Hayagriva, CslJson, JsonLines, Lines}
 use Rattle.haya_command.specs.declared.options.Input.{Input}
 use Rattle.haya_command.specs.declared.options.Options.{Options}
 
@@ -27,22 +29,23 @@ use Rattle.haya_command.specs.declared.options.Options.{Options}
 abbrev pub Describes : Format → List ℕ → List Tree → Type 0
 Describes Hayagriva text library = json.Describes text library
 Describes CslJson text library = DescribesAsCsl text library
+Describes JsonLines text library = json_lines.Describes text library
 Describes Lines text library = input.Describes text library
 
 -- the members that a format doesn't know and passes over; lines have none
 abbrev pub PassesOver : Format → List ℕ → Ignored → Type 0
 PassesOver Hayagriva text ignored = IsPassedOver text ignored
 PassesOver CslJson text ignored = csl.IsPassedOver text ignored
+PassesOver JsonLines text ignored = json_lines.IsPassedOver text ignored
 PassesOver Lines text ignored = counts_of ignored ≡ []
 
 -- what an error says of a text
 abbrev pub IsErrorOf : Format → List ℕ → InputError → Type 0
 IsErrorOf Hayagriva text (Json e) = json.IsErrorOf text e
-IsErrorOf Hayagriva text (LinesError e) = ⊥
 IsErrorOf CslJson text (Json e) = IsCslErrorOf text e
-IsErrorOf CslJson text (LinesError e) = ⊥
-IsErrorOf Lines text (Json e) = ⊥
+IsErrorOf JsonLines text (JsonLinesError e) = json_lines.IsErrorOf text e
 IsErrorOf Lines text (LinesError e) = FaultInText (input.rows_read 1 0 (lines text)) e
+IsErrorOf _ text _ = ⊥
 
 -- something is passed over of a text
 abbrev pub IsPartial : Format → List ℕ → Type 0
@@ -77,6 +80,13 @@ pub record AreReadAs (options : Options) (texts : List (List ℕ)) (library : Li
   pub pushed : library ≡ from_entries (flat_map (λ part. part) parts)
 
 -- ---- faults
+
+-- the fault that members of the text that is called so are unknown
+pub record IsUnknown (name : List ℕ) (e : Fault) : Type 0 where
+  pub called : String Global
+  pub members : String Global
+  pub is : e ≡ fault.Unknown called members
+  pub same : string_bytes called ≡ name
 
 -- What a fault says of an input, which it names: an error of its text, or, in a strict run, that
 -- something is passed over. Other faults are none of an input.

@@ -1,14 +1,50 @@
 -- Entries asked one after another, as they are read.
-use Rattle.std.specs.Prelude.{◌≡◌, ◌<◌, ◌+◌, ℕ, MatchBool, List, [], ◌∷◌, ◌++◌, Option, decimal, length, true, if◌then◌else◌}
+use Rattle.std.specs.Prelude.{◌≡◌, ◌≢◌, ◌⊎◌, ◌<◌, ◌+◌, ◌-◌, ◌^◌, ℕ, Any, IfSome, IsTrue, MatchBool, List, [], ◌∷◌, ◌++◌, Option, String, decimal, length, string_bytes, true, if◌then◌else◌}
 use Rattle.std.specs.Io.KnownBytes.{Appends, Consumes, IsAtEnd}
+use Rattle.std.specs.Str.{IsUtf8, chars}
+use Rattle.std.specs.Str.Lines.{lines}
+use Rattle.std.specs.declared.alloc.Global.{Global}
+use Rattle.hayagriva.specs.Fault as selector
 use Rattle.hayagriva.specs.Query.{AreHits}
+use Rattle.hayagriva.specs.Reading.{TextFails}
 use Rattle.hayagriva.specs.Syntax.{Syntax}
 use Rattle.hayagriva.specs.Tree.{Tree}
 use Rattle.hayagriva.specs.declared.query.Hit.{Hit}
+use Rattle.haya_json.specs.Ignored.{counts_of}
+use Rattle.haya_json.specs.JsonLines as json_lines
+use Rattle.haya_json.specs.Tally.{all_counted}
+use Rattle.haya_json.specs.declared.error.ReadError.{ReadError}
+use Rattle.haya_json.specs.declared.error.ReadError.TheVariants as read_error
+use Rattle.haya_json.specs.declared.ignored.Ignored.{Ignored}
 use Rattle.haya_lines.specs.Signs.{line_feed}
-use Rattle.haya_list.specs.Lines.{BeginsList, IsListOf}
+use Rattle.haya_list.specs.Lines as lines_list
+use Rattle.haya_list.specs.declared.fault.EntryFault.{EntryFault}
+use Rattle.haya_list.specs.declared.fault.EntryFault.TheVariants as entry_fault
+use Rattle.haya_list.specs.declared.fault.ListRefusal.{ListRefusal}
+use Rattle.haya_list.specs.declared.fault.ListRefusal.TheVariants.{Entry, Line}
+use Rattle.haya_printing.specs.declared.error.LinesError.{LinesError}
+use Rattle.haya_stream.specs.declared.fault.StreamFault.{StreamFault}
+use Rattle.haya_stream.specs.declared.fault.StreamFault.TheVariants as stream
 use Rattle.haya_command.specs.Printed.{IsTextOf}
+use Rattle.haya_command.specs.Reading.{IsErrorOf, IsWhole}
+use Rattle.haya_command.specs.declared.fault.Fault.{Fault}
+use Rattle.haya_command.specs.declared.fault.Fault.TheVariants as fault
+use Rattle.haya_command.specs.declared.fault.InputError.{InputError}
+use Rattle.haya_command.specs.declared.fault.InputError.TheVariants as input_error
+use Rattle.haya_command.specs.declared.form.Form.TheVariants.{Hayagriva}
+use Rattle.haya_command.specs.declared.format.Format.{Format}
+use Rattle.haya_command.specs.declared.format.Format.TheVariants.{JsonLines, Lines}
 use Rattle.haya_command.specs.declared.options.Options.{Options}
+
+-- ---- what is asked
+
+-- what a fault says where nothing is asked
+abbrev pub IsAskerFault : Options → Fault → Type 0
+IsAskerFault options (fault.Selector e) =
+    IfSome (selector.fault e) (TextFails (chars (string_bytes options.selector)))
+IsAskerFault options fault.Unstreamed = options.to ≡ Hayagriva
+IsAskerFault options fault.OutOfMemory = Unit {0}
+IsAskerFault options _ = ⊥
 
 -- What is printed of hits as they come: nothing where the run is quiet or counts them, otherwise
 -- their text in the form.
@@ -32,9 +68,52 @@ pub record AsksEntry (options : Options) (selector : Syntax) (before : ℕ) (ent
   pub same_options : next_options ≡ options
   pub same_selector : next_selector ≡ selector
 
+-- ---- the list of an input
+
+-- the entries that a text lists in a format in which they come one after another, in order,
+-- repeated keys and all
+abbrev pub IsListIn : Format → List ℕ → List Tree → Type 0
+IsListIn Lines text entries = lines_list.IsListOf text entries
+IsListIn JsonLines text entries = json_lines.IsListOf text entries
+IsListIn _ text entries = ⊥
+
+-- these are the first of them, or all
+abbrev pub BeginsListIn : Format → List ℕ → List Tree → Type 0
+BeginsListIn Lines text entries = lines_list.BeginsList text entries
+BeginsListIn JsonLines text entries = json_lines.BeginsList text entries
+BeginsListIn _ text entries = ⊥
+
+-- where the run is strict, nothing of a text is passed over; of lines nothing ever is
+abbrev pub IsAccepted : Options → Format → List ℕ → Type 0
+IsAccepted options JsonLines text = IsTrue options.strict → IsWhole JsonLines text
+IsAccepted options _ text = Unit {0}
+
+-- something is passed over of a first part of the lines of a text, or of all
+abbrev pub PassesOverFirst : Format → List ℕ → Type 0
+PassesOverFirst JsonLines text =
+    (first : List (List ℕ)) × (more : List (List ℕ)) × (lines text ≡ first ++ more)
+    × (json_lines.lines_passed_over first ≢ [])
+PassesOverFirst _ text = ⊥
+
+-- what one who reads a line of JSON says of it, and counts of what is passed over
+pub record ReadsJsonLine (before : Ignored) (line : List ℕ) (entry : Tree) (after : Ignored)
+    : Type 0 where
+  pub says : json_lines.IsLineOf line entry
+  pub counts : counts_of after
+      ≡ all_counted (json_lines.line_passed_over line) (counts_of before)
+
+-- the error that is told of a line of JSON that says no entry
+abbrev pub IsLineErrorFor : EntryFault ReadError → InputError → Type 0
+IsLineErrorFor (entry_fault.Line number error) e =
+    e ≡ input_error.JsonLines (record { line = number; error = error })
+IsLineErrorFor entry_fault.TooMany e =
+    e ≡ input_error.JsonLines (record { line = 2 ^ 64 - 1; error = read_error.OutOfMemory })
+
+-- ---- an input
+
 -- the entries that a text lists are asked: all input that was left is a text, and its hits are
 -- counted and printed
-pub record AsksInput (options : Options) (selector : Syntax) (before after : ℕ)
+pub record AsksInput (format : Format) (options : Options) (selector : Syntax) (before after : ℕ)
     (unread left out_before out_after : Option (List ℕ)) : Type 0 where
   pub text : List ℕ
   pub entries : List Tree
@@ -42,37 +121,72 @@ pub record AsksInput (options : Options) (selector : Syntax) (before after : ℕ
   pub printed : List ℕ
   pub read : Consumes unread left text
   pub at_end : IsAtEnd left
-  pub list : IsListOf text entries
+  pub list : IsListIn format text entries
+  pub accepted : IsAccepted options format text
   pub are : AreHits selector entries hits
   pub told : IsTold options hits printed
   pub count : after ≡ before + length hits
   pub prints : Appends out_before out_after printed
 
 -- the first entries of a quiet run are asked, and one of them is a hit
-pub record AsksFirst (options : Options) (selector : Syntax) (before after : ℕ)
+pub record AsksFirst (format : Format) (options : Options) (selector : Syntax) (before after : ℕ)
     (unread left out_before out_after : Option (List ℕ)) : Type 0 where
   pub text : List ℕ
   pub entries : List Tree
   pub hits : List Hit
   pub read : Consumes unread left text
-  pub list : BeginsList text entries
+  pub list : BeginsListIn format text entries
   pub are : AreHits selector entries hits
   pub count : after ≡ before + length hits
   pub quiet : options.quiet ≡ true
   pub found : 0 < after
   pub prints : Appends out_before out_after []
 
+-- What a fault says of the input that is called so, of its text, and of what isn't written. Nothing
+-- is said where memory is out, and nothing of the text where what is printed can't be written.
+abbrev pub Why : Options → Format → List ℕ → List ℕ → List ℕ → Fault → Type 0
+Why options format name text unwritten (fault.Input called e) =
+    (string_bytes called ≡ name) × IsErrorOf format text e × (unwritten ≡ [])
+Why options format name text unwritten (fault.Unknown called members) =
+    (string_bytes called ≡ name) × IsTrue options.strict × PassesOverFirst format text
+    × (unwritten ≡ [])
+Why options format name text unwritten (fault.CannotRead called e) =
+    (string_bytes called ≡ name) × (unwritten ≡ [])
+Why options format name text unwritten (fault.NotText called) =
+    (string_bytes called ≡ name) × Any (λ line. ¬ IsUtf8 line) (lines text) × (unwritten ≡ [])
+Why options format name text unwritten (fault.Unsaid e) = unwritten ≡ []
+Why options format name text unwritten fault.Closed = Unit {0}
+Why options format name text unwritten fault.CannotWrite = Unit {0}
+Why options format name text unwritten fault.OutOfMemory = Unit {0}
+Why options format name text unwritten _ = ⊥
+
 -- the first entries that a text lists are asked, and what is printed of their hits is written, or
 -- a first part of it
-pub record AsksPart (options : Options) (selector : Syntax)
-    (unread left out_before out_after : Option (List ℕ)) : Type 0 where
+pub record AsksPart (format : Format) (name : List ℕ) (options : Options) (selector : Syntax)
+    (unread left out_before out_after : Option (List ℕ)) (e : Fault) : Type 0 where
   pub text : List ℕ
   pub entries : List Tree
   pub hits : List Hit
   pub written : List ℕ
   pub unwritten : List ℕ
   pub read : Consumes unread left text
-  pub list : BeginsList text entries
+  pub list : BeginsListIn format text entries
   pub are : AreHits selector entries hits
   pub told : IsTold options hits (written ++ unwritten)
+  pub why : Why options format name text unwritten e
   pub prints : Appends out_before out_after written
+
+-- the fault of the input that is called so, where a stream of its entries has this one
+abbrev pub IsStreamFault : {L : Type 0} → (L → InputError → Type 0) → List ℕ
+    → StreamFault (ListRefusal L LinesError) → Fault → Type 0
+IsStreamFault converts name (stream.CannotRead error) e =
+    (called : String Global) × (string_bytes called ≡ name) × (e ≡ fault.CannotRead called error)
+IsStreamFault converts name stream.NotText e =
+    (called : String Global) × (string_bytes called ≡ name) × (e ≡ fault.NotText called)
+IsStreamFault converts name (stream.Refused (Line line)) e =
+    (called : String Global) × (error : InputError) × (string_bytes called ≡ name)
+    × converts line error × (e ≡ fault.Input called error)
+IsStreamFault converts name (stream.Refused (Entry error)) e = e ≡ fault.Unsaid error
+IsStreamFault converts name (stream.CannotWrite error) e =
+    (e ≡ fault.Closed) ⊎ (e ≡ fault.CannotWrite)
+IsStreamFault converts name stream.OutOfMemory e = e ≡ fault.OutOfMemory

@@ -1,6 +1,7 @@
 //! Why a run of the command ends with status 2.
 use haya_input::InputFault;
-use haya_json::ReadError;
+use haya_json::{LineError, ReadError};
+use haya_list::EntryFault;
 use haya_printing::LinesError;
 use haya_stream::WriteFault;
 use haya_text::OutOfMemory;
@@ -15,9 +16,40 @@ pub enum InputError {
     /// Of a text in one of the formats that are JSON.
     #[error("{0}")]
     Json(ReadError),
+    /// Of a text in lines of JSON.
+    #[error("{0}")]
+    JsonLines(LineError),
     /// Of a text in lines.
     #[error("{0}")]
     Lines(InputFault),
+}
+
+impl From<InputFault> for InputError {
+    ghost use Rattle.std.specs.Prelude.{◌≡◌};
+    ghost use Rattle.haya_command.specs.declared.fault.InputError.TheVariants.{Lines};
+
+    ghost from_gives = { λ fault e. e ≡ Lines fault };
+
+    fn from(fault: InputFault) -> InputError {
+        InputError::Lines(fault)
+    }
+}
+
+// More lines than can be counted are told as out of memory.
+impl From<EntryFault<ReadError>> for InputError {
+    ghost use Rattle.haya_command.specs.Streamed.{IsLineErrorFor};
+
+    ghost from_gives = { IsLineErrorFor };
+
+    fn from(fault: EntryFault<ReadError>) -> InputError {
+        InputError::JsonLines(match fault {
+            EntryFault::Line(line, error) => LineError { line, error },
+            EntryFault::TooMany => LineError {
+                line: usize::MAX,
+                error: ReadError::OutOfMemory,
+            },
+        })
+    }
 }
 
 /// Why a run answers nothing, or not all of it.

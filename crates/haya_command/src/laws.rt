@@ -1,7 +1,7 @@
 //! Laws of the definitions. A call of one, as `lists_stand();`, gives its statement to the caller's
 //! proof.
-ghost use Rattle.std.specs.Prelude.{◌≡◌, ◌≢◌, ◌<◌, ◌↔◌, ◌++◌, ◌∷◌, [], ℕ, Bool, false, IsTrue, List};
-ghost use Rattle.std.specs.Prelude.{length, string_bytes, Option};
+ghost use Rattle.std.specs.Prelude.{◌≡◌, ◌<◌, ◌↔◌, ◌++◌, ◌∷◌, [], ℕ, Bool, IsTrue, List, Option};
+ghost use Rattle.std.specs.Prelude.{length, string_bytes};
 ghost use Rattle.std.specs.Str.{chars};
 ghost use Rattle.std.specs.Io.KnownBytes.{Appends};
 ghost use Rattle.hayagriva.specs.Library.{AreDistinct, from_entries, push};
@@ -10,17 +10,15 @@ ghost use Rattle.hayagriva.specs.Reading.{TextReads};
 ghost use Rattle.hayagriva.specs.Syntax.{Syntax};
 ghost use Rattle.hayagriva.specs.Tree.{Tree};
 ghost use Rattle.hayagriva.specs.declared.query.Hit.{Hit as HitData};
-ghost use Rattle.haya_list.specs.Lines.{IsListOf};
 ghost use Rattle.haya_command.specs.Answer.{IsAnswer};
 ghost use Rattle.haya_command.specs.Picks.{wanted};
-ghost use Rattle.haya_command.specs.Reading.{format_in};
+ghost use Rattle.haya_command.specs.Reading.{IsWhole, format_in};
 ghost use Rattle.haya_command.specs.Run.{Prints};
-ghost use Rattle.haya_command.specs.Streamed.{IsTold, end_text};
-ghost use Rattle.haya_command.specs.declared.format.Format.TheVariants.{Lines};
+ghost use Rattle.haya_command.specs.Streamed.{IsListIn, IsTold, end_text};
 ghost use Rattle.haya_command.specs.declared.options.Options.{Options as OptionsData};
 
-/// What is printed of the hits of a list as they come, and their number at the end, is the answer of
-/// the list.
+/// What is printed of the hits of a list as they come, and their number at the end, is the answer
+/// of the list.
 pub fn told_hits_answer()
     ensures { (options : OptionsData) (s : Syntax) (entries : List Tree) (hits : List HitData)
         (printed : List ℕ) (found : Bool) →
@@ -30,13 +28,14 @@ pub fn told_hits_answer()
         IsAnswer options entries (printed ++ end_text options (length hits)) found }
 {}
 
-/// Where the keys of a list are distinct, its answer is what the command prints that reads a library
-/// first.
+/// Where the keys of a list are distinct, its answer is what the command prints that reads a
+/// library first. In a strict run nothing may be passed over of the text.
 pub fn distinct_lists_stand()
     ensures { (options : OptionsData) (text : List ℕ) (entries : List Tree) (printed : List ℕ)
         (found : Bool) (before after : Option (List ℕ)) →
-        options.strict ≡ false → format_in options text ≡ Lines → IsListOf text entries →
-        AreDistinct entries → IsAnswer options entries printed found →
+        (IsTrue options.strict → IsWhole (format_in options text) text) →
+        IsListIn (format_in options text) text entries → AreDistinct entries →
+        IsAnswer options entries printed found →
         Appends before after printed → Prints options (text ∷ []) before after found }
 {}
 

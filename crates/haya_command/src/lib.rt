@@ -2,10 +2,12 @@
 #![tactic(auto)]
 
 mod answering;
+mod asker;
 mod fault;
 mod form;
 mod format;
 mod json_line;
+mod json_reader;
 pub mod laws;
 mod near;
 mod notes;
@@ -18,6 +20,7 @@ mod streaming;
 mod words;
 
 pub use answering::{Answer, ask};
+pub use asker::{Asker, end_asking};
 pub use fault::{Fault, InputError};
 pub use form::Form;
 pub use format::{Format, format_of};
@@ -25,5 +28,5 @@ pub use options::{Input, Options};
 pub use picking::picks;
 pub use printing::hits_text;
 pub use reading::{Collected, read, read_inputs};
-pub use running::{complain, run, warn};
-pub use streaming::{Asker, ask_lines, end_asking};
+pub use running::{complain, run, tell_notes, warn};
+pub use streaming::{ask_json_lines, ask_lines};

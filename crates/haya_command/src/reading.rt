@@ -1,10 +1,10 @@
 //! The library of texts in any of the formats.
-ghost use Rattle.std.specs.Prelude.{◌≡◌, ◌≢◌, ◌⊎◌, [], false, IfErr, IfOk, IsTrue, OnOk, fold};
+ghost use Rattle.std.specs.Prelude.{◌≡◌, ◌≢◌, ◌⊎◌, [], IfErr, IfOk, IsTrue, OnOk, fold};
 ghost use Rattle.std.specs.Prelude.{string_bytes};
 ghost use Rattle.haya_json.specs.Ignored.{counts_of};
 ghost use Rattle.hayagriva.specs.Library.{push};
 ghost use Rattle.haya_command.specs.Reading.{AreReadAs, Describes, IsErrorOf, IsReadAs, PassesOver};
-ghost use Rattle.haya_command.specs.Reading.{IsFaultIn, IsInputFault, format_in, texts};
+ghost use Rattle.haya_command.specs.Reading.{IsFaultIn, IsInputFault, IsUnknown, format_in, texts};
 ghost use Rattle.haya_command.specs.declared.options.Options.{Options as OptionsData};
 ghost use Rattle.haya_command.specs.Formats.{format_for};
 
@@ -12,15 +12,15 @@ use crate::fault::{Fault, InputError};
 use crate::format::{Format, format_of};
 use crate::notes::{members_text, push_note};
 use crate::options::{Input, Options};
-use haya_csl::read_csl_json;
-use haya_json::Ignored;
+use haya_csl::read_csl_json_with_hash_keys;
+use haya_json::{Ignored, read_json_lines, read_library_with_hash_keys};
 use haya_text::OutOfMemory;
 use hayagriva::laws::distinct_entries_stand;
 use hayagriva::{HashKeys, Library};
 use std::alloc::Global;
 
 /// The library that a text describes in this format, and the members that the format doesn't know
-/// and passes over. The map of a library in lines hashes with the keys.
+/// and passes over. The library's map hashes with the keys.
 pub fn read(
     alloc: Global,
     keys: HashKeys,
@@ -32,13 +32,17 @@ pub fn read(
     ensures error { IfErr result (IsErrorOf format text.now) }
 {
     match format {
-        Format::Hayagriva => match haya_json::read_library(alloc, text) {
+        Format::Hayagriva => match read_library_with_hash_keys(alloc, keys, text) {
             Ok(read) => Ok(read),
             Err(error) => Err(InputError::Json(error)),
         },
-        Format::CslJson => match read_csl_json(alloc, text) {
+        Format::CslJson => match read_csl_json_with_hash_keys(alloc, keys, text) {
             Ok(read) => Ok(read),
             Err(error) => Err(InputError::Json(error)),
+        },
+        Format::JsonLines => match read_json_lines(alloc, keys, text) {
+            Ok(read) => Ok(read),
+            Err(error) => Err(InputError::JsonLines(error)),
         },
         Format::Lines => match haya_input::read_library(alloc, keys, text) {
             Ok(library) => Ok((library, Ignored::new(alloc))),
@@ -56,9 +60,8 @@ pub struct Collected {
     pub notes: String,
 }
 
-/// The library of all inputs: the entries of each in turn, pushed one after another. The map of a
-/// library in lines hashes with the keys. The fault is the first input's that has one, or out of
-/// memory.
+/// The library of all inputs: the entries of each in turn, pushed one after another. The library's
+/// map hashes with the keys. The fault is the first input's that has one, or out of memory.
 pub fn read_inputs(
     alloc: Global,
     keys: HashKeys,
@@ -96,13 +99,7 @@ fn read_input(
     let format = format_for(options.from, input.text.as_str());
     match read(alloc, keys, format, input.text.as_str()) {
         Ok((library, ignored)) => {
-            if !ignored.is_empty() {
-                if let Err(fault) = noted(alloc, options, input, &ignored, notes) {
-                    // By a call: at an exit, the drop of a library is proved field by field.
-                    drop(library);
-                    return Err(fault);
-                }
-            }
+            note_passed_over(alloc, options, input.name.as_str(), &ignored, notes)?;
             Ok(library)
         }
         Err(error) => Err(error_fault(alloc, input, error)),
@@ -119,34 +116,34 @@ fn format_for(given: Option<Format>, text: &str) -> Format
     }
 }
 
-// Notes what is passed over of the input, or makes a fault of it in a strict run.
-fn noted(
+/// Notes what is passed over of the input that is called so, if anything is. A strict run takes it
+/// for a fault.
+pub(crate) fn note_passed_over(
     alloc: Global,
     options: &Options,
-    input: &Input,
+    name: &str,
     ignored: &Ignored,
     notes: &mut String,
 ) -> Result<(), Fault>
-    ensures strict { OnOk result (options.now.strict ≡ false) }
-    ensures fault { PassesOver (format_in options.now (string_bytes input.now.text))
-        (string_bytes input.now.text) ignored.now → counts_of ignored.now ≢ [] →
-        IfErr result (λ e. (e ≡ Fault.OutOfMemory) ⊎ IsFaultIn options.now e input.now) }
+    ensures none { OnOk result (IsTrue options.now.strict → counts_of ignored.now ≡ []) }
+    ensures fault { IfErr result (λ e. (e ≡ Fault.OutOfMemory)
+        ⊎ (IsTrue options.now.strict × IsUnknown name.now e × (counts_of ignored.now ≢ []))) }
 {
-    if options.strict {
-        return Err(unknown_fault(alloc, input, ignored));
+    if ignored.is_empty() {
+        return Ok(());
     }
-    push_note(alloc, notes, input.name.as_str(), ignored)?;
+    if options.strict {
+        return Err(unknown_fault(alloc, name, ignored));
+    }
+    push_note(alloc, notes, name, ignored)?;
     Ok(())
 }
 
-// The fault that members of the input are unknown.
-fn unknown_fault(alloc: Global, input: &Input, ignored: &Ignored) -> Fault
-    ensures { (options : OptionsData) → IsTrue options.strict →
-        PassesOver (format_in options (string_bytes input.now.text))
-        (string_bytes input.now.text) ignored.now → counts_of ignored.now ≢ [] →
-        (result ≡ Fault.OutOfMemory) ⊎ IsFaultIn options result input.now }
+// The fault that members of the input that is called so are unknown.
+fn unknown_fault(alloc: Global, name: &str, ignored: &Ignored) -> Fault
+    ensures { (result ≡ Fault.OutOfMemory) ⊎ IsUnknown name.now result }
 {
-    let Ok(name) = String::from_str(alloc, input.name.as_str()) else {
+    let Ok(name) = String::from_str(alloc, name) else {
         return Fault::OutOfMemory;
     };
     match members_text(alloc, ignored) {

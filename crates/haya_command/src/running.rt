@@ -86,19 +86,28 @@ fn print_answer<W: Write, E: Write>(
     // The process ends with this answer, and gives all memory back at once: entry by entry that
     // takes longer than any selector.
     mem::forget(library);
-    warn(alloc, options, notes.as_str(), err);
+    tell_notes(options, notes.as_str(), err);
+    warn(alloc, options, err);
     write_text(out, answer.text.as_str())?;
     Ok(answer.found)
 }
 
-/// Tells what was passed over, and which names in brackets no entry can have; nothing in a quiet run.
-pub fn warn<E: Write>(alloc: Global, options: &Options, notes: &str, err: &mut E)
+/// Tells what was passed over; nothing in a quiet run.
+pub fn tell_notes<E: Write>(options: &Options, notes: &str, err: &mut E)
+    ensures { IsTrue options.now.quiet → Keeps (E.contents err.old) (E.contents err.new) }
+{
+    if !options.quiet {
+        tell(err, notes);
+    }
+}
+
+/// Tells which names in brackets no entry can have; nothing in a quiet run.
+pub fn warn<E: Write>(alloc: Global, options: &Options, err: &mut E)
     ensures { IsTrue options.now.quiet → Keeps (E.contents err.old) (E.contents err.new) }
 {
     if options.quiet {
         return;
     }
-    tell(err, notes);
     if let Ok(text) = names_text(alloc, options.selector.as_str()) {
         tell(err, text.as_str());
     }

@@ -1,117 +1,149 @@
 -- How the entries of an input are answered.
-use Rattle.std.proofs.Common.{◌≡◌, ◌⊎◌, inl, inr, ℕ, ◌+◌, Bool, List, [], ◌∷◌, ◌++◌, Option, None, Some, length, sym, arith}
+use Rattle.std.proofs.Common.{◌≡◌, ◌⊎◌, inl, inr, ℕ, ◌+◌, ◌<◌, Any, Bool, false, List, [], ◌∷◌, ◌++◌, Option, None, Some, length, length-append, sym, subst, ap, ◌∙◌, arith}
+use Rattle.std.proofs.Math.Seq.{get_or-append_seam}
+use Rattle.std.specs.Str.{IsUtf8}
 use Rattle.std.specs.Str.Lines.{lines}
 use Rattle.hayagriva.specs.Tree.{Tree}
-use Rattle.haya_input.specs.Opened.{Opened}
-use Rattle.haya_input.specs.TextReading.{FaultInText}
-use Rattle.haya_input.specs.Input.{rows_read}
-use Rattle.haya_input.specs.declared.fault.InputFault.{InputFault}
-use Rattle.haya_input.proofs.Takings.{Taken-fault, Taken-start}
 use Rattle.haya_stream.specs.Answered as stream
 use Rattle.haya_stream.specs.Streamed as streamed
 use Rattle.haya_stream.specs.Turns.{turns_in}
 use Rattle.haya_stream.specs.declared.fault.StreamFault.{StreamFault}
 use Rattle.haya_stream.specs.declared.fault.StreamFault.TheVariants.{CannotRead, CannotWrite, NotText, OutOfMemory, Refused}
-use Rattle.haya_list.specs.Lines.{BeginsList, IsFaultOf, IsListOf, RefusesTurn}
 use Rattle.haya_list.specs.Listed.{AnswersEnough, AnswersList, AnswersPart, Why, entries_of}
 use Rattle.haya_list.specs.declared.fault.ListRefusal.{ListRefusal}
 use Rattle.haya_list.specs.declared.fault.ListRefusal.TheVariants.{Line, Entry}
-use Rattle.haya_list.proofs.Lists.{Asked, Begins, Ends, Lists, go}
+use Rattle.haya_list.proofs.Lists.{Asked, Begins, Ends, Reaches, Replied, go}
 
-module _ {S A : Type 0} (number : S → ℕ) (opened : S → Opened) (state : S → A) (answers : A → Tree → List ℕ → A → Type 0) (is_done : A → Bool) (s : S) (zero_lines : number s ≡ 0)
-    (no_chain : (opened s).chain ≡ []) where
-  lists : (text : List ℕ) (later : List (Option (List ℕ))) (t : S) (printed : List ℕ) → stream.Answers (Asked number opened state answers is_done) text later s t printed
-      → Lists number opened state answers is_done [] (lines text) later s t [] printed
-  lists text later t printed answered =
-      rw answered.prints
-      (go number opened state answers is_done answered.parts s t [] (lines text) [] later (rw no_chain Taken-start) answered.all answered.run)
+some_between : {X : Type 0} (P : X → Type 0) (xs : List X) (y : X) (ys : List X) → P y → Any P (xs ++ y ∷ ys)
+some_between P xs y ys holds = (length xs, y, (rw (length-append xs (y ∷ ys)) (omega arith)), get_or-append_seam xs y ys y, holds)
 
-  begun : (text : List ℕ) (later : List (Option (List ℕ))) (t : S) (given : List Tree)
-      → Begins number opened state answers is_done [] (lines text) later s t given ⊎ Ends number opened state answers is_done [] (lines text) later given → BeginsList text given
-  begun text later t given (inl b) = inl (record { first = b.first; more = b.more; open_entries = (opened t).chain; parts = b.parts; taken = b.taken })
-  begun text later t given (inr e) = inr e.rows
+no_turn : (ls : List (List ℕ)) → [] ≡ turns_in ls → ⊥
+no_turn [] h = cc
+no_turn (l ∷ ls) h = cc
 
-  ended : (text : List ℕ) (t : S) (given : List Tree)
-      → Begins number opened state answers is_done [] (lines text) [] s t given ⊎ Ends number opened state answers is_done [] (lines text) [] given → IsListOf text given
-  ended text t given (inl b) = absurd (some b.more b.left)
-    where
-      some : (ls : List (List ℕ)) → [] ≡ turns_in ls → ⊥
-      some [] h = cc
-      some (l ∷ ls) h = cc
-  ended text t given (inr e) = e.rows
+-- the next turn is that of a line
+record IsNext (line : List ℕ) (more : List (List ℕ)) : Type 0 where
+  rest : List (List ℕ)
+  is : more ≡ line ∷ rest
+
+next_line : (line : List ℕ) (later : List (Option (List ℕ))) (more : List (List ℕ)) → Some line ∷ later ≡ turns_in more → IsNext line more
+next_line line later [] left = absurd (cc)
+next_line line later (l ∷ ls) left = record { rest = ls; is = cc }
+
+module _ {S A : Type 0} (state : S → A) (answers : A → Tree → List ℕ → A → Type 0) (is_done : A → Bool) (Turn : S → Option (List ℕ) → List ℕ → S → Type 0)
+    (Taken Whole : List (List ℕ) → List Tree → S → Type 0)
+    (at_line : (before : List (List ℕ)) (given : List Tree) (s t : S) (line printed : List ℕ) → is_done (state s) ≡ false → Taken before given s → Turn s (Some line) printed t
+    → Replied answers is_done (state s) (state t) printed (λ closed. Taken (before ++ line ∷ []) (given ++ closed) t))
+    (at_end : (before : List (List ℕ)) (given : List Tree) (s t : S) (printed : List ℕ) → is_done (state s) ≡ false → Taken before given s → Turn s None printed t
+    → Replied answers is_done (state s) (state t) printed (λ closed. Whole before (given ++ closed) t))
+    (s : S) (start : Taken [] [] s) where
+  abbrev Asks : S → Option (List ℕ) → List ℕ → S → Type 0
+  Asks = Asked state answers is_done Turn Taken Whole at_line at_end
+
+  abbrev Reached : List ℕ → List (Option (List ℕ)) → List Tree → S → Type 0
+  Reached text later given t = Reaches state answers is_done Turn Taken Whole at_line at_end [] (lines text) later given t
+
+  replied : (text : List ℕ) (later : List (Option (List ℕ))) (t : S) (printed : List ℕ) → stream.Answers Asks text later s t printed
+      → Replied answers is_done (state s) (state t) printed (λ given. Reached text later given t)
+  replied text later t printed answered =
+      rw answered.prints (go state answers is_done Turn Taken Whole at_line at_end answered.parts s t [] (lines text) [] later start answered.all answered.run)
 
   module _ (t : S) (unread left before after : Option (List ℕ)) where
-    pub list_all : streamed.AnswersAll (Asked number opened state answers is_done) s t unread left before after → AnswersList IsListOf answers is_done (state s) (state t) unread left before after
-    list_all a =
-        let l = lists a.text [] t a.printed a.answers_all in
+    pub list_all : (IsList : List ℕ → List Tree → Type 0) → ((text : List ℕ) (given : List Tree) → Whole (lines text) given t → IsList text given)
+        → streamed.AnswersAll Asks s t unread left before after → AnswersList IsList answers is_done (state s) (state t) unread left before after
+    list_all IsList is_list a =
+        let r = replied a.text [] t a.printed a.answers_all in
         record {
           text = a.text;
-          told = l.told;
+          replies = r.replies;
           read = a.read;
           at_end = a.at_end;
-          list = ended a.text t (entries_of l.told) l.list;
-          run = l.run;
-          prints = rw (← l.prints) a.prints;
+          list = all r.holds;
+          run = r.run;
+          prints = rw (← r.prints) a.prints;
         }
+      where
+        all : {given : List Tree} → Reached a.text [] given t → IsList a.text given
+        all (inl b) = absurd (no_turn b.more b.left)
+        all {given} (inr e) = is_list a.text given e.whole
 
-    pub list_enough : streamed.AnswersEnough (Asked number opened state answers is_done) (λ u. is_done (state u)) s t unread left before after
-        → AnswersEnough BeginsList answers is_done (state s) (state t) unread left before after
-    list_enough a =
-        let l = lists a.text a.later t a.printed a.first in
+    pub list_enough : (BeginsList : List ℕ → List Tree → Type 0)
+        → ((text : List ℕ) (first more : List (List ℕ)) (given : List Tree) → lines text ≡ first ++ more → Taken first given t → BeginsList text given)
+        → ((text : List ℕ) (given : List Tree) → Whole (lines text) given t → BeginsList text given)
+        → streamed.AnswersEnough Asks (λ u. is_done (state u)) s t unread left before after → AnswersEnough BeginsList answers is_done (state s) (state t) unread left before after
+    list_enough BeginsList begins ends a =
+        let r = replied a.text a.later t a.printed a.first in
         record {
           text = a.text;
-          told = l.told;
+          replies = r.replies;
           read = a.read;
-          list = begun a.text a.later t (entries_of l.told) l.list;
-          run = l.run;
+          list = begun r.holds;
+          run = r.run;
           enough = a.enough;
-          prints = rw (← l.prints) a.prints;
+          prints = rw (← r.prints) a.prints;
         }
-
-  module _ {E : Type 0} (refuses : A → Tree → E → Type 0) where
-    abbrev Refuses : S → Option (List ℕ) → ListRefusal InputFault E → Type 0
-    Refuses u turn e = RefusesTurn refuses (number u + 1) (opened u).chain (state u) turn e
-
-    line_fault : (text : List ℕ) (turn : Option (List ℕ)) (later : List (Option (List ℕ))) (t : S) (given : List Tree) (e : InputFault)
-        → Begins number opened state answers is_done [] (lines text) (turn ∷ later) s t given → Refuses t turn (Line e) → FaultInText (rows_read 1 0 (lines text)) e
-    line_fault text None later t given e b why = inl why
-    line_fault text (Some line) later t given e b why = by b.more b.left b.parts
       where
-        by : (more : List (List ℕ)) → Some line ∷ later ≡ turns_in more → lines text ≡ b.first ++ more → FaultInText (rows_read 1 0 (lines text)) e
-        by [] left parts = absurd (cc)
-        by (l ∷ ls) left parts =
-            let same : line ≡ l = cc in
-            let counted : number t + 1 ≡ length b.first + 1 = (let n = b.count in omega arith) in
-            rw parts (Taken-fault b.first given (opened t).chain b.taken l ls e (rw (← counted, ← same) why))
+        begun : {given : List Tree} → Reached a.text a.later given t → BeginsList a.text given
+        begun {given} (inl b) = begins a.text b.first b.more given b.parts b.taken
+        begun {given} (inr e) = ends a.text given e.whole
 
-    why_part : (text : List ℕ) (later : List (Option (List ℕ))) (t : S) (given : List Tree) (unwritten : List ℕ) (fault : StreamFault (ListRefusal InputFault E))
-        → Begins number opened state answers is_done [] (lines text) later s t given ⊎ Ends number opened state answers is_done [] (lines text) later given
-        → streamed.Why Refuses t later unwritten fault → Why IsFaultOf refuses (state t) text unwritten fault
-    why_part text later t given unwritten (CannotWrite e) list why = tt
-    why_part text later t given unwritten (CannotRead e) list why = why.1
-    why_part text later t given unwritten NotText list why = why.1
-    why_part text later t given unwritten OutOfMemory list why = why
-    why_part text [] t given unwritten (Refused e) list why = absurd why.0
-    why_part text (turn ∷ later) t given unwritten (Refused (Entry e)) list why = ((why.0.entry, why.0.refused), why.1)
-    why_part text (turn ∷ later) t given unwritten (Refused (Line e)) (inl b) why = (line_fault text turn later t given e b why.0, why.1)
-    why_part text (turn ∷ later) t given unwritten (Refused (Line e)) (inr end) why = absurd (let none = end.left in cc)
+  module _ {L E : Type 0} (BeginsList : List ℕ → List Tree → Type 0)
+      (begins : (text : List ℕ) (first more : List (List ℕ)) (given : List Tree) (t : S) → lines text ≡ first ++ more → Taken first given t → BeginsList text given)
+      (ends : (text : List ℕ) (given : List Tree) (t : S) → Whole (lines text) given t → BeginsList text given)
+      (IsFault : List ℕ → L → Type 0) (refuses : A → Tree → E → Type 0) (Refuses : S → Option (List ℕ) → ListRefusal L E → Type 0)
+      (line_fault : (text : List ℕ) (first : List (List ℕ)) (line : List ℕ) (more : List (List ℕ)) (given : List Tree) (t : S) (e : L) → lines text ≡ first ++ line ∷ more → Taken first given t
+      → Refuses t (Some line) (Line e) → IsFault text e)
+      (end_fault : (text : List ℕ) (t : S) (e : L) → Refuses t None (Line e) → IsFault text e)
+      (entry_refused : (turn : Option (List ℕ)) (t : S) (e : E) → Refuses t turn (Entry e) → (entry : Tree) × refuses (state t) entry e) where
+    abbrev WhyIn : S → List ℕ → List ℕ → StreamFault (ListRefusal L E) → Type 0
+    WhyIn t text unwritten fault = Why IsFault (λ e. (entry : Tree) × refuses (state t) entry e) text unwritten fault
 
-    pub list_part : (unread left before after : Option (List ℕ)) (fault : StreamFault (ListRefusal InputFault E))
-        → streamed.AnswersPart (Asked number opened state answers is_done) Refuses s unread left before after fault
-        → AnswersPart BeginsList IsFaultOf answers is_done refuses (state s) unread left before after fault
+    begun : (text : List ℕ) (later : List (Option (List ℕ))) (given : List Tree) (t : S) → Reached text later given t → BeginsList text given
+    begun text later given t (inl b) = begins text b.first b.more given t b.parts b.taken
+    begun text later given t (inr e) = ends text given t e.whole
+
+    -- the line whose turn is next isn't text
+    not_text : (text : List ℕ) (turn : Option (List ℕ)) (later : List (Option (List ℕ))) (given : List Tree) (t : S) → Reached text (turn ∷ later) given t → ¬ stream.IsText turn
+        → Any (λ line. ¬ IsUtf8 line) (lines text)
+    not_text text turn later given t (inr e) why = absurd (let none = e.left in cc)
+    not_text text None later given t (inl b) why = absurd (why tt)
+    not_text text (Some line) later given t (inl b) why =
+        let next = next_line line later b.more b.left in
+        rw (b.parts, next.is) (some_between (λ line. ¬ IsUtf8 line) b.first line next.rest why)
+
+    line_refused : (text : List ℕ) (turn : Option (List ℕ)) (later : List (Option (List ℕ))) (given : List Tree) (t : S) (e : L) → Reached text (turn ∷ later) given t → Refuses t turn (Line e) → IsFault text e
+    line_refused text turn later given t e (inr end) why = absurd (let none = end.left in cc)
+    line_refused text None later given t e (inl b) why = end_fault text t e why
+    line_refused text (Some line) later given t e (inl b) why =
+        let next = next_line line later b.more b.left in
+        line_fault text b.first line next.rest given t e (b.parts ∙ ap (λ l. b.first ++ l) next.is) b.taken why
+
+    why_part : (text : List ℕ) (later : List (Option (List ℕ))) (t : S) (given : List Tree) (unwritten : List ℕ) (fault : StreamFault (ListRefusal L E)) → Reached text later given t
+        → streamed.Why Refuses t later unwritten fault → WhyIn t text unwritten fault
+    why_part text later t given unwritten (CannotWrite e) reached why = tt
+    why_part text later t given unwritten (CannotRead e) reached why = why.1
+    why_part text later t given unwritten OutOfMemory reached why = why
+    why_part text [] t given unwritten NotText reached why = absurd why.0
+    why_part text [] t given unwritten (Refused e) reached why = absurd why.0
+    why_part text (turn ∷ later) t given unwritten NotText reached why = (not_text text turn later given t reached why.0, why.1)
+    why_part text (turn ∷ later) t given unwritten (Refused (Entry e)) reached why = (entry_refused turn t e why.0, why.1)
+    why_part text (turn ∷ later) t given unwritten (Refused (Line e)) reached why = (line_refused text turn later given t e reached why.0, why.1)
+
+    pub list_part : (unread left before after : Option (List ℕ)) (fault : StreamFault (ListRefusal L E)) → streamed.AnswersPart Asks Refuses s unread left before after fault
+        → AnswersPart BeginsList IsFault answers is_done refuses (state s) unread left before after fault
     list_part unread left before after fault a =
         let w = a.writes in
-        let l = lists a.text w.later w.last (w.written ++ w.unwritten) w.first in
+        let r = replied a.text w.later w.last (w.written ++ w.unwritten) w.first in
         record {
           text = a.text;
-          told = l.told;
+          replies = r.replies;
           last = state w.last;
           written = w.written;
           unwritten = w.unwritten;
           read = a.read;
-          list = begun a.text w.later w.last (entries_of l.told) l.list;
-          run = l.run;
-          parts = sym l.prints;
-          why = why_part a.text w.later w.last (entries_of l.told) w.unwritten fault l.list w.why;
+          list = begun a.text w.later (entries_of r.replies) w.last r.holds;
+          run = r.run;
+          parts = sym r.prints;
+          why = why_part a.text w.later w.last (entries_of r.replies) w.unwritten fault r.holds w.why;
           prints = w.prints;
         }

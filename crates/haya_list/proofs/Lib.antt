@@ -1,2 +1,4 @@
+pub mod EntryLineLists
 pub mod Inputs
+pub mod LineLists
 pub mod Lists

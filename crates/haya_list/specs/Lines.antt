@@ -56,8 +56,8 @@ FaultInTurn number chain (Some line) e = FaultInLine number (length chain) line 
 FaultInTurn number chain None e = e ≡ OutOfMemory
 
 -- the entry that a turn closes is refused
-pub record RefusesClosed {S E : Type 0} (refuses : S → Tree → E → Type 0) (chain : List Tree) (s : S)
-    (turn : Option (List ℕ)) (e : E) : Type 0 where
+pub record RefusesClosed {S E : Type 0} (refuses : S → Tree → E → Type 0) (chain : List Tree)
+    (s : S) (turn : Option (List ℕ)) (e : E) : Type 0 where
   pub now : Opened
   pub entry : Tree
   pub takes : TakesTurn turn chain now

@@ -1,11 +1,20 @@
 //! Why a line, or the end, of a list isn't answered.
 
-/// Why a line, or the end, of a list isn't answered. `L` is what is wrong with a line, and `E` is why
-/// its answerer refuses an entry.
+/// Why a line, or the end, of a list isn't answered. `L` is what is wrong with a line, and `E` is
+/// why its answerer refuses an entry.
 #[derive(Debug, Drop)]
 pub enum ListRefusal<L, E> {
     /// A line has a fault, or an allocation failed.
     Line(L),
     /// An entry is refused.
     Entry(E),
+}
+
+/// Why an entry isn't read from a line. `E` is what its reader says of the line.
+#[derive(Debug, Drop)]
+pub enum EntryFault<E> {
+    /// The line with this number, from 1 on, says no entry.
+    Line(usize, E),
+    /// There are more lines than can be counted.
+    TooMany,
 }

@@ -2,9 +2,13 @@
 #![tactic(auto)]
 
 mod entry_answerer;
+mod entry_lines;
+mod entry_reader;
 mod fault;
 mod lines;
 
 pub use entry_answerer::EntryAnswerer;
-pub use fault::ListRefusal;
+pub use entry_lines::answer_entry_lines;
+pub use entry_reader::EntryReader;
+pub use fault::{EntryFault, ListRefusal};
 pub use lines::answer_lines;

@@ -28,8 +28,9 @@ pub fn answer_lines<A: EntryAnswerer + Drop, R: Read, W: Write>(
         (R.remaining input.new) (W.contents out.old) (W.contents out.new)
         ⊎ AnswersEnough BeginsList A.answers A.is_done answerer answered (R.remaining input.old)
         (R.remaining input.new) (W.contents out.old) (W.contents out.new)) }
-    ensures part { IfErr result (AnswersPart BeginsList IsFaultOf A.answers A.is_done A.refuses answerer
-        (R.remaining input.old) (R.remaining input.new) (W.contents out.old) (W.contents out.new)) }
+    ensures part { IfErr result (AnswersPart BeginsList IsFaultOf
+        A.answers A.is_done A.refuses answerer (R.remaining input.old)
+        (R.remaining input.new) (W.contents out.old) (W.contents out.new)) }
 {
     let mut list = LineList {
         alloc,

@@ -33,7 +33,8 @@ abbrev pub Why : {S E : Type 0} → (S → Option (List ℕ) → E → Type 0) �
 Why refuses t later unwritten (CannotRead e) = (length later ≤ 2) × (unwritten ≡ [])
 Why refuses t later unwritten (CannotWrite e) = Unit {0}
 Why refuses t later unwritten NotText = StopsFirst refuses t later NotText × (unwritten ≡ [])
-Why refuses t later unwritten (Refused e) = StopsFirst refuses t later (Refused e) × (unwritten ≡ [])
+Why refuses t later unwritten (Refused e) =
+    StopsFirst refuses t later (Refused e) × (unwritten ≡ [])
 Why refuses t later unwritten OutOfMemory = unwritten ≡ []
 
 -- lines of a text are answered, what is printed of them is written, and here it stops
@@ -58,7 +59,8 @@ pub record AnswersPart {S E : Type 0} (answers : S → Option (List ℕ) → Lis
 
 -- the lines of a text are printed but for what is held, which has no end yet; or enough of them are
 pub record Moves {S : Type 0} (answers : S → Option (List ℕ) → List ℕ → S → Type 0)
-    (is_done : S → Bool) (text held : List ℕ) (s t : S) (before after : Option (List ℕ)) : Type 0 where
+    (is_done : S → Bool) (text held : List ℕ) (s t : S) (before after : Option (List ℕ))
+    : Type 0 where
   pub rest : List ℕ
   pub printed : List ℕ
   pub takes : Takes answers text rest s t printed

@@ -1,6 +1,6 @@
 //! Answers a text line by line, as it is read.
-ghost use Rattle.std.specs.Prelude.{◌≡◌, ◌⊎◌, ◌++◌, ◌∷◌, [], ℕ, List, Option, Some, None, true, false};
-ghost use Rattle.std.specs.Prelude.{IfErr, OnErr, OnOk, string_bytes};
+ghost use Rattle.std.specs.Prelude.{◌≡◌, ◌⊎◌, ◌++◌, ◌∷◌, [], ℕ, List, Option, Some, None, true};
+ghost use Rattle.std.specs.Prelude.{false, IfErr, OnErr, OnOk, string_bytes};
 ghost use Rattle.std.specs.Io.KnownBytes.{Appends};
 ghost use Rattle.std.specs.Str.{IsUtf8};
 ghost use Rattle.haya_stream.specs.Turns.{HasNoFeed};
@@ -78,10 +78,11 @@ fn answer_block<A: Answerer, W: Write>(
     requires none { HasNoFeed held.old.items }
     requires empty { string_bytes printed.old ≡ [] }
     ensures empty { OnOk result (string_bytes printed.new ≡ []) }
-    ensures moves { OnOk result (Moves (Asked A.is_done A.answers) A.is_done (held.old.items ++ block.now)
-        held.new.items answerer.old answerer.new (W.contents out.old) (W.contents out.new)) }
-    ensures part { IfErr result (Writes (Asked A.is_done A.answers) A.refuses (held.old.items ++ block.now)
-        answerer.old (W.contents out.old) (W.contents out.new)) }
+    ensures moves { OnOk result (Moves (Asked A.is_done A.answers) A.is_done
+        (held.old.items ++ block.now) held.new.items answerer.old answerer.new
+        (W.contents out.old) (W.contents out.new)) }
+    ensures part { IfErr result (Writes (Asked A.is_done A.answers) A.refuses
+        (held.old.items ++ block.now) answerer.old (W.contents out.old) (W.contents out.new)) }
 {
     let answered = take_block(answerer, held, block, line, printed);
     match write_text(out, printed.as_str()) {
@@ -135,11 +136,13 @@ fn take_block<A: Answerer>(
 ) -> Result<(), StreamFault<A::Refusal>>
     requires { HasNoFeed held.old.items }
     ensures takes { OnOk result ((more : List ℕ) × (rest : List ℕ)
-        × Takes (Asked A.is_done A.answers) (held.old.items ++ block.now) rest answerer.old answerer.new more
+        × Takes (Asked A.is_done A.answers) (held.old.items ++ block.now) rest
+        answerer.old answerer.new more
         × ((A.is_done answerer.new ≡ true) ⊎ ((rest ≡ held.new.items) × HasNoFeed rest))
         × (string_bytes printed.new ≡ string_bytes printed.old ++ more)) }
     ensures stops { IfErr result (λ fault. (more : List ℕ)
-        × StopsAt (Asked A.is_done A.answers) A.refuses (held.old.items ++ block.now) answerer.old more fault
+        × StopsAt (Asked A.is_done A.answers) A.refuses (held.old.items ++ block.now)
+        answerer.old more fault
         × (string_bytes printed.new ≡ string_bytes printed.old ++ more)) }
 {
     let mut rest = block;

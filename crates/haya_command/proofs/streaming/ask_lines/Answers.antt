@@ -1,29 +1,34 @@
 use Rattle.std.proofs.Common.{inl, inr, refl, ◌&&◌}
 use Rattle.std.specs.Prelude.{nat_lt}
-use Rattle.haya_command.proofs.Streams.{asks_enough, asks_input, asks_part}
+use Rattle.haya_list.specs.Lines.{BeginsList, IsFaultOf, IsListOf}
+use Rattle.haya_command.specs.declared.format.Format.TheVariants.{Lines}
+use Rattle.haya_command.proofs.Streams.{asks_enough, asks_input, asks_part, options_kept, selector_kept, stream_why}
 use Rattle.haya_command.proofs.streaming.ask_lines.Goals as goal
 
 pub returns-in-Ok-clause-asks : goal.returns-in-Ok-clause-asks
 returns-in-Ok-clause-asks g c =
     elim c.in-Ok.ensures.all [
-      | inl a ↦ inl (asks_input (λ s. s.options.now) (λ s. s.selector) (λ s. s.hits) (λ s. s.options.now.quiet && nat_lt 0 s.hits) _ _ c.args.asker.streams _ _ _ _ a).0
-      | inr a ↦ inr (asks_enough (λ s. s.options.now) (λ s. s.selector) (λ s. s.hits) (λ s. s.options.now.quiet && nat_lt 0 s.hits) _ _ c.args.asker.streams _ _ _ _ refl a).0
+      | inl a ↦ inl (asks_input (λ s. s.options.now) (λ s. s.selector) (λ s. s.hits) (λ s. s.options.now.quiet && nat_lt 0 s.hits) _ _ c.args.asker.streams _ _ _ _ Lines IsListOf (λ text entries listed. (listed, tt)) a)
+      | inr a ↦ inr (asks_enough (λ s. s.options.now) (λ s. s.selector) (λ s. s.hits) (λ s. s.options.now.quiet && nat_lt 0 s.hits) _ _ c.args.asker.streams _ _ _ _ Lines BeginsList (λ text entries begins. begins) refl a)
     ]
 
 pub returns-in-Ok-clause-options : goal.returns-in-Ok-clause-options
 returns-in-Ok-clause-options g c =
     elim c.in-Ok.ensures.all [
-      | inl a ↦ (asks_input (λ s. s.options.now) (λ s. s.selector) (λ s. s.hits) (λ s. s.options.now.quiet && nat_lt 0 s.hits) _ _ c.args.asker.streams _ _ _ _ a).1
-      | inr a ↦ (asks_enough (λ s. s.options.now) (λ s. s.selector) (λ s. s.hits) (λ s. s.options.now.quiet && nat_lt 0 s.hits) _ _ c.args.asker.streams _ _ _ _ refl a).1
+      | inl a ↦ options_kept (λ s. s.options.now) (λ s. s.selector) (λ s. s.hits) (λ s. s.options.now.quiet && nat_lt 0 s.hits) _ _ a.replies c.args.asker.streams a.run
+      | inr a ↦ options_kept (λ s. s.options.now) (λ s. s.selector) (λ s. s.hits) (λ s. s.options.now.quiet && nat_lt 0 s.hits) _ _ a.replies c.args.asker.streams a.run
     ]
 
 pub returns-in-Ok-clause-selector : goal.returns-in-Ok-clause-selector
 returns-in-Ok-clause-selector g c =
     elim c.in-Ok.ensures.all [
-      | inl a ↦ (asks_input (λ s. s.options.now) (λ s. s.selector) (λ s. s.hits) (λ s. s.options.now.quiet && nat_lt 0 s.hits) _ _ c.args.asker.streams _ _ _ _ a).2
-      | inr a ↦ (asks_enough (λ s. s.options.now) (λ s. s.selector) (λ s. s.hits) (λ s. s.options.now.quiet && nat_lt 0 s.hits) _ _ c.args.asker.streams _ _ _ _ refl a).2
+      | inl a ↦ selector_kept (λ s. s.options.now) (λ s. s.selector) (λ s. s.hits) (λ s. s.options.now.quiet && nat_lt 0 s.hits) _ _ a.replies c.args.asker.streams a.run
+      | inr a ↦ selector_kept (λ s. s.options.now) (λ s. s.selector) (λ s. s.hits) (λ s. s.options.now.quiet && nat_lt 0 s.hits) _ _ a.replies c.args.asker.streams a.run
     ]
 
 pub returns-in-Err-clause-part : goal.returns-in-Err-clause-part
 returns-in-Err-clause-part g c =
-    asks_part (λ s. s.options.now) (λ s. s.selector) (λ s. s.hits) (λ s. s.options.now.quiet && nat_lt 0 s.hits) c.args.asker c.args.asker c.args.asker.streams _ _ _ _ _ _ _ c.in-Err.ensures.part
+    let a = c.in-Err.ensures.part in
+    asks_part (λ s. s.options.now) (λ s. s.selector) (λ s. s.hits) (λ s. s.options.now.quiet && nat_lt 0 s.hits) c.args.asker a.last c.args.asker.streams _ _ _ _ Lines c.args.name.now _ a.text a.replies
+    a.written a.unwritten a.read a.list a.run a.parts
+    (stream_why c.args.asker.options.now Lines c.args.name.now IsFaultOf _ _ (λ text fault e is at. rw is at) a.text a.unwritten c.in-Err.fault _ c.list_fault.ensures a.why) a.prints

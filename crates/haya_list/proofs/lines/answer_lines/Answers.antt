@@ -1,5 +1,5 @@
 use Rattle.std.proofs.Common.{inl, inr, refl, ap}
-use Rattle.haya_list.proofs.Inputs.{list_all, list_enough, list_part}
+use Rattle.haya_list.proofs.LineLists.{lines_all, lines_enough, lines_part}
 use Rattle.haya_list.proofs.lines.answer_lines.Goals as goal
 
 pub returns-in-Ok-clause-all : goal.returns-in-Ok-clause-all
@@ -7,11 +7,11 @@ returns-in-Ok-clause-all g c =
     let none = ap (λ o. o.chain) c.new.ensures in
     rw c.answerer_of.ensures
     (elim c.in-Ok.ensures.all [
-      | inl a ↦ inl (list_all (λ s. s.number) (λ s. s.entries) (λ s. s.answerer) g.A.EntryAnswerer.answers g.A.EntryAnswerer.is_done _ refl none _ _ _ _ _ a)
-      | inr a ↦ inr (list_enough (λ s. s.number) (λ s. s.entries) (λ s. s.answerer) g.A.EntryAnswerer.answers g.A.EntryAnswerer.is_done _ refl none _ _ _ _ _ a)
+      | inl a ↦ inl (lines_all (λ s. s.number) (λ s. s.entries) (λ s. s.answerer) g.A.EntryAnswerer.answers g.A.EntryAnswerer.is_done _ refl none _ _ _ _ _ a)
+      | inr a ↦ inr (lines_enough (λ s. s.number) (λ s. s.entries) (λ s. s.answerer) g.A.EntryAnswerer.answers g.A.EntryAnswerer.is_done _ refl none _ _ _ _ _ a)
     ])
 
 pub returns-in-Err-clause-part : goal.returns-in-Err-clause-part
 returns-in-Err-clause-part g c =
-    list_part (λ s. s.number) (λ s. s.entries) (λ s. s.answerer) g.A.EntryAnswerer.answers g.A.EntryAnswerer.is_done _ refl (ap (λ o. o.chain) c.new.ensures) g.A.EntryAnswerer.refuses _ _ _ _
+    lines_part (λ s. s.number) (λ s. s.entries) (λ s. s.answerer) g.A.EntryAnswerer.answers g.A.EntryAnswerer.is_done _ refl (ap (λ o. o.chain) c.new.ensures) g.A.EntryAnswerer.refuses _ _ _ _
     c.in-Err.fault c.in-Err.ensures.part

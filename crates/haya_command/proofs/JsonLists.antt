@@ -1,0 +1,86 @@
+-- The list of a text in lines of JSON, as a reader of lines reads it.
+use Rattle.std.proofs.Common.{◌≡◌, ◌≢◌, ◌⊎◌, IsTrue, ℕ, List, [], ◌∷◌, flat_map, inl, inr, map, refl, sym, ap, ◌∙◌, subst, append-nil}
+use Rattle.std.specs.List.{AllZip, FoldsTo}
+use Rattle.std.specs.Str.Lines.{lines}
+use Rattle.hayagriva.specs.Tree.{Tree}
+use Rattle.haya_json.specs.Ignored.{counts_of}
+use Rattle.haya_json.specs.JsonLines as json
+use Rattle.haya_json.specs.JsonLines.{IsLineErrorOf, IsLineOf, line_passed_over, lines_passed_over}
+use Rattle.haya_json.specs.Tally.{all_counted, tally}
+use Rattle.haya_json.specs.declared.error.ReadError.{ReadError}
+use Rattle.haya_json.specs.declared.ignored.Ignored.{Ignored}
+use Rattle.haya_json.proofs.Tallies.{counted_from_none, counted_together}
+use Rattle.haya_list.specs.EntryLines.{IsFaultOf, ReadsFirst, ReadsLines}
+use Rattle.haya_list.specs.declared.fault.EntryFault.{EntryFault}
+use Rattle.haya_list.specs.declared.fault.EntryFault.TheVariants as entry_fault
+use Rattle.haya_command.specs.Reading.{IsErrorOf, IsUnknown}
+use Rattle.haya_command.specs.Streamed.{IsLineErrorFor, ReadsJsonLine, Why}
+use Rattle.haya_command.specs.declared.fault.Fault.{Fault}
+use Rattle.haya_command.specs.declared.fault.Fault.TheVariants as fault
+use Rattle.haya_command.specs.declared.fault.InputError.{InputError}
+use Rattle.haya_command.specs.declared.format.Format.TheVariants.{JsonLines}
+use Rattle.haya_command.specs.declared.options.Options.{Options}
+
+module _ {R : Type 0} (ignored : R → Ignored) where
+  abbrev pub Says : R → List ℕ → Tree → R → Type 0
+  Says r line entry q = ReadsJsonLine (ignored r) line entry (ignored q)
+
+  record ReadsAll (ls : List (List ℕ)) (entries : List Tree) (r q : R) : Type 0 where
+    each : AllZip IsLineOf ls entries
+    counts : counts_of (ignored q) ≡ all_counted (flat_map line_passed_over ls) (counts_of (ignored r))
+
+  reads_all : (parts : List (List ℕ × Tree)) (r q : R) → FoldsTo (λ p part u. Says p part.0 part.1 u) r parts q → ReadsAll (map (λ p. p.0) parts) (map (λ p. p.1) parts) r q
+  reads_all [] r q run = record { each = tt; counts = ap (λ u. counts_of (ignored u)) (sym run) }
+  reads_all ((line, entry) ∷ parts) r q run =
+      let rest = reads_all parts run.0 q run.2 in
+      let left = flat_map line_passed_over (map (λ p. p.0) parts) in
+      record {
+        each = (run.1.says, rest.each);
+        counts = rest.counts ∙ ap (all_counted left) run.1.counts ∙ sym (counted_together (line_passed_over line) left (counts_of (ignored r)));
+      }
+
+  -- the entries of lines, and what is passed over of them
+  pub record ReadsList (ls : List (List ℕ)) (entries : List Tree) (q : R) : Type 0 where
+    pub listed : json.AreEntriesOf ls entries
+    pub counts : counts_of (ignored q) ≡ tally (lines_passed_over ls)
+
+  pub first_of_all : (text : List ℕ) (entries : List Tree) (r q : R) → ReadsLines Says (lines text) entries r q → ReadsFirst Says text entries r q
+  first_of_all text entries r q reads = record { first = lines text; more = []; parts = sym (append-nil (lines text)); reads = reads }
+
+  module _ (r : R) (none : counts_of (ignored r) ≡ []) where
+    pub reads_list : (ls : List (List ℕ)) (entries : List Tree) (q : R) → ReadsLines Says ls entries r q → ReadsList ls entries q
+    reads_list ls entries q reads =
+        let all = reads_all reads.parts r q reads.run in
+        record {
+          listed = rw (← reads.of_lines, ← reads.of_entries) all.each;
+          counts =
+              all.counts ∙ ap (all_counted (flat_map line_passed_over (map (λ p. p.0) reads.parts))) none
+              ∙ counted_from_none (flat_map line_passed_over (map (λ p. p.0) reads.parts)) ∙ ap (λ ls. tally (flat_map line_passed_over ls)) reads.of_lines;
+        }
+
+    pub begins_list : (text : List ℕ) (entries : List Tree) (q : R) → ReadsFirst Says text entries r q → json.BeginsList text entries
+    begins_list text entries q begins =
+        record { first = begins.first; more = begins.more; parts = begins.parts; listed = (reads_list begins.first entries q begins.reads).listed }
+
+    -- a strict run's fault, where something is passed over of the lines that were read
+    pub unknown_why : (options kept : Options) (name text : List ℕ) (entries : List Tree) (q : R) (e : Fault) → kept ≡ options → ReadsFirst Says text entries r q
+        → (e ≡ fault.OutOfMemory) ⊎ (IsTrue kept.strict × IsUnknown name e × (counts_of (ignored q) ≢ [])) → Why options JsonLines name text [] e
+    unknown_why options kept name text entries q e same begins (inl memory) = rw memory tt
+    unknown_why options kept name text entries q e same begins (inr (strict, unknown, some)) =
+        let counts = (reads_list begins.first entries q begins.reads).counts in
+        rw unknown.is (unknown.same, subst (λ o. IsTrue o.strict) same strict, (begins.first, begins.more, begins.parts, (λ none. some (counts ∙ ap tally none))), refl)
+
+    pub line_error : (text : List ℕ) (fault : EntryFault ReadError) (e : InputError) → IsLineErrorFor fault e → IsFaultOf Says IsLineErrorOf r text fault → IsErrorOf JsonLines text e
+    line_error text entry_fault.TooMany e is at = rw is (inl refl)
+    line_error text (entry_fault.Line number error) e is at =
+        rw is
+        (inr (record {
+          first = at.first;
+          line = at.line;
+          more = at.more;
+          entries = at.entries;
+          parts = at.parts;
+          listed = (reads_list at.first at.entries at.after at.reads).listed;
+          number = at.count;
+          error = inr (at.some, at.why);
+        }))

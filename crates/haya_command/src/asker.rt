@@ -1,0 +1,149 @@
+//! What is asked of each entry.
+ghost use Rattle.std.specs.Prelude.{◌≡◌, ◌≢◌, ◌<◌, ◌+◌, ◌↔◌, ◌∷◌, ◌++◌, [], ℕ, List, IfErr, IfOk};
+ghost use Rattle.std.specs.Prelude.{IsTrue, OnErr, OnOk, string_bytes};
+ghost use Rattle.std.specs.Str.{chars};
+ghost use Rattle.std.specs.Io.KnownBytes.{Appends};
+ghost use Rattle.hayagriva.specs.Reading.{TextReads};
+ghost use Rattle.hayagriva.specs.Syntax.{Syntax};
+ghost use Rattle.haya_command.specs.Picks.{wanted};
+ghost use Rattle.haya_command.specs.Streamed.{IsAskerFault, IsTold, end_text};
+ghost use Rattle.haya_command.specs.declared.form.Form.TheVariants.{Hayagriva};
+
+use crate::fault::Fault;
+use crate::form::Form;
+use crate::options::Options;
+use crate::picking::negated;
+use crate::printing::hits_text;
+use haya_list::EntryAnswerer;
+use haya_printing::LinesError;
+use haya_stream::write_text;
+use hayagriva::{CompiledSelector, Entry, HashKeys, Hit, Selector, Steps};
+use std::alloc::Global;
+use std::io::Write;
+
+/// What is asked of each entry: a selector, and how its hits are printed.
+#[derive(Drop)]
+pub struct Asker<'o> {
+    pub(crate) alloc: Global,
+    pub(crate) keys: HashKeys,
+    /// What is asked for.
+    pub options: &'o Options,
+    /// The selector that picks an entry, or, inverted, its opposite.
+    pub selector: CompiledSelector,
+    /// How many hits there were.
+    pub hits: usize,
+    ghost streams: { options.now.to ≢ Hayagriva },
+}
+
+impl<'o> Asker<'o> {
+    /// What is asked under these options. A map of what is passed over hashes with the keys.
+    /// `Selector`: the selector's text is none. `Unstreamed`: hits are to be printed in a form that
+    /// is none of each alone.
+    pub fn new(alloc: Global, keys: HashKeys, options: &'o Options) -> Result<Asker<'o>, Fault>
+        ensures selector { IfOk result (λ asker. (s : Syntax)
+            × TextReads (chars (string_bytes options.now.selector)) s
+            × (asker.selector ≡ wanted options.now.invert s)) }
+        ensures options { IfOk result (λ asker. asker.options.now ≡ options.now) }
+        ensures none { IfOk result (λ asker. asker.hits ≡ 0) }
+        ensures error { IfErr result (IsAskerFault options.now) }
+    {
+        if matches!(options.to, Form::Hayagriva) {
+            return Err(Fault::Unstreamed);
+        }
+        let read = match Selector::parse(alloc, options.selector.as_str()) {
+            Ok(read) => read,
+            Err(error) => return Err(Fault::Selector(error)),
+        };
+        let selector = if options.invert {
+            negated(alloc, read)?
+        } else {
+            read
+        };
+        Ok(Asker {
+            alloc,
+            keys,
+            options,
+            selector: CompiledSelector::new(alloc, &selector)?,
+            hits: 0,
+        })
+    }
+}
+
+impl<'o> EntryAnswerer for Asker<'o> {
+    ghost use Rattle.std.specs.Prelude.{◌≡◌, ◌&&◌, nat_lt};
+    ghost use Rattle.haya_command.specs.Streamed.{AsksEntry};
+
+    type Refusal = LinesError;
+
+    ghost answers = { λ s entry printed t.
+        AsksEntry s.options.now s.selector s.hits entry printed t.options.now t.selector t.hits };
+
+    ghost refuses = { λ _ _ _. Unit {0} };
+
+    ghost is_done = { λ s. s.options.now.quiet && nat_lt 0 s.hits };
+
+    fn answer(&mut self, entry: &Entry, printed: &mut String) -> Result<(), LinesError> {
+        match self.selector.apply(entry, &mut Steps::new()) {
+            Ok(Some(bindings)) => self.tell(Hit { entry, bindings }, printed),
+            Ok(None) => Ok(()),
+            Err(error) => Err(LinesError::from(error)),
+        }
+    }
+
+    fn is_done(&self) -> bool {
+        self.options.quiet && self.hits > 0
+    }
+}
+
+impl<'o> Asker<'o> {
+    // Counts a hit, and puts what is printed of it behind `printed`.
+    fn tell(&mut self, hit: Hit, printed: &mut String) -> Result<(), LinesError>
+        ensures hit { OnOk result (self.new.hits ≡ self.old.hits + 1) }
+        ensures told { OnOk result ((more : List ℕ)
+            × IsTold self.old.options.now (hit.entry ∷ []) more
+            × (string_bytes printed.new ≡ string_bytes printed.old ++ more)) }
+        ensures options { self.new.options ≡ self.old.options }
+        ensures selector { self.new.selector ≡ self.old.selector }
+    {
+        let Some(hits) = self.hits.checked_add(1) else {
+            return Err(LinesError::OutOfMemory);
+        };
+        let text = told(self.alloc, self.options, hit)?;
+        printed.push_str(text.as_str())?;
+        self.hits = hits;
+        Ok(())
+    }
+}
+
+// What is printed of a hit as it comes.
+fn told(alloc: Global, options: &Options, hit: Hit) -> Result<String, LinesError>
+    ensures { IfOk result (λ text. IsTold options.now (hit.entry ∷ []) (string_bytes text)) }
+{
+    if options.quiet {
+        drop(hit);
+        return Ok(String::new(alloc));
+    }
+    if options.count {
+        drop(hit);
+        return Ok(String::new(alloc));
+    }
+    hits_text(alloc, &[hit], options.to)
+}
+
+/// Prints the number of hits, where it is asked for. The answer is whether there is one. Where a
+/// write fails, a first part is printed.
+pub fn end_asking<W: Write>(asker: Asker<'_>, out: &mut W) -> Result<bool, Fault>
+    ensures found { IfOk result (λ found. IsTrue found ↔ (0 < asker.entry.hits)) }
+    ensures printed { OnOk result (Appends (W.contents out.old) (W.contents out.new)
+        (end_text asker.entry.options.now asker.entry.hits)) }
+    ensures begun { OnErr result ((first : List ℕ) × (rest : List ℕ)
+        × (end_text asker.entry.options.now asker.entry.hits ≡ first ++ rest)
+        × Appends (W.contents out.old) (W.contents out.new) first) }
+{
+    if asker.options.count && !asker.options.quiet {
+        let hits = asker.hits;
+        let line = format!(in asker.alloc; "{hits}\n")?;
+        write_text(out, line.as_str())?;
+    }
+    Ok(asker.hits > 0)
+}

@@ -1,0 +1,91 @@
+-- The entries of a text in lines, turn by turn.
+use Rattle.std.proofs.Common.{◌≡◌, ◌⊎◌, inl, inr, ℕ, ◌+◌, Bool, false, List, [], ◌∷◌, ◌++◌, Option, None, Some, Ok, length, length-append, sym, ◌∙◌, ap, subst, arith}
+use Rattle.std.specs.Prelude.{option_to_list}
+use Rattle.std.specs.Str.Lines.{lines}
+use Rattle.hayagriva.specs.Tree.{Tree, trees}
+use Rattle.haya_input.specs.Chain as chain
+use Rattle.haya_input.specs.Input.{rows_of_all, rows_read}
+use Rattle.haya_input.specs.Opened.{Opened}
+use Rattle.haya_input.specs.declared.fault.InputFault.{InputFault}
+use Rattle.haya_input.proofs.Takings.{Taken-end, Taken-fault, Taken-line, Taken-start}
+use Rattle.haya_stream.specs.Answered as stream
+use Rattle.haya_stream.specs.Streamed as streamed
+use Rattle.haya_stream.specs.declared.fault.StreamFault.{StreamFault}
+use Rattle.haya_list.specs.Listed.{AnswersEnough, AnswersList, AnswersPart}
+use Rattle.haya_list.specs.Lines.{AnswersClosed, AnswersTurn, BeginsList, IsFaultOf, IsListOf, RefusesTurn}
+use Rattle.haya_list.specs.declared.fault.ListRefusal.{ListRefusal}
+use Rattle.haya_list.specs.declared.fault.ListRefusal.TheVariants.{Entry, Line}
+use Rattle.haya_list.proofs.Inputs.{list_all, list_enough, list_part}
+use Rattle.haya_list.proofs.Lists.{Replied, no_reply, one_reply}
+
+module _ {S A : Type 0} (number : S → ℕ) (opened : S → Opened) (state : S → A) (answers : A → Tree → List ℕ → A → Type 0) (is_done : A → Bool) where
+  -- what a turn prints, and leaves
+  abbrev pub Turn : S → Option (List ℕ) → List ℕ → S → Type 0
+  Turn s turn printed t = (number t ≡ number s + 1) × AnswersTurn answers (opened s).chain (state s) turn printed (opened t) (state t)
+
+  -- lines are taken, which closed the entries that were given
+  record Taken (before : List (List ℕ)) (given : List Tree) (s : S) : Type 0 where
+    taken : chain.Taken before given (opened s).chain
+    count : number s ≡ length before
+
+  none_taken : (s : S) → number s ≡ 0 → (opened s).chain ≡ [] → Taken [] [] s
+  none_taken s zero none = record { taken = rw none Taken-start; count = zero }
+
+  abbrev Whole : List (List ℕ) → List Tree → S → Type 0
+  Whole ls given t = rows_read 1 0 ls ≡ Ok (rows_of_all 0 (trees given))
+
+  closes : (closed : Option Tree) (s t : A) (printed : List ℕ) (P : List Tree → Type 0) → is_done s ≡ false → AnswersClosed answers s closed printed t → P (option_to_list closed)
+      → Replied answers is_done s t printed P
+  closes None s t printed P more answer holds = no_reply answers is_done s t printed P answer.0 answer.1 holds
+  closes (Some entry) s t printed P more answer holds = one_reply answers is_done s t entry printed P more answer holds
+
+  at_line : (before : List (List ℕ)) (given : List Tree) (s t : S) (line printed : List ℕ) → is_done (state s) ≡ false → Taken before given s → Turn s (Some line) printed t
+      → Replied answers is_done (state s) (state t) printed (λ closed. Taken (before ++ line ∷ []) (given ++ closed) t)
+  at_line before given s t line printed more taken turn =
+      closes (opened t).closed (state s) (state t) printed (λ closed. Taken (before ++ line ∷ []) (given ++ closed) t) more turn.1.closed
+      (record {
+        taken = Taken-line before given (opened s).chain taken.taken line (opened t) turn.1.takes;
+        count = rw (length-append before (line ∷ [])) (let one = turn.0 in let n = taken.count in omega arith);
+      })
+
+  at_end : (before : List (List ℕ)) (given : List Tree) (s t : S) (printed : List ℕ) → is_done (state s) ≡ false → Taken before given s → Turn s None printed t
+      → Replied answers is_done (state s) (state t) printed (λ closed. Whole before (given ++ closed) t)
+  at_end before given s t printed more taken turn =
+      closes (opened t).closed (state s) (state t) printed (λ closed. Whole before (given ++ closed) t) more turn.1.closed
+      (Taken-end before given (opened s).chain taken.taken (opened t) turn.1.takes)
+
+  begins : (text : List ℕ) (first more : List (List ℕ)) (given : List Tree) (t : S) → lines text ≡ first ++ more → Taken first given t → BeginsList text given
+  begins text first more given t parts taken = inl (record { first = first; more = more; open_entries = (opened t).chain; parts = parts; taken = taken.taken })
+
+  ends : (text : List ℕ) (given : List Tree) (t : S) → Whole (lines text) given t → BeginsList text given
+  ends text given t whole = inr whole
+
+  abbrev Asks : S → Option (List ℕ) → List ℕ → S → Type 0
+  Asks = stream.Asked (λ s. is_done (state s)) Turn
+
+  module _ (s : S) (zero : number s ≡ 0) (none : (opened s).chain ≡ []) where
+    module _ (t : S) (unread left before after : Option (List ℕ)) where
+      pub lines_all : streamed.AnswersAll Asks s t unread left before after → AnswersList IsListOf answers is_done (state s) (state t) unread left before after
+      lines_all =
+          list_all state answers is_done Turn Taken Whole at_line at_end s (none_taken s zero none) t unread left before after IsListOf (λ text given whole. whole)
+
+      pub lines_enough : streamed.AnswersEnough Asks (λ u. is_done (state u)) s t unread left before after
+          → AnswersEnough BeginsList answers is_done (state s) (state t) unread left before after
+      lines_enough =
+          list_enough state answers is_done Turn Taken Whole at_line at_end s (none_taken s zero none) t unread left before after BeginsList
+          (λ text first more given. begins text first more given t) (λ text given. ends text given t)
+
+    module _ {E : Type 0} (refuses : A → Tree → E → Type 0) where
+      abbrev Refuses : S → Option (List ℕ) → ListRefusal InputFault E → Type 0
+      Refuses u turn e = RefusesTurn refuses (number u + 1) (opened u).chain (state u) turn e
+
+      line_fault : (text : List ℕ) (first : List (List ℕ)) (line : List ℕ) (more : List (List ℕ)) (given : List Tree) (t : S) (e : InputFault) → lines text ≡ first ++ line ∷ more → Taken first given t
+          → Refuses t (Some line) (Line e) → IsFaultOf text e
+      line_fault text first line more given t e parts taken why =
+          rw parts (Taken-fault first given (opened t).chain taken.taken line more e (rw (← taken.count) why))
+
+      pub lines_part : (unread left before after : Option (List ℕ)) (fault : StreamFault (ListRefusal InputFault E)) → streamed.AnswersPart Asks Refuses s unread left before after fault
+          → AnswersPart BeginsList IsFaultOf answers is_done refuses (state s) unread left before after fault
+      lines_part =
+          list_part state answers is_done Turn Taken Whole at_line at_end s (none_taken s zero none) BeginsList begins ends IsFaultOf refuses Refuses line_fault
+          (λ text t e why. inl why) (λ turn t e why. (why.entry, why.refused))
