@@ -1,6 +1,6 @@
 //! Entries, and lines that are read as entries.
-use crate::calls::{Change, asks, changes, handed_back};
-use crate::marks::Memory::{Optional, Taken};
+use crate::calls::{Change, asks, changes, handed_back, makes};
+use crate::marks::Memory::{NotTaken, Optional, Taken};
 use crate::marks::{Memory, Row};
 use crate::people::person;
 use crate::texts::string;
@@ -42,6 +42,23 @@ fn is_made(alloc: Global, key: &str) -> Result<bool, OutOfMemory> {
 #[test]
 fn made(rt: HostRuntime) {
     asks(&rt, Row("Entry::new", "a key", Taken), "a key", is_made);
+}
+
+fn lets_go(_alloc: Global, entry: Entry) -> Result<bool, OutOfMemory> {
+    drop(entry);
+    Ok(true)
+}
+
+#[test]
+fn let_go(rt: HostRuntime) {
+    let (one, other) = (with_parents(&rt, 3), with_parents(&rt, 3));
+    makes(
+        &rt,
+        Row("Entry::drop", "three parents", NotTaken),
+        one,
+        other,
+        lets_go,
+    );
 }
 
 // An entry before it keeps a serial number, its key, and the entry after that.

@@ -2,6 +2,7 @@
 use crate::calls::{asks, takes_none};
 use crate::marks::Memory::Optional;
 use crate::marks::{Row, begin, end, normal, out_of_memory};
+use crate::printing::writer;
 use crate::works::string;
 use haya_command::{
     Collected, Fault, Form, Format, Input, InputError, Options, ask, complain, format_of, read,
@@ -29,7 +30,7 @@ const TEXTS: &[(Format, &str)] = &[
     (Format::Lines, LINES),
 ];
 
-fn keys() -> HashKeys {
+pub(crate) fn keys() -> HashKeys {
     HashKeys::new(1, 2)
 }
 
@@ -66,8 +67,8 @@ fn formats(rt: HostRuntime) {
     takes_none(&rt, "format_of", (), are_formats);
 }
 
-// Whether a fault is that memory was refused.
-fn told(fault: Fault) -> Result<bool, OutOfMemory> {
+/// Whether a fault is that memory was refused.
+pub(crate) fn told(fault: Fault) -> Result<bool, OutOfMemory> {
     let is_memory = match &fault {
         Fault::OutOfMemory => true,
         Fault::Selector(error) => *error == SelectorError::OutOfMemory,
@@ -84,7 +85,8 @@ fn told(fault: Fault) -> Result<bool, OutOfMemory> {
     }
 }
 
-fn options(rt: &(impl Abort + AllocGlobal), to: Form) -> Options {
+/// What is asked, and in which form it is answered.
+pub(crate) fn options(rt: &(impl Abort + AllocGlobal), to: Form) -> Options {
     Options {
         selector: string(rt, "n:*[title]"),
         from: None,
@@ -162,16 +164,14 @@ fn answered(rt: HostRuntime) {
     drop(library);
 }
 
-// A writer that has room for what is printed: it takes no memory in a run.
-fn writer(rt: &(impl Abort + AllocGlobal)) -> Vec<u8> {
-    Vec::with_capacity(rt.alloc(), 4096).expect(rt, "memory")
-}
+// The room for what a run prints.
+const ROOM: usize = 4096;
 
 // A run of the command. Where it is refused it prints nothing, and prints its answer once there is
 // memory again.
 fn runs(rt: &(impl Abort + AllocGlobal + Print), options: &Options, inputs: &[Input]) {
-    let (mut out, mut err) = (writer(rt), writer(rt));
-    let (mut again, mut more) = (writer(rt), writer(rt));
+    let (mut out, mut err) = (writer(rt, ROOM), writer(rt, ROOM));
+    let (mut again, mut more) = (writer(rt, ROOM), writer(rt, ROOM));
     let heard = begin(rt, Row("run", "the command", Optional));
     let status = run(rt.alloc(), keys(), options, inputs, &mut out, &mut err);
     end(rt, heard);
@@ -192,7 +192,7 @@ fn runs(rt: &(impl Abort + AllocGlobal + Print), options: &Options, inputs: &[In
 
 // A fault is told with status 2, in fewer words where memory is refused.
 fn complains(rt: &(impl Abort + AllocGlobal + Print), options: &Options) {
-    let mut err = writer(rt);
+    let mut err = writer(rt, ROOM);
     let fault = Fault::CannotWrite;
     let heard = begin(rt, Row("complain", "a fault", Optional));
     let status = complain(rt.alloc(), options, &fault, &mut err);

@@ -34,6 +34,9 @@ const FAULTY: &[(&str, &str)] = &[
     ),
 ];
 
+// What `read_csl_json` calls is a call too.
+const READS: &str = "read_csl_json read_csl_json_with_hash_keys";
+
 fn is_read(alloc: Global, wanted: &Library) -> Result<bool, OutOfMemory> {
     match read_csl_json(alloc, ITEMS) {
         Ok((read, ignored)) => {
@@ -64,7 +67,7 @@ fn items(rt: HostRuntime) {
     let (wanted, ignored) = read_csl_json(rt.alloc(), ITEMS).expect(&rt, "a library");
     drop(ignored);
     assert!(&rt; wanted.len() == 2);
-    let row = Row("read_csl_json", "members of every kind", Optional);
+    let row = Row(READS, "members of every kind", Optional);
     asks(&rt, row, &wanted, is_read);
     drop(wanted);
 }
@@ -72,7 +75,7 @@ fn items(rt: HostRuntime) {
 #[test]
 fn faults(rt: HostRuntime) {
     for (text, wanted) in FAULTY {
-        let row = Row("read_csl_json", *text, Maybe);
+        let row = Row(READS, *text, Maybe);
         asks(&rt, row, (*text, *wanted), is_refused);
     }
 }

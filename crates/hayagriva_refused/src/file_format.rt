@@ -1,10 +1,12 @@
 //! Libraries in JSON: what is read and printed.
 use crate::calls::{Change, asks, changes, takes_none};
+use crate::command::keys;
 use crate::marks::Memory::{Maybe, Optional, Taken};
 use crate::marks::Row;
 use crate::shown::is_shown;
 use haya_json::{
-    Ignored, ReadError, lay_out, read_library, reads_back, to_json, to_json_pretty, write_entry,
+    Ignored, LineError, Position, ReadError, lay_out, read_json_lines, read_library, reads_back,
+    to_json, to_json_pretty, write_entry,
 };
 use haya_text::OutOfMemory;
 use hayagriva::Library;
@@ -22,6 +24,9 @@ const PRINTED: &str = concat!(
     r#""serial-number":{"a":"2","b":"1"},"language":"de","#,
     r#""parent":[{"type":"misc"},{"type":"web","key":"own"}]},"l":{"type":"misc"}}"#,
 );
+
+// What `read_library` calls are calls too.
+const READS: &str = "read_library read_library_with_hash_keys Ignored::with_hash_keys";
 
 // A text, and what its error shows.
 const FAULTY: &[(&str, &str)] = &[
@@ -59,6 +64,24 @@ fn is_refused(alloc: Global, (text, wanted): (&str, &str)) -> Result<bool, OutOf
         }
         Err(ReadError::OutOfMemory) => Err(OutOfMemory),
         Err(fault) => Ok(is_shown(&fault, wanted)),
+    }
+}
+
+fn are_lines_read(alloc: Global, (text, wanted): (&str, &Library)) -> Result<bool, OutOfMemory> {
+    match read_json_lines(alloc, keys(), text) {
+        Ok((read, ignored)) => {
+            let is_equal = read == *wanted && ignored.is_empty();
+            drop(read);
+            drop(ignored);
+            Ok(is_equal)
+        }
+        Err(
+            LineError {
+                error: ReadError::OutOfMemory,
+                ..
+            },
+        ) => Err(OutOfMemory),
+        Err(_) => Ok(false),
     }
 }
 
@@ -104,7 +127,7 @@ fn libraries(rt: HostRuntime) {
     drop(ignored);
     asks(
         &rt,
-        Row("read_library", "values of every kind", Optional),
+        Row(READS, "values of every kind", Optional),
         &library,
         is_read,
     );
@@ -128,13 +151,43 @@ fn libraries(rt: HostRuntime) {
     );
     drop(library);
     for (text, wanted) in FAULTY {
-        asks(
-            &rt,
-            Row("read_library", *text, Maybe),
-            (*text, *wanted),
-            is_refused,
-        );
+        asks(&rt, Row(READS, *text, Maybe), (*text, *wanted), is_refused);
     }
+}
+
+const READS_LINES: &str = "read_json_lines read_entry_line";
+
+#[test]
+fn lines(rt: HostRuntime) {
+    let (library, ignored) = read_library(rt.alloc(), SMALL).expect(&rt, "a library");
+    drop(ignored);
+    let row = Row(READS_LINES, "a line", Optional);
+    let line = "{\"key\":\"l\",\"entry\":{\"type\":\"misc\"}}";
+    asks(&rt, row, (line, &library), are_lines_read);
+    drop(library);
+    let (library, ignored) = read_library(rt.alloc(), PRINTED).expect(&rt, "a library");
+    drop(ignored);
+    let entry = entry_text().expect(&rt, "an entry");
+    let text = format!(in rt.alloc(); "{{\"key\":\"k\",\"entry\":{entry}}}\n{line}\n").expect(
+        &rt, "memory",
+    );
+    let row = Row(READS_LINES, "values of every kind", Optional);
+    asks(&rt, row, (text.as_str(), &library), are_lines_read);
+    drop(library);
+}
+
+fn is_line_shown_so(fault: &LineError) -> bool {
+    is_shown(fault, "line 2: /entry/date: not read as a date")
+}
+
+#[test]
+fn an_error_of_a_line(rt: HostRuntime) {
+    let text = "\n{\"key\":\"a\",\"entry\":{\"type\":\"misc\",\"date\":\"x\"}}\n";
+    let fault = read_json_lines(rt.alloc(), keys(), text)
+        .err()
+        .expect(&rt, "a fault");
+    takes_none(&rt, "LineError::fmt", &fault, is_line_shown_so);
+    drop(fault);
 }
 
 #[test]
@@ -152,8 +205,27 @@ fn is_shown_so(fault: &ReadError) -> bool {
     is_shown(fault, "/a~1b~0c/type: missing")
 }
 
+// A position, and what it is shown as.
+const POSITIONS: &[(Position, &str)] = &[
+    (Position { line: 1, column: 2 }, "line 1, column 2"),
+    (
+        Position {
+            line: 18_446_744_073_709_551_615,
+            column: 1,
+        },
+        "line 18446744073709551615, column 1",
+    ),
+];
+
+fn are_positions_shown(_given: ()) -> bool {
+    POSITIONS
+        .iter()
+        .all(|(position, wanted)| is_shown(position, *wanted))
+}
+
 #[test]
 fn errors(rt: HostRuntime) {
+    takes_none(&rt, "Position::fmt", (), are_positions_shown);
     let fault = read_library(rt.alloc(), r#"{"a/b~c": {}}"#)
         .err()
         .expect(&rt, "a fault");

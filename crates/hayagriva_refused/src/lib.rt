@@ -1,9 +1,12 @@
-//! The calls of the library, the selectors, the assignment, the formats, the printed hits and the
-//! program's run, of which each request for memory is refused in turn. Each test runs its calls once, where there is
-//! memory; `refused/run` at the top of the repository runs each call with each request refused, and
-//! says what it takes for a fault. A row's name is the call's, as `TYPE::CALL`.
+//! The calls of the library, the selectors, the assignment, the formats, the printed hits, the
+//! streams and the program's run, of which each request for memory is refused in turn. Each test
+//! runs its calls once, where there is memory; `refused/run` at the top of the repository runs each
+//! call with each request refused, and says what it takes for a fault. A row's name is the call's,
+//! as `TYPE::CALL`.
 #![tactic(auto)]
 
+#[cfg(test)]
+mod asking;
 #[cfg(test)]
 mod assignment;
 #[cfg(test)]
@@ -25,6 +28,8 @@ mod lines;
 #[cfg(test)]
 mod marks;
 #[cfg(test)]
+mod printing;
+#[cfg(test)]
 mod query;
 #[cfg(test)]
 mod running;
@@ -32,5 +37,7 @@ mod running;
 mod selectors;
 #[cfg(test)]
 mod shown;
+#[cfg(test)]
+mod streams;
 #[cfg(test)]
 mod works;

@@ -4,6 +4,7 @@ mod fields;
 use crate::calls::takes_none;
 use crate::marks::Memory::{NotTaken, Optional, Taken};
 use crate::marks::{Memory, Row, begin, end, normal, out_of_memory};
+use crate::printing::{begins, writer};
 use crate::works::string;
 use fields::FIELDS;
 use haya_run::{Fault, run, run_given};
@@ -29,10 +30,8 @@ struct Ended {
     complaint: Vec<u8>,
 }
 
-// A writer that has room for what is printed: it takes no memory in a run.
-fn writer(rt: &(impl Abort + AllocGlobal)) -> Vec<u8> {
-    Vec::with_capacity(rt.alloc(), 65536).expect(rt, "memory")
-}
+// The room for what a run prints.
+const ROOM: usize = 65536;
 
 // The input, of which each read gives so many bytes at most.
 #[derive(Clone, Copy)]
@@ -69,8 +68,8 @@ struct Handed {
 fn prepared(rt: &(impl Abort + AllocGlobal), words: &[&str]) -> Handed {
     Handed {
         words: words_of(rt, words),
-        out: writer(rt),
-        err: writer(rt),
+        out: writer(rt, ROOM),
+        err: writer(rt, ROOM),
     }
 }
 
@@ -94,11 +93,6 @@ fn left(alloc: Global, call: &str, given: Handed, mut input: Given<'_>) -> Ended
         printed: out,
         complaint: err,
     }
-}
-
-// Whether the bytes are whole lines that begin the text.
-fn begins(bytes: &[u8], text: &str) -> bool {
-    text.as_bytes().starts_with(bytes) && (bytes.is_empty() || bytes.ends_with(b"\n"))
 }
 
 fn is_refused(ended: &Ended) -> bool {
@@ -233,7 +227,7 @@ fn a_million_reads(rt: HostRuntime) {
         bytes: input.as_slice(),
         step: 1,
     };
-    let row = Row("run", "a million reads of a byte", Taken);
+    let row = Row("run read_all", "a million reads of a byte", Taken);
     ends(&rt, row, &["*[note]"], given, (0, "a\n", ""));
     drop(input);
 }
