@@ -43,7 +43,8 @@ pub record IsMadeOfText (text : List ℕ) (made : Made) : Type 0 where
 -- one more item is taken
 abbrev pub TakesItem : Json → ℕ → Made → Made → Type 0
 TakesItem j place old new =
-    (left list : Items) → IsMadeBut (item j left) list place old → IsMadeBut left list (place + 1) new
+    (left list : Items) →
+    IsMadeBut (item j left) list place old → IsMadeBut left list (place + 1) new
 
 -- the entry of an item is pushed, and what is passed over of the item is counted
 pub record MakesOne (j : Json) (old new : Made) : Type 0 where

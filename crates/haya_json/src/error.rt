@@ -25,8 +25,8 @@ pub enum ReadError {
 impl fmt::Display for ReadError {
     ghost output = { λ e. Some (error_text e) };
 
-    /// What is wrong, behind its place: a position in the text, `line 3, column 7: no JSON`, or that
-    /// of a refused value as a JSON Pointer (RFC 6901),
+    /// What is wrong, behind its place: a position in the text, `line 3, column 7: no JSON`, or
+    /// that of a refused value as a JSON Pointer (RFC 6901),
     /// `/klein2009/parent/1/date: not read as a date`.
     fn fmt<W: fmt::Write>(&self, f: &mut fmt::Formatter<W>) -> fmt::Result {
         match self {

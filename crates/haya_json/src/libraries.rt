@@ -81,8 +81,8 @@ fn library_and_ignored(
     }
 }
 
-// The library that a value says, where no object in it has a member twice. What is passed over of it
-// is counted.
+// The library that a value says, where no object in it has a member twice. What is passed over of
+// it is counted.
 fn library_of(
     alloc: Global,
     keys: HashKeys,

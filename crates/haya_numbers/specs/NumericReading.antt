@@ -72,8 +72,8 @@ signed false n = pos n
 abbrev pub number_front : List ℕ → Option (ℤ × List ℕ)
 number_front cs =
     option_map
-        (λ n. (signed (begins_with (λ c. c == hyphen) cs) n, behind_run is_numeric (past_sign cs)))
-        (magnitude (run is_numeric (past_sign cs)))
+    (λ n. (signed (begins_with (λ c. c == hyphen) cs) n, behind_run is_numeric (past_sign cs)))
+    (magnitude (run is_numeric (past_sign cs)))
 
 -- a number of a set with its delimiter: the run behind the number names it
 abbrev pub delimited : ℤ → List ℕ → Item × List ℕ

@@ -45,7 +45,8 @@ AddsNames old new names = slot_names new ≡ insert_all bytes_eq (slot_names old
 -- the map has for each of the names its place, and no other name
 abbrev pub AreSlots : BTreeMap (Bor (List ℕ)) ℕ → List (List ℕ) → Type 0
 AreSlots slots names =
-    (name : List ℕ) → get_by (λ k. slice_cmp nat_cmp name k.now) slots ≡ position (bytes_eq name) names
+    (name : List ℕ) →
+    get_by (λ k. slice_cmp nat_cmp name k.now) slots ≡ position (bytes_eq name) names
 
 -- the node of the number was added, and stands for the selector
 pub record Adds (old new : Nodes) (s : Syntax) (number : ℕ) : Type 0 where
