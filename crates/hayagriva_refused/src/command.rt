@@ -9,7 +9,7 @@ use haya_command::{
     read_inputs, run,
 };
 use haya_input::InputFault;
-use haya_json::ReadError;
+use haya_json::{LineError, ReadError};
 use haya_printing::LinesError;
 use haya_text::OutOfMemory;
 use hayagriva::{HashKeys, Library, SelectorError};
@@ -74,6 +74,9 @@ pub(crate) fn told(fault: Fault) -> Result<bool, OutOfMemory> {
         Fault::Selector(error) => *error == SelectorError::OutOfMemory,
         Fault::Unsaid(error) => matches!(error, LinesError::OutOfMemory),
         Fault::Input(_, InputError::Json(error)) => matches!(error, ReadError::OutOfMemory),
+        Fault::Input(_, InputError::JsonLines(LineError { error, .. })) => {
+            matches!(error, ReadError::OutOfMemory)
+        }
         Fault::Input(_, InputError::Lines(error)) => *error == InputFault::OutOfMemory,
         _ => false,
     };
