@@ -1,4 +1,4 @@
-mod JsonLists
+mod EntryLists
 mod Lines
 mod Streams
 mod Together
