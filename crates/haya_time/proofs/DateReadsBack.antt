@@ -20,6 +20,7 @@ use Rattle.haya_text.specs.Characters.{is_numeric, hyphen, run}
 use Rattle.haya_time.specs.DateText.{tilde, digit_zero}
 use Rattle.haya_text.proofs.Numerics.{hyphen-numeric}
 use Rattle.haya_time.proofs.DateReadings.{reads-read}
+use Rattle.haya_time.proofs.TextFronts.{begins-itself}
 
 -- ---- padded digits
 
@@ -57,7 +58,7 @@ digits_of width n some short small =
 digits-number : (ds rest : List ℕ) (width n : ℕ) → Digits ds width n → run is_numeric rest ≡ [] → BeginsWithNumber (ds ++ rest) width n rest
 digits-number ds rest width n d stops = record {
   digits = ds;
-  stands = record { blank = []; white = refl; joined = refl };
+  stands = begins-itself ds rest;
   ascii = d.ascii;
   longest = stops;
   counted = d.wide;
@@ -67,11 +68,11 @@ digits-number ds rest width n d stops = record {
 -- ---- the parts of a printed date
 
 mark-text : (c : ℕ) (b : Bool) (rest : List ℕ) → HasMark c (mark_text b c ++ rest) b rest
-mark-text c true rest = marked (record { blank = []; white = refl; joined = refl })
+mark-text c true rest = marked (begins-itself (c ∷ []) rest)
 mark-text c false rest = unmarked
 
 sign-text : (negative : Bool) (rest : List ℕ) → HasSign (mark_text negative hyphen ++ rest) negative rest
-sign-text true rest = minus (record { blank = []; white = refl; joined = refl })
+sign-text true rest = minus (begins-itself (hyphen ∷ []) rest)
 sign-text false rest = unsigned
 
 year-sign : (y : ℤ) → with_sign (is_negative y) (unsigned_abs y) ≡ y
@@ -105,7 +106,7 @@ part-text n rest short stops =
     record {
       after = padded_decimal 2 (n + 1) ++ rest;
       count = 2;
-      joint = record { blank = []; white = refl; joined = refl };
+      joint = begins-itself (hyphen ∷ []) _;
       number = digits-number (padded_decimal 2 (n + 1)) rest 2 (n + 1) digits stops;
       low = omega arith;
       high = omega arith;

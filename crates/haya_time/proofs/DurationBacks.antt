@@ -23,6 +23,7 @@ use Rattle.haya_time.specs.DurationValues.{clock, from_hours, from_minutes, mill
 use Rattle.haya_time.specs.DurationGrammar.{IsNumber, IsValue, IsClock, IsFraction, IsDuration, ReadsAs, IsStart, HasTwoTexts, ReadsAsRange}
 use Rattle.haya_time.proofs.DurationNumbers.{both}
 use Rattle.haya_time.proofs.DurationLaws.{as-reads, as-range-reads}
+use Rattle.haya_time.proofs.TextFronts.{begins-itself}
 
 -- printed numbers
 
@@ -103,12 +104,12 @@ no_sign : (c : ℕ) (rest : List ℕ) → is_numeric c ≡ false → begins_with
 no_sign c rest h = h
 
 number-back : (ds rest : List ℕ) → list_all is_ascii_digit ds ≡ true → 0 < length ds → begins_with is_numeric rest ≡ false → IsNumber (ds ++ rest) ds rest
-number-back ds rest h some stop = record { gap = []; cut = refl; space = refl; some = some; ascii = h; whole = stop }
+number-back ds rest h some stop = record { stands = begins-itself ds rest; some = some; ascii = h; whole = stop }
 
 value-back : (text ds tail : List ℕ) → text ≡ ds ++ colon ∷ tail → list_all is_ascii_digit ds ≡ true → 0 < length ds → IsValue text ds tail
 value-back text ds tail e h some =
     let n : IsNumber text ds (colon ∷ tail) = rw (sym e) at (number-back ds (colon ∷ tail) h some colon-no_number) in
-    record { rest = colon ∷ tail; number = n; sign = record { gap = []; cut = refl; space = refl } }
+    record { rest = colon ∷ tail; number = n; sign = begins-itself (colon ∷ []) tail }
 
 -- what stands behind the values
 pub record Ends (rest : List ℕ) : Type 0 where
@@ -286,7 +287,7 @@ fraction-back d rest b e some =
       fraction = padded_number 3 d.milliseconds;
       tail = padded_number 3 d.milliseconds ++ rest;
       values = clock_parts;
-      sign = record { gap = []; cut = refl; space = refl };
+      sign = begins-itself (comma ∷ []) _;
       last = number-back (padded_number 3 d.milliseconds) rest p.digits p.some e.no_number;
       value = λ i. record { days = d.days; hours = d.hours; minutes = d.minutes; seconds = d.seconds; milliseconds = sym value i };
     }
@@ -343,7 +344,7 @@ start-back d t b = go (nat_lt 0 d.milliseconds) refl
         inr (inr (subst (λ x. IsFraction x d (hyphen ∷ t)) (sym whole) v))
     go false f =
         let v = plain-back d (hyphen ∷ t) b (hyphen_ends t) f in
-        inr (inl (record { values = clock_along whole v; tail = t; sign = record { gap = []; cut = refl; space = refl } }))
+        inr (inl (record { values = clock_along whole v; tail = t; sign = begins-itself (hyphen ∷ []) t }))
 
 -- a printed duration begins with a digit
 digit_first : (ds rest : List ℕ) → list_all is_ascii_digit ds ≡ true → 0 < length ds → begins_with (λ c. c == hyphen) (ds ++ rest) ≡ false
@@ -445,7 +446,7 @@ range-back r s e = go (same_duration r.start r.end) refl
           tail = duration_text r.end;
           hyphens = [];
           front = start-back r.start (duration_text r.end) s;
-          sign = record { gap = []; cut = refl; space = refl };
+          sign = begins-itself (hyphen ∷ []) (duration_text r.end);
           cut = refl;
           more = refl;
           all_hyphens = first-back r.end e;

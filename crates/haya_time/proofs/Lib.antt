@@ -1,4 +1,3 @@
-mod DateCharacters
 mod DateDigits
 mod DateNumbers
 mod DateOrders
@@ -6,7 +5,6 @@ mod DateParts
 mod DateReadings
 mod DateReadsBack
 mod DateRows
-mod DateTexts
 pub mod DurationBacks
 pub mod DurationGrammars
 pub mod DurationLaws
@@ -16,3 +14,4 @@ pub mod DurationPrints
 mod DurationRows
 mod DurationsKept
 pub mod DurationScans
+mod TextFronts

@@ -1,7 +1,5 @@
 -- The forms of a date's text, and its faults.
-use Rattle.std.specs.Prelude.{◌≡◌, ℕ, ◌-◌, ◌≤◌, Bool, true, false, ◌==◌, if◌then◌else◌, List, [], ◌∷◌, ◌++◌, length, Option, Some, None, ℤ, pos, neg_ℤ, ◌+ℤ◌, int_lt}
-use Rattle.std.specs.Char.{is_whitespace}
-use Rattle.std.specs.List.{list_all}
+use Rattle.std.specs.Prelude.{◌≡◌, ℕ, ◌-◌, ◌≤◌, Bool, true, false, ◌==◌, if◌then◌else◌, List, [], ◌∷◌, length, Option, Some, None, ℤ, pos, neg_ℤ, ◌+ℤ◌, int_lt}
 use Rattle.std.specs.Str.{all_ascii_digits}
 use Rattle.std.specs.Str.Parse.{digits_value}
 use Rattle.haya_time.specs.declared.date.Date.{Date}
@@ -10,16 +8,7 @@ use Rattle.haya_time.specs.declared.date.DateError.TheVariants.{UnknownFormat, M
 use Rattle.haya_time.specs.DateCalendar.{is_month, has_day}
 use Rattle.haya_text.specs.Characters.{is_numeric, hyphen, run}
 use Rattle.haya_time.specs.DateText.{plus_sign, tilde}
-
--- white space and nothing else
-abbrev pub IsBlank : List ℕ → Type 0
-IsBlank cs = list_all is_whitespace cs ≡ true
-
--- the text begins with this part, perhaps behind white space, and goes on with the rest
-pub record BeginsWith (part text rest : List ℕ) : Type 0 where
-  pub blank : List ℕ
-  pub white : IsBlank blank
-  pub joined : text ≡ blank ++ (part ++ rest)
+use Rattle.haya_time.specs.TextFront.{BeginsWith, IsBlank}
 
 -- whether the text begins with that character, and what follows
 pub data HasMark : ℕ → List ℕ → Bool → List ℕ → Type 0 where

@@ -16,3 +16,4 @@ pub mod DurationGrammar
 pub mod DurationReading
 pub mod DurationOrder
 pub mod DurationPrint
+pub mod TextFront
