@@ -9,10 +9,10 @@ use Rattle.std.specs.Str.Parse.{digits_value}
 use Rattle.haya_text.proofs.Tells.{and-both, both-and}
 use Rattle.haya_time.specs.DateForms.{HasMark, marked, unmarked, HasSign, minus, plus, unsigned, BeginsWithNumber, Opening, OpensWith, BeginsWithPart, calendar_year, with_sign}
 use Rattle.haya_time.specs.DateReading.{number_of, Number, number_before, number_at, mark_of, mark_at, sign_by, sign_at, opening_with, opening_by, opening_after_sign, opening_after_mark, opening_at, part_by, part_behind, part_at}
-use Rattle.haya_text.specs.Characters.{hyphen, run, behind_run, is_numeric}
+use Rattle.haya_text.specs.Characters.{begins_with, hyphen, run, behind_run, is_numeric}
 use Rattle.haya_time.specs.DateText.{plus_sign, tilde}
 use Rattle.haya_time.specs.TextFront.{BeginsWith, IsBlank, behind, behind_first}
-use Rattle.haya_text.proofs.Numerics.{digit_low, digit_high, digit-numeric, run-behind_run, behind_run-stops, run-of, behind_run-of, run-none, none-run}
+use Rattle.haya_text.proofs.Numerics.{digit_low, digit_high, digit-numeric, run-behind_run, behind_run-stops, run-of, behind_run-of}
 use Rattle.haya_time.proofs.TextFronts.{begins, begins-behind, begins-skip, behind-begins, blank-skipped, digit-no_space}
 
 -- ---- one character
@@ -71,8 +71,7 @@ number-begins text n h =
       digits = run is_numeric front;
       stands = begins (run is_numeric front) text n.rest (run-behind_run is_numeric front ∙ ap (λ t. run is_numeric front ++ t) s.follows);
       ascii = s.ascii;
-      longest = ap (run is_numeric) (sym s.follows)
-          ∙ run-none is_numeric (behind_run is_numeric front) (behind_run-stops is_numeric front);
+      whole = ap (begins_with is_numeric) (sym s.follows) ∙ behind_run-stops is_numeric front;
       counted = s.counted;
       valued = s.valued;
     }
@@ -83,21 +82,21 @@ number_of-digits cs a high = let t : nat_le (length cs) 4 ≡ true = grind (arit
 abbrev number_front : List ℕ → Option Number
 number_front front = number_before (number_of (run is_numeric front)) (behind_run is_numeric front)
 
-digits-number : (digits text rest : List ℕ) → all_ascii_digits digits ≡ true → run is_numeric rest ≡ [] → 1 ≤ length digits → length digits ≤ 4 → BeginsWith digits text rest
+digits-number : (digits text rest : List ℕ) → all_ascii_digits digits ≡ true → begins_with is_numeric rest ≡ false → 1 ≤ length digits → length digits ≤ 4 → BeginsWith digits text rest
     → number_at text ≡ Some (record { count = length digits; value = digits_value 10 digits; rest = rest })
 digits-number [] text rest a r low high b = absurd (omega arith)
 digits-number (d ∷ ds) text rest a r low high b =
     let p = and-both (is_ascii_digit d) (all_ascii_digits ds) a in
     let skipped = begins-skip (d ∷ ds) text rest (digit-no_space d p.0) b in
     let numeric = digits-numeric (d ∷ ds) a in
-    let front = run-of is_numeric (d ∷ ds) rest numeric (none-run is_numeric rest r) in
-    let back = behind_run-of is_numeric (d ∷ ds) rest numeric (none-run is_numeric rest r) in
+    let front = run-of is_numeric (d ∷ ds) rest numeric r in
+    let back = behind_run-of is_numeric (d ∷ ds) rest numeric r in
     ap number_front skipped ∙ (λ i. number_before (number_of (front i)) (back i)) ∙ ap (λ n. number_before n rest) (number_of-digits (d ∷ ds) a high)
 
 pub begins-number : (text : List ℕ) (count value : ℕ) (rest : List ℕ) → BeginsWithNumber text count value rest → 1 ≤ count → count ≤ 4 → number_at text ≡ Some (record { count = count; value = value; rest = rest })
 begins-number text count value rest b low high =
     let counted = b.counted in
-    digits-number b.digits text rest b.ascii b.longest (omega arith) (omega arith) b.stands
+    digits-number b.digits text rest b.ascii b.whole (omega arith) (omega arith) b.stands
     ∙ (λ i. Some (record { count = b.counted i; value = b.valued i; rest = rest }))
 
 digits-start : (digits text rest : List ℕ) → all_ascii_digits digits ≡ true → 1 ≤ length digits → BeginsWith digits text rest → Starts 48 text

@@ -12,7 +12,7 @@ use Rattle.haya_time.specs.DurationReading.{digits_at, with_colon, long_number, 
 use Rattle.haya_time.specs.DurationValues.{clock, from_hours, from_minutes}
 use Rattle.haya_time.specs.DurationGrammar.{IsNumber, IsValue, AreMinutes, AreHours, AreDays, IsClock}
 use Rattle.haya_time.specs.TextFront.{BeginsWith, behind}
-use Rattle.haya_time.proofs.DurationNumbers.{both}
+use Rattle.haya_text.proofs.Tells.{and-both}
 use Rattle.haya_time.proofs.TextFronts.{begins, begins-behind, begins-skip, behind-begins, digit-no_space}
 use Rattle.haya_text.proofs.Numerics.{digit-numeric, run-behind_run, all-run, run-of, behind_run-of}
 
@@ -72,7 +72,7 @@ number-of text ds rest h some = go (begins_with is_numeric (behind_run is_ascii_
 
 no_space_first : (ds rest : List ℕ) → 0 < length ds → list_all is_ascii_digit ds ≡ true → begins_with is_whitespace (ds ++ rest) ≡ false
 no_space_first [] rest some h = absurd (omega arith)
-no_space_first (c ∷ cs) rest some h = digit-no_space c (both (is_ascii_digit c) (list_all is_ascii_digit cs) h).0
+no_space_first (c ∷ cs) rest some h = digit-no_space c (and-both (is_ascii_digit c) (list_all is_ascii_digit cs) h).0
 
 pub number-at : (text ds rest : List ℕ) → IsNumber text ds rest → digits_at text ≡ Some (ds, rest)
 number-at text ds rest n =

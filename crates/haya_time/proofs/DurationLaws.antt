@@ -15,6 +15,7 @@ use Rattle.haya_time.specs.DurationValues.{milliseconds, is_too_large}
 use Rattle.haya_time.specs.DurationGrammar.{IsClock, IsFraction, IsDuration, ReadsAs, ReadsTooLarge, IsStart, HasTwoTexts, IsOneDuration, ReadsAsRange, HasLargeStart, RangeTooLarge}
 use Rattle.haya_text.proofs.Numerics.{run-behind_run, all-run, behind_run-of, behind_run-stops}
 use Rattle.haya_time.proofs.DurationGrammars.{Through, through, number-of, number-at, clock-of, clock-at}
+use Rattle.haya_time.proofs.DurationNumbers.{some-same}
 use Rattle.haya_time.proofs.TextFronts.{begins-behind, begins-skip, behind-begins, blank-skipped, blank_by_rest}
 
 -- the duration at the front
@@ -47,15 +48,12 @@ pub record HasNone (text : List ℕ) (f : Front) : Type 0 where
   pub values : IsClock text f.duration f.rest
   pub no_comma : behind comma f.rest ≡ None
 
-some_same : {A : Type 0} (x y : A) → Some x ≡ Some y → x ≡ y
-some_same x y h = cc
-
 fraction-of : (d : Duration) (p : List ℕ × List ℕ) (f : Front) → fraction_front d p ≡ Some f → (is_empty p.0 ≡ false) × (f ≡ record { duration = record d { milliseconds = milliseconds p.0 }; has_fraction = true; rest = p.1 })
 fraction-of d p f h = go (is_empty p.0) refl
   where
     go : (b : Bool) → is_empty p.0 ≡ b → (is_empty p.0 ≡ false) × (f ≡ record { duration = record d { milliseconds = milliseconds p.0 }; has_fraction = true; rest = p.1 })
     go true e = let none : fraction_front d p ≡ None = rw e refl in cc
-    go false e = (e, some_same _ _ (sym h ∙ rw e refl))
+    go false e = (e, some-same _ _ (sym h ∙ rw e refl))
 
 pub front-of : (text : List ℕ) (f : Front) → front_at text ≡ Some f → HasFraction text f ⊎ HasNone text f
 front-of text f h = go (behind comma a.x.1) refl a.gives
@@ -69,7 +67,7 @@ front-of text f h = go (behind comma a.x.1) refl a.gives
     go : (o : Option (List ℕ)) → behind comma a.x.1 ≡ o → with_fraction a.x.0 a.x.1 o ≡ Some f → HasFraction text f ⊎ HasNone text f
     go None e g =
         let plain : Front = record { duration = a.x.0; has_fraction = false; rest = a.x.1 } in
-        let same : plain ≡ f = some_same plain f g in
+        let same : plain ≡ f = some-same plain f g in
         let none : HasNone text plain = record { hasnt = refl; values = values; no_comma = e } in
         inr (rw same at none)
     go (Some tail) e g =

@@ -1,4 +1,3 @@
-mod DateDigits
 mod DateNumbers
 mod DateOrders
 mod DateParts
@@ -10,8 +9,8 @@ pub mod DurationGrammars
 pub mod DurationLaws
 pub mod DurationNumbers
 pub mod DurationOrders
-pub mod DurationPrints
 mod DurationRows
 mod DurationsKept
 pub mod DurationScans
+mod PrintedParts
 mod TextFronts

@@ -6,7 +6,7 @@ use Rattle.haya_time.specs.declared.date.Date.{Date}
 use Rattle.haya_time.specs.declared.date.DateError.{DateError}
 use Rattle.haya_time.specs.declared.date.DateError.TheVariants.{UnknownFormat, MonthOutOfBounds, DayOutOfBounds}
 use Rattle.haya_time.specs.DateCalendar.{is_month, has_day}
-use Rattle.haya_text.specs.Characters.{is_numeric, hyphen, run}
+use Rattle.haya_text.specs.Characters.{begins_with, is_numeric, hyphen}
 use Rattle.haya_time.specs.DateText.{plus_sign, tilde}
 use Rattle.haya_time.specs.TextFront.{BeginsWith, IsBlank}
 
@@ -27,7 +27,7 @@ pub record BeginsWithNumber (text : List ℕ) (count value : ℕ) (rest : List �
   pub digits : List ℕ
   pub stands : BeginsWith digits text rest
   pub ascii : all_ascii_digits digits ≡ true
-  pub longest : run is_numeric rest ≡ []
+  pub whole : begins_with is_numeric rest ≡ false
   pub counted : length digits ≡ count
   pub valued : digits_value 10 digits ≡ value
 
