@@ -1,3 +1,5 @@
 mod Joined
 mod Closing
 mod Words
+mod Pieces
+mod Faults
