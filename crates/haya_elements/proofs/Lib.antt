@@ -3,3 +3,4 @@ mod Closing
 mod Words
 mod Pieces
 mod Faults
+mod Classes
