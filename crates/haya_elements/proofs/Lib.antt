@@ -1,8 +1,10 @@
 mod Classes
 mod Closing
+mod Cut
 mod Faults
 mod Grammar
 mod Joined
 mod Pieces
 mod Punctuated
+mod Rests
 mod Words

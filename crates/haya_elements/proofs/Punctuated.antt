@@ -39,7 +39,7 @@ has_ended after_comma = true
 has_ended after_key = false
 
 -- A colon begins the lexemes with more behind them only if it begins the lexemes.
-begins_colon-append : (ls more : List Lexeme) → begins_colon more ≡ false
+pub begins_colon-append : (ls more : List Lexeme) → begins_colon more ≡ false
     → begins_colon (ls ++ more) ≡ begins_colon ls
 begins_colon-append [] more e = e
 begins_colon-append (token t ∷ ls) more e = refl
