@@ -4,6 +4,7 @@ mod Cut
 mod Faults
 mod Grammar
 mod Joined
+mod Line
 mod Pieces
 mod Punctuated
 mod Rests
