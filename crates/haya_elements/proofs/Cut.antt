@@ -52,7 +52,7 @@ IsInside d (colon ∷ ls) = IsInside d ls
 
 -- ---- tokens where they are allowed
 
-abbrev Sound : Kind → Type 0
+abbrev pub Sound : Kind → Type 0
 Sound opens = ⊤
 Sound closes = ⊤
 Sound scalar = ⊤
@@ -68,7 +68,7 @@ sound_turn names due d next h = tt
 sound_turn faulty due d next h = absurd h
 
 -- the place behind a token of this kind
-abbrev place_behind : Kind → Place
+abbrev pub place_behind : Kind → Place
 place_behind opens = fresh
 place_behind closes = after_value
 place_behind scalar = after_value
@@ -112,6 +112,7 @@ module _ (k : Place → List Token) (x : Token) (left : List Token) (s : Sound (
 
   record Placed (q : Place) (t : Token) (before : Bool) : Type 0 where
     spells : kind t ≡ spelled (kind x)
+    same : (kind x ≡ names → ⊥) → t ≡ x
     onward : Onward (place_token q t before) k x left
 
   plain_token : (q : Place) (t : Token) (before b : Bool) (next : Place) → kind t ≡ spelled (kind t) → place_behind (kind t) ≡ next
@@ -120,6 +121,7 @@ module _ (k : Place → List Token) (x : Token) (left : List Token) (s : Sound (
       let a = allowed b t next p (sym (f k) ∙ e) in
       record {
         spells = sp ∙ ap (λ y. spelled (kind y)) (sym a.same);
+        same = λ other. sym a.same;
         onward = record { is_left = a.onward.is_left; again = λ m. f m ∙ a.onward.again m };
       }
 
@@ -132,12 +134,33 @@ module _ (k : Place → List Token) (x : Token) (left : List Token) (s : Sound (
   placed q (Token.key n) before e = no_bad x left s e
   placed q (Token.string n) true e =
       let a = allowed (may_begin q) (Token.key n) after_key refl e in
-      record { spells = ap (λ y. spelled (kind y)) (sym a.same); onward = a.onward }
+      record {
+        spells = ap (λ y. spelled (kind y)) (sym a.same);
+        same = λ other. absurd (other (ap kind a.same));
+        onward = a.onward;
+      }
   placed q (Token.string n) false e = plain_token q _ false (may_begin q) _ refl refl (λ m. refl) e
   placed q (Token.number n) before e = plain_token q _ before (may_begin q) _ refl refl (λ m. refl) e
   placed q (Token.boolean v) before e = plain_token q _ before (may_begin q) _ refl refl (λ m. refl) e
   placed q Token.null before e = plain_token q _ before (may_begin q) _ refl refl (λ m. refl) e
   placed q Token.bad before e = no_bad x left s e
+
+-- the lexemes begin with this token's, and the rest is read as `left`
+pub record Begins (ls : List Lexeme) (x : Token) (left : List Token) : Type 0 where
+  pub tail : List Lexeme
+  pub is : ls ≡ token x ∷ tail
+  pub reads : punctuate (place_behind (kind x)) tail ≡ left
+
+-- Lexemes whose first token is no name begin with its lexeme.
+pub begins : (ls : List Lexeme) (x : Token) (left : List Token) → Sound (kind x) → (kind x ≡ names → ⊥)
+    → punctuate fresh ls ≡ x ∷ left → Begins ls x left
+unfolding punctuate
+begins [] x left s other e = absurd cc
+begins (token t ∷ ls) x left s other e =
+    let p = placed (λ n. punctuate n ls) x left s fresh t (begins_colon ls) e in
+    record { tail = ls; is = ap (λ u. token u ∷ ls) (p.same other); reads = sym p.onward.is_left }
+begins (comma ∷ ls) x left s other e = no_bad x left s e
+begins (colon ∷ ls) x left s other e = no_bad x left s e
 
 -- ---- where an element ends
 

@@ -2,6 +2,7 @@ mod Classes
 mod Closing
 mod Cut
 mod Faults
+mod Fronts
 mod Grammar
 mod Joined
 mod Line

@@ -270,6 +270,7 @@ IsPlain-word t =
     IsPlain-literal name k h =
         cond_both (starts_with nat_eq t name && ends_word (drop (length name) t)) k Token.bad
         (λ u. IsPlain (kind u)) (λ e. h) (λ e. tt)
+
     IsPlain-number : (o : Option (List ℕ)) → IsPlain (kind (number_before t o))
     IsPlain-number None = tt
     IsPlain-number (Some r) =
@@ -318,18 +319,23 @@ operators P a b c d e f x h = last (or_cases _ _ h)
   where
     at : (n : ℕ) → P n → (x == n) ≡ true → P x
     at n p k = subst P (sym (eqb-true x n k)) p
+
     two : ((x == 123) ≡ true) ⊎ ((x == 125) ≡ true) → P x
     two (inl k) = at 123 a k
     two (inr k) = at 125 b k
+
     three : (((x == 123) || (x == 125)) ≡ true) ⊎ ((x == 91) ≡ true) → P x
     three (inl k) = two (or_cases _ _ k)
     three (inr k) = at 91 c k
+
     four : (((x == 123) || (x == 125) || (x == 91)) ≡ true) ⊎ ((x == 93) ≡ true) → P x
     four (inl k) = three (or_cases _ _ k)
     four (inr k) = at 93 d k
+
     five : (((x == 123) || (x == 125) || (x == 91) || (x == 93)) ≡ true) ⊎ ((x == 58) ≡ true) → P x
     five (inl k) = four (or_cases _ _ k)
     five (inr k) = at 58 e k
+
     last : (((x == 123) || (x == 125) || (x == 91) || (x == 93) || (x == 58)) ≡ true) ⊎ ((x == 44) ≡ true) → P x
     last (inl k) = five (or_cases _ _ k)
     last (inr k) = at 44 f k
@@ -387,7 +393,7 @@ module _ (b : Brackets) where
           line = x ∷ (w ++ c.line);
           left = c.left;
           is = p.lines ∙ ap (λ l. x ∷ (w ++ l)) c.is
-          ∙ ap (λ l. x ∷ l) (sym (append_assoc w c.line (10 ∷ lines_from b (behind more) c.left)));
+              ∙ ap (λ l. x ∷ l) (sym (append_assoc w c.line (10 ∷ lines_from b (behind more) c.left)));
           no_feed = (p.no_feed.0, HasNoFeed-append w c.line p.no_feed.1 c.no_feed);
           line_reads = p.reads c.line c.ended ∙ (λ i. sym is i ∷ c.line_reads i);
           left_reads = c.left_reads;
@@ -407,6 +413,7 @@ module _ (b : Brackets) where
           let whole = sym (lex_class between x xs quote k) ∙ e in
           let is : l ≡ token (string_token (content plain xs)) = cc in
           subst (λ u. IsInside d (u ∷ front)) is h
+
       by : (o : Option (List ℕ)) → content plain xs ≡ o → IsInside d (token (string_token o) ∷ front)
           → Line b d (x ∷ xs) (l ∷ front) more rest
       by None eo i = absurd i
@@ -421,12 +428,12 @@ module _ (b : Brackets) where
             text = text;
             no_feed = (apart x 10 quote k refl refl, HasNoFeed-append c.front (34 ∷ []) (no_feed_inside false c.front c.inside) (refl, tt));
             lines = at_class b Between d x xs quote k
-            ∙ ap (λ u. x ∷ lines_from b (Element Text d) u) c.is
-            ∙ ap (λ u. x ∷ u) (lines_inside b d false c.front c.behind c.inside)
-            ∙ ap (λ u. x ∷ u) (sym (joined (lines_from b (Element Between d) c.behind)));
+                ∙ ap (λ u. x ∷ lines_from b (Element Text d) u) c.is
+                ∙ ap (λ u. x ∷ u) (lines_inside b d false c.front c.behind c.inside)
+                ∙ ap (λ u. x ∷ u) (sym (joined (lines_from b (Element Between d) c.behind)));
             reads = λ z v. ap (λ u. lex between (x ∷ u)) (joined z)
-            ∙ lex_class between x (c.front ++ 34 ∷ z) quote k
-            ∙ (λ j. token (string_token (c.same z j)) ∷ lex_inside false c.front z c.inside j);
+                ∙ lex_class between x (c.front ++ 34 ∷ z) quote k
+                ∙ (λ j. token (string_token (c.same z j)) ∷ lex_inside false c.front z c.inside j);
           })
           tt h e (again c.behind short)
 
@@ -440,13 +447,13 @@ module _ (b : Brackets) where
         text = s.is;
         no_feed = (apart x 10 other k refl refl, no_feed_letters s.front s.letters);
         lines = at_class b Between d x xs other k
-        ∙ ap (λ u. x ∷ lines_from b (Element Word d) u) s.is
-        ∙ ap (λ u. x ∷ u) (lines_letters b d s.front s.rest s.letters)
-        ∙ ap (λ u. x ∷ (s.front ++ u)) (lines_ended b d s.rest s.ended);
+            ∙ ap (λ u. x ∷ lines_from b (Element Word d) u) s.is
+            ∙ ap (λ u. x ∷ u) (lines_letters b d s.front s.rest s.letters)
+            ∙ ap (λ u. x ∷ (s.front ++ u)) (lines_ended b d s.rest s.ended);
         reads = λ z v. lex_class between x (s.front ++ z) other k
-        ∙ ap (λ u. token u ∷ lex in_word (s.front ++ z))
-        (same_word (x ∷ s.front) z s.rest (v s.ended) s.ended ∙ ap (λ u. word (x ∷ u)) (sym s.is))
-        ∙ ap (λ u. token (word (x ∷ xs)) ∷ u) (lex_letters s.front z s.letters ∙ lex_ended z (v s.ended));
+            ∙ ap (λ u. token u ∷ lex in_word (s.front ++ z))
+            (same_word (x ∷ s.front) z s.rest (v s.ended) s.ended ∙ ap (λ u. word (x ∷ u)) (sym s.is))
+            ∙ ap (λ u. token (word (x ∷ xs)) ∷ u) (lex_letters s.front z s.letters ∙ lex_ended z (v s.ended));
       })
       (IsPlain-word (x ∷ xs)) h e (again s.rest short)
 
