@@ -6,6 +6,7 @@ mod Fronts
 mod Grammar
 mod Joined
 mod Line
+mod Outside
 mod Pieces
 mod Punctuated
 mod Rests

@@ -41,7 +41,7 @@ at_class b m d x xs c k =
     ap (λ a. (in_element b m d a x).1 ∷ lines_from b (in_element b m d a x).0 xs) k
 
 -- a byte of a class, in a mode of the lexer
-lex_class : (m : LexMode) (x : ℕ) (xs : List ℕ) (c : Class) → class x ≡ c
+pub lex_class : (m : LexMode) (x : ℕ) (xs : List ℕ) (c : Class) → class x ≡ c
     → lex m (x ∷ xs) ≡ lex_byte m c x xs (λ n. lex n xs)
 unfolding lex
 lex_class m x xs c k = ap (λ a. lex_byte m a x xs (λ n. lex n xs)) k
@@ -250,7 +250,7 @@ module _ (b : Brackets) (d : ℕ) where
       by_class other k = absurd (no_other x e k)
 
 -- a scalar or a fault
-abbrev IsPlain : Kind → Type 0
+abbrev pub IsPlain : Kind → Type 0
 IsPlain opens = ⊥
 IsPlain closes_kind = ⊥
 IsPlain scalar = ⊤
@@ -258,7 +258,7 @@ IsPlain names = ⊥
 IsPlain faulty = ⊤
 
 -- A word is a scalar or a fault.
-IsPlain-word : (t : List ℕ) → IsPlain (kind (word t))
+pub IsPlain-word : (t : List ℕ) → IsPlain (kind (word t))
 unfolding word
 IsPlain-word t =
     cond_both (head t == 116) _ _ (λ k. IsPlain (kind k)) (λ e. IsPlain-literal ascii.true_text (Token.boolean true) tt)
@@ -278,7 +278,7 @@ IsPlain-word t =
         (λ u. IsPlain (kind u)) (λ e. tt) (λ e. tt)
 
 -- So is a string.
-IsPlain-string : (o : Option (List ℕ)) → IsPlain (kind (string_token o))
+pub IsPlain-string : (o : Option (List ℕ)) → IsPlain (kind (string_token o))
 IsPlain-string None = tt
 IsPlain-string (Some s) = tt
 
@@ -314,7 +314,7 @@ pub record Line (b : Brackets) (d : ℕ) (xs : List ℕ) (front : List Lexeme) (
   pub ended : ends_word xs ≡ true → ends_word line ≡ true
 
 -- A property of the bytes that are operators.
-operators : (P : ℕ → Type 0) → P 123 → P 125 → P 91 → P 93 → P 58 → P 44 → (x : ℕ) → is_operator x ≡ true → P x
+pub operators : (P : ℕ → Type 0) → P 123 → P 125 → P 91 → P 93 → P 58 → P 44 → (x : ℕ) → is_operator x ≡ true → P x
 operators P a b c d e f x h = last (or_cases _ _ h)
   where
     at : (n : ℕ) → P n → (x == n) ≡ true → P x
