@@ -1,5 +1,6 @@
 mod Classes
 mod Closing
+mod Complete
 mod Cut
 mod Faults
 mod Fronts
