@@ -1,21 +1,21 @@
 -- A text that is an array or an object has its items or its members as elements.
 use Rattle.std.proofs.Common.{◌≡◌, ℕ, ◌<◌, ◌≤◌, Bool, true, false, List, [], ◌∷◌, ◌++◌, length, Option, Some, None, option_and_then, is_some, refl, sym, ap, ◌∙◌, subst, append-nil, arith}
-use Rattle.std.proofs.lemmas.Bool.{false≢true, true≢false}
+use Rattle.std.proofs.lemmas.Bool.{false≢true}
 use Rattle.std.specs.Prelude.{⊤}
 use Rattle.json.specs.Token.{Token}
 use Rattle.json.specs.Json.{Json, Items, no_items, item, Members, no_members, member, value, if_last, document}
-use Rattle.json.specs.Lex.{Lexeme, token, comma, Place as TokenPlace, fresh, after_value, after_comma, may_begin, between, lex, punctuate, tokens}
-use Rattle.json.specs.Tree.{json_tokens, items_tokens, members_tokens, depth, items_depth, members_depth}
+use Rattle.json.specs.Lex.{Lexeme, Place as TokenPlace, fresh, after_value, after_comma, may_begin, between, lex, punctuate, tokens}
+use Rattle.json.specs.Tree.{json_tokens, depth, items_depth, members_depth}
 use Rattle.json.proofs.Nesting.{value-depth}
 use Rattle.json.proofs.Printed.Trees.{value-json_tokens}
 use Rattle.json.proofs.Unique.Spelling.{value-json_tokens_back}
-use Rattle.haya_elements.specs.Elements.{elements, lines_from, IsItem, IsMember, AreItems, AreMembers}
+use Rattle.haya_elements.specs.Elements.{elements, lines_from, AreItems, AreMembers}
 use Rattle.haya_elements.specs.declared.place.Brackets.{Brackets}
 use Rattle.haya_elements.specs.declared.place.Brackets.TheVariants.{Square, Curly}
 use Rattle.haya_elements.specs.declared.place.Place.{Place}
-use Rattle.haya_elements.specs.declared.place.Place.TheVariants.{Front, Opened, Next, Closed}
+use Rattle.haya_elements.specs.declared.place.Place.TheVariants.{Opened, Next}
 use Rattle.haya_elements.proofs.Joined.{open_token, close_token}
-use Rattle.haya_elements.proofs.Cut.{names, kind, Sound, place_behind, begins, IsRest, IsInside, Follows, separator, cut}
+use Rattle.haya_elements.proofs.Cut.{names, kind, Sound, place_behind, begins, IsRest, Follows, separator, cut}
 use Rattle.haya_elements.proofs.Rests.{all_tokens, AreWhole, item_tokens, member_tokens, all_tokens-items, all_tokens-members, AreWhole-items, AreWhole-members}
 use Rattle.haya_elements.proofs.Line.{Line, behind, line_of}
 use Rattle.haya_elements.proofs.Fronts.{BeginsAs, BeginsAs-front, alone, Follows-all_tokens, no_closing, nothing_left, behind_closing}

@@ -1,5 +1,5 @@
 -- How the lexemes of elements begin, and what stands behind the last.
-use Rattle.std.proofs.Common.{◌≡◌, ℕ, Bool, true, false, ◌==◌, List, [], ◌∷◌, ◌++◌, refl, sym, ap, ◌∙◌, subst}
+use Rattle.std.proofs.Common.{◌≡◌, ℕ, Bool, true, false, List, [], ◌∷◌, refl, sym, subst}
 use Rattle.std.proofs.lemmas.Bool.{false≢true, true≢false}
 use Rattle.std.specs.Prelude.{⊤}
 use Rattle.json.specs.Token.{Token}
@@ -7,7 +7,7 @@ use Rattle.json.specs.Lex.{Lexeme, token, comma, colon, Place, fresh, after_valu
 use Rattle.haya_elements.specs.declared.place.Brackets.{Brackets}
 use Rattle.haya_elements.specs.declared.place.Brackets.TheVariants.{Square, Curly}
 use Rattle.haya_elements.proofs.Joined.{close_token}
-use Rattle.haya_elements.proofs.Cut.{Kind, opens, closes, scalar, names, faulty, kind, Sound, Turn, IsRest, IsInside, Follows, separator}
+use Rattle.haya_elements.proofs.Cut.{Kind, opens, closes, scalar, names, faulty, kind, Sound, Turn, IsRest, IsInside, Follows}
 use Rattle.haya_elements.proofs.Rests.{all_tokens, AreWhole}
 
 -- no bracket closes here

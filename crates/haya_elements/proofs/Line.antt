@@ -1,14 +1,14 @@
 -- An element's lexemes are those of its line.
-use Rattle.std.proofs.Common.{◌≡◌, ℕ, zero, suc, ◌+◌, ◌-◌, ◌<◌, ◌≤◌, Bool, true, false, not, ◌&&◌, ◌||◌, ◌==◌, nat_eq, nat_le, nat_lt, cond, List, [], ◌∷◌, ◌++◌, length, take, drop, Option, Some, None, inl, inr, ◌⊎◌, refl, sym, ap, ◌∙◌, subst, append_assoc, length-append, arith}
-use Rattle.std.proofs.lemmas.Bool.{false≢true, true≢false, eqb-true, leb-true, ne_eqb, and_parts, or_cases, or_parts, or_left, or_right, or_from, cond_both, cases_Bool, not-true}
+use Rattle.std.proofs.Common.{◌≡◌, ℕ, zero, suc, ◌+◌, ◌-◌, ◌≤◌, Bool, true, false, not, ◌&&◌, ◌||◌, ◌==◌, nat_eq, nat_lt, cond, List, [], ◌∷◌, ◌++◌, length, take, drop, Option, Some, None, inl, inr, ◌⊎◌, refl, sym, ap, ◌∙◌, subst, append_assoc, length-append, arith}
+use Rattle.std.proofs.lemmas.Bool.{false≢true, true≢false, eqb-true, leb-true, ne_eqb, and_parts, or_cases, or_left, or_right, or_from, cond_both, cases_Bool}
 use Rattle.std.specs.Prelude.{⊤}
 use Rattle.std.specs.List.{starts_with}
 use Rattle.json.specs.Ascii as ascii
 use Rattle.json.specs.Token.{Token}
 use Rattle.json.specs.Text.{content, plain}
 use Rattle.json.specs.Word.{is_operator, is_space, ends_word, word, literal, number_before, after_number, head}
-use Rattle.json.specs.Lex.{Lexeme, token, comma, colon, Class, class, quote, backslash, operator, space, other, Mode as LexMode, between, in_word, in_string, in_escape, operator_lexeme, string_token, lex_byte, lex}
-use Rattle.haya_elements.specs.Steps.{Step, close_of, in_element, in_text, blank, lost, step}
+use Rattle.json.specs.Lex.{Lexeme, token, comma, colon, Class, class, quote, backslash, operator, space, other, Mode as LexMode, between, in_word, in_string, in_escape, string_token, lex_byte, lex}
+use Rattle.haya_elements.specs.Steps.{Step, close_of, in_element, in_text, blank, lost}
 use Rattle.haya_elements.specs.Elements.{lines_from}
 use Rattle.haya_elements.specs.declared.place.Brackets.{Brackets}
 use Rattle.haya_elements.specs.declared.place.Brackets.TheVariants.{Square, Curly}
@@ -16,7 +16,6 @@ use Rattle.haya_elements.specs.declared.place.Mode.{Mode}
 use Rattle.haya_elements.specs.declared.place.Mode.TheVariants.{Between, Word, Text, Escape}
 use Rattle.haya_elements.specs.declared.place.Place.{Place}
 use Rattle.haya_elements.specs.declared.place.Place.TheVariants.{Next, Element, Closed}
-use Rattle.haya_elements.proofs.Joined.{close_token}
 use Rattle.haya_elements.proofs.Classes.{apart, class_tells, blank_class, blank_feed}
 use Rattle.haya_elements.proofs.Closing.{is_inside, closes}
 use Rattle.haya_elements.proofs.Words.{same_word}

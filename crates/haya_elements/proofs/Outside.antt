@@ -1,11 +1,11 @@
 -- The lines of a text outside of its elements.
-use Rattle.std.proofs.Common.{◌≡◌, ℕ, ◌<◌, Bool, true, false, ◌==◌, cond, List, [], ◌∷◌, ◌++◌, length, refl, sym, ap, ◌∙◌, subst, arith}
+use Rattle.std.proofs.Common.{◌≡◌, ℕ, ◌<◌, false, ◌==◌, cond, List, [], ◌∷◌, ◌++◌, length, refl, sym, ap, ◌∙◌, subst, arith}
 use Rattle.std.proofs.lemmas.Bool.{ne_eqb}
 use Rattle.std.specs.Prelude.{⊤}
 use Rattle.json.specs.Token.{Token}
 use Rattle.json.specs.Text.{content, plain}
 use Rattle.json.specs.Word.{word}
-use Rattle.json.specs.Lex.{Lexeme, token, comma, colon, Class, class, quote, backslash, operator, space, other, between, in_word, in_string, operator_lexeme, string_token, lex_byte, lex}
+use Rattle.json.specs.Lex.{Lexeme, token, Class, class, quote, backslash, operator, space, other, between, operator_lexeme, string_token, lex_byte, lex}
 use Rattle.haya_elements.specs.Steps.{begins, close_of, in_element, only_space, open_of, step}
 use Rattle.haya_elements.specs.Elements.{elements, lines_from}
 use Rattle.haya_elements.specs.declared.place.Brackets.{Brackets}
@@ -16,7 +16,7 @@ use Rattle.haya_elements.specs.declared.place.Place.TheVariants.{Front, Opened, 
 use Rattle.haya_elements.proofs.Joined.{open_token, close_token}
 use Rattle.haya_elements.proofs.Pieces.{first_line, later_lines, filled, filled-some, filled_lines}
 use Rattle.haya_elements.proofs.Classes.{class_tells, no_return}
-use Rattle.haya_elements.proofs.Cut.{Kind, opens, closes, scalar, names, faulty, kind}
+use Rattle.haya_elements.proofs.Cut.{kind}
 use Rattle.haya_elements.proofs.Line.{HasNoFeed, IsPlain, IsPlain-word, IsPlain-string, lex_class, operators}
 use Rattle.haya_elements.proofs.Fronts.{BeginsWith}
 
