@@ -1,1 +1,3 @@
+mod Grammar
 mod Joined
+mod Punctuated
