@@ -4,3 +4,4 @@ mod Words
 mod Pieces
 mod Faults
 mod Classes
+mod Copied
