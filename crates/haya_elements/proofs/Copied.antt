@@ -1,6 +1,7 @@
 -- How a line of an element is like the text: strings up to their closing quote, words up to their end.
-use Rattle.std.proofs.Common.{◌≡◌, ℕ, ◌+◌, ◌-◌, ◌<◌, ◌≤◌, Bool, true, false, not, ◌&&◌, ◌||◌, ◌==◌, nat_le, nat_lt, cond, List, [], ◌∷◌, ◌++◌, length, length-append, refl, sym, ap, ◌∙◌, subst, ⊎_elim, arith}
+use Rattle.std.proofs.Common.{◌≡◌, ℕ, ◌+◌, ◌-◌, ◌<◌, ◌≤◌, Bool, true, false, not, ◌&&◌, ◌||◌, ◌==◌, nat_le, nat_lt, cond, List, [], ◌∷◌, ◌++◌, length, length-append, Some, refl, sym, ap, ◌∙◌, subst, ⊎_elim, arith}
 use Rattle.std.proofs.lemmas.Bool.{true≢false, false≢true, eqb-true, eqb-false, leb-true, ne_eqb, and_parts, or_left, or_right, cond_both, not-true}
+use Rattle.json.specs.Text.{content, plain}
 use Rattle.json.specs.Word.{is_operator, is_space, head, ends_word}
 use Rattle.json.specs.Lex.{Class, class, quote, backslash, operator, space, other}
 use Rattle.haya_elements.specs.Steps.{Step, at_operator, behind_comma, blank, close_of, closed, in_element, in_text, lost, opened, step}
@@ -12,7 +13,7 @@ use Rattle.haya_elements.specs.declared.place.Place.{Place}
 use Rattle.haya_elements.specs.declared.place.Place.TheVariants.{Next, Element, Closed, Lost}
 use Rattle.haya_elements.proofs.Pieces.{first_line, later_lines, filled}
 use Rattle.haya_elements.proofs.Classes.{apart, blank_class, blank_feed, class_tells, text_class, text_feed, text_same}
-use Rattle.haya_elements.proofs.Closing.{is_inside}
+use Rattle.haya_elements.proofs.Closing.{closes, is_inside}
 
 -- the rest of the line, from this place
 abbrev pub line_from : Brackets → Place → List ℕ → List ℕ
@@ -120,6 +121,26 @@ module _ (b : Brackets) (d : ℕ) where
   copied [] true front behind e h = absurd (stops front behind e)
   copied (x ∷ xs) false front behind e h = text_class_byte (class x) x xs front behind refl (copied xs) e h
   copied (x ∷ xs) true front behind e h = escape_byte x (in_text x) xs front behind (copied xs) (text_feed x) (text_same x) e h
+
+-- the string is closed within these bytes
+abbrev pub is_closed : Bool → List ℕ → Bool
+is_closed escaped [] = false
+is_closed true (x ∷ xs) = is_closed false xs
+is_closed false (x ∷ xs) = (x == 34) || is_closed (x == 92) xs
+
+front_closes : (escaped : Bool) (front behind : List ℕ) → is_inside escaped front ≡ true → is_closed escaped (front ++ 34 ∷ behind) ≡ true
+front_closes false [] behind h = refl
+front_closes true [] behind h = absurd (false≢true h)
+front_closes false (f ∷ front) behind h = or_right (f == 34) _ (front_closes (f == 92) front behind (text_parts f front h).2)
+front_closes true (f ∷ front) behind h = front_closes false front behind (escape_parts f front h).1
+
+-- a string that is whole in its line is the same in the text
+pub string_copied : (b : Brackets) (d : ℕ) (xs s : List ℕ) → content plain (line_from b (Element Text d) xs) ≡ Some s
+    → (content plain xs ≡ Some s) × (is_closed false (line_from b (Element Text d) xs) ≡ true)
+string_copied b d xs s h =
+    let c = closes plain (line_from b (Element Text d) xs) s h in
+    let t = copied b d xs false c.front c.behind c.is c.inside in
+    (ap (content plain) t.is ∙ c.same t.behind, ap (is_closed false) c.is ∙ front_closes false c.front c.behind c.inside)
 
 -- ---- words
 

@@ -5,3 +5,4 @@ mod Pieces
 mod Faults
 mod Classes
 mod Copied
+mod Within
