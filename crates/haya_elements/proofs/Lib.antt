@@ -6,3 +6,4 @@ mod Faults
 mod Classes
 mod Copied
 mod Within
+mod Lexed

@@ -86,11 +86,11 @@ onward b m next d c y xs text feed e says fine shut good =
     ∙ (λ i. sym here i ++ tail_of b (lexed (sym (more_on b (Element next d) y xs feed) i)))
 
 -- ---- outside of strings
-lost_line : (b : Brackets) (xs : List ℕ) → line_at b lost xs ≡ 44 ∷ []
+pub lost_line : (b : Brackets) (xs : List ℕ) → line_at b lost xs ≡ 44 ∷ []
 lost_line b [] = refl
 lost_line b (x ∷ xs) = refl
 
-close_lexeme : (b : Brackets) → token (close_token b) ≡ operator_lexeme (close_of b)
+pub close_lexeme : (b : Brackets) → token (close_token b) ≡ operator_lexeme (close_of b)
 close_lexeme Square = refl
 close_lexeme Curly = refl
 
@@ -126,7 +126,7 @@ module _ (b : Brackets) (m : Mode) (outside : lex_byte (lex_mode m) operator ≡
       (λ l fine shut good. ap (λ n. n ∷ lex between xs) (ap operator_lexeme (eqb-true x (close_of b) l) ∙ sym (close_lexeme b)) ∙ ending good) (λ l. reads_lost x))
       (λ k. reads_on (d - 1) x e from)
 
-  reads_opened : (d x : ℕ) → class x ≡ operator → SaysFrom b Between (d + 1) xs → Reads x (opened d x)
+  pub reads_opened : (d x : ℕ) → class x ≡ operator → SaysFrom b Between (d + 1) xs → Reads x (opened d x)
   reads_opened d x e from = cond_both (nat_lt d 128) (Element Between (d + 1), x) lost (Reads x) (λ k. reads_on (d + 1) x e from) (λ k. reads_lost x)
 
   reads_operator : (d x : ℕ) → class x ≡ operator → ((n : ℕ) → SaysFrom b Between n xs) → Ending b xs → Going b xs → Reads x (at_operator b d x)
