@@ -1,18 +1,18 @@
 -- How a line of an element is like the text: strings up to their closing quote, words up to their end.
-use Rattle.std.proofs.Common.{◌≡◌, ℕ, ◌+◌, ◌-◌, ◌<◌, ◌≤◌, Bool, true, false, not, ◌&&◌, ◌||◌, ◌==◌, nat_le, nat_lt, cond, List, [], ◌∷◌, ◌++◌, length, length-append, Some, refl, sym, ap, ◌∙◌, subst, ⊎_elim, arith}
-use Rattle.std.proofs.lemmas.Bool.{true≢false, false≢true, eqb-true, eqb-false, leb-true, ne_eqb, and_parts, or_left, or_right, cond_both, not-true}
+use Rattle.std.proofs.Common.{◌≡◌, ℕ, ◌+◌, ◌-◌, ◌≤◌, Bool, true, false, not, ◌&&◌, ◌||◌, ◌==◌, nat_le, nat_lt, cond, List, [], ◌∷◌, ◌++◌, length, length-append, Some, refl, sym, ap, ◌∙◌, arith}
+use Rattle.std.proofs.lemmas.Bool.{true≢false, false≢true, eqb-true, eqb-false, leb-true, and_parts, or_left, or_right, cond_both, not-true}
 use Rattle.json.specs.Text.{content, plain}
 use Rattle.json.specs.Word.{is_operator, is_space, head, ends_word}
 use Rattle.json.specs.Lex.{Class, class, quote, backslash, operator, space, other}
-use Rattle.haya_elements.specs.Steps.{Step, at_operator, behind_comma, blank, close_of, closed, in_element, in_text, lost, opened, step}
+use Rattle.haya_elements.specs.Steps.{Step, at_operator, behind_comma, blank, close_of, closed, in_element, in_text, lost, opened}
 use Rattle.haya_elements.specs.Elements.{lines_from}
 use Rattle.haya_elements.specs.declared.place.Brackets.{Brackets}
 use Rattle.haya_elements.specs.declared.place.Mode.{Mode}
 use Rattle.haya_elements.specs.declared.place.Mode.TheVariants.{Between, Word, Text, Escape}
 use Rattle.haya_elements.specs.declared.place.Place.{Place}
-use Rattle.haya_elements.specs.declared.place.Place.TheVariants.{Next, Element, Closed, Lost}
+use Rattle.haya_elements.specs.declared.place.Place.TheVariants.{Next, Element, Closed}
 use Rattle.haya_elements.proofs.Pieces.{first_line, later_lines, filled}
-use Rattle.haya_elements.proofs.Classes.{apart, blank_class, blank_feed, class_tells, text_class, text_feed, text_same}
+use Rattle.haya_elements.proofs.Classes.{apart, blank_class, class_tells, text_class, text_feed, text_same}
 use Rattle.haya_elements.proofs.Closing.{closes, is_inside}
 
 -- the rest of the line, from this place
@@ -41,7 +41,6 @@ record IsClosedBy (front xs : List ℕ) : Type 0 where
   behind : List ℕ
   is : xs ≡ front ++ 34 ∷ behind
 
-  
 stops : (front behind : List ℕ) → 44 ∷ [] ≡ front ++ 34 ∷ behind → ⊥
 stops [] behind e = false≢true (ap (λ l. head l == 34) e)
 stops (f ∷ front) behind e = omega (arith, ap length e, length-append front (34 ∷ behind))

@@ -1,23 +1,23 @@
 -- The lexemes of a text are those of its elements, separated by commas and in brackets.
-use Rattle.std.proofs.Common.{◌≡◌, ℕ, ◌+◌, Bool, true, false, ◌||◌, ◌==◌, nat_lt, cond, List, [], ◌∷◌, ◌++◌, map, refl, sym, ap, ◌∙◌, subst, append_assoc}
+use Rattle.std.proofs.Common.{◌≡◌, ℕ, false, ◌||◌, ◌==◌, List, [], ◌∷◌, ◌++◌, map, refl, sym, ap, ◌∙◌, subst, append_assoc}
 use Rattle.std.proofs.lemmas.Bool.{true≢false, eqb-true, cond_both}
 use Rattle.json.specs.Align.{is_blank}
-use Rattle.json.specs.Lex.{Lexeme, token, comma, Class, class, quote, backslash, operator, space, other, operator_lexeme, between, fresh, lex_byte, lex, punctuate, tokens}
-use Rattle.haya_elements.specs.Steps.{Step, begins, begins_operator, close_of, in_element, lost, only_space, open_of, opened, step}
-use Rattle.haya_elements.specs.Elements.{element_lines, elements, lines_from}
+use Rattle.json.specs.Lex.{Lexeme, token, comma, Class, class, quote, backslash, operator, space, other, between, fresh, lex_byte, lex, punctuate}
+use Rattle.haya_elements.specs.Steps.{Step, begins, close_of, lost, only_space, open_of, opened}
+use Rattle.haya_elements.specs.Elements.{elements, lines_from}
 use Rattle.haya_elements.specs.declared.place.Brackets.{Brackets}
 use Rattle.haya_elements.specs.declared.place.Brackets.TheVariants.{Square, Curly}
 use Rattle.haya_elements.specs.declared.place.Mode.{Mode}
-use Rattle.haya_elements.specs.declared.place.Mode.TheVariants.{Between, Word, Text, Escape}
+use Rattle.haya_elements.specs.declared.place.Mode.TheVariants.{Between, Word, Text}
 use Rattle.haya_elements.specs.declared.place.Place.{Place}
 use Rattle.haya_elements.specs.declared.place.Place.TheVariants.{Front, Opened, Next, Element, Closed, Lost}
 use Rattle.haya_elements.proofs.Classes.{apart, no_return}
-use Rattle.haya_elements.proofs.Copied.{line_at, line_from, line_on, more_at, more_from, more_on}
+use Rattle.haya_elements.proofs.Copied.{line_at, line_from, line_on, more_from, more_on}
 use Rattle.haya_elements.proofs.Faults.{AreFine, fine}
 use Rattle.haya_elements.proofs.Joined.{bracketed, close_token, joined, open_token}
-use Rattle.haya_elements.proofs.Pieces.{filled, filled-some, filled_lines, first_line, later_lines}
+use Rattle.haya_elements.proofs.Pieces.{filled, filled-some, filled_lines, later_lines}
 pub use Rattle.haya_elements.proofs.Within.{AllGood}
-use Rattle.haya_elements.proofs.Within.{IsKnown, SaysAt, SaysFrom, at_byte, at_end, close_lexeme, lexed, lost_line, reads_opened, tail_of}
+use Rattle.haya_elements.proofs.Within.{IsKnown, SaysAt, SaysFrom, at_byte, at_end, lexed, lost_line, reads_opened, tail_of}
 
 -- the elements from this place, and where a step has been made
 abbrev elements_from : Brackets → Place → List ℕ → List (List ℕ)
@@ -71,8 +71,8 @@ begun b m d y xs text feed says good =
       more = more_from b p xs;
       is = whole;
       said =
-        says (subst (λ l. AreFine (lex between l)) (sym first) (fine fresh _ each.0)) tt (subst AllGood (sym more) each.1)
-        ∙ (λ i. lex between (first i) ++ tail_of b (lexed (more i)));
+          says (subst (λ l. AreFine (lex between l)) (sym first) (fine fresh _ each.0)) tt (subst AllGood (sym more) each.1)
+          ∙ (λ i. lex between (first i) ++ tail_of b (lexed (more i)));
     }
 
 -- the brackets of the text

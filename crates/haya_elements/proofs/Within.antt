@@ -1,24 +1,22 @@
 -- The lexemes of a text from a place in an element: those of the rest of its line, and then those of
 -- what follows.
-use Rattle.std.proofs.Common.{◌≡◌, ℕ, ◌+◌, ◌-◌, Bool, true, false, ◌||◌, ◌==◌, nat_lt, cond, List, [], ◌∷◌, ◌++◌, map, Option, Some, None, refl, sym, ap, ap₂, ◌∙◌, subst}
-use Rattle.std.proofs.lemmas.Bool.{true≢false, false≢true, eqb-true, cond_both}
+use Rattle.std.proofs.Common.{◌≡◌, ℕ, ◌+◌, ◌-◌, true, false, ◌||◌, ◌==◌, nat_lt, cond, List, [], ◌∷◌, ◌++◌, map, Option, Some, None, refl, sym, ap, ap₂, ◌∙◌, subst}
+use Rattle.std.proofs.lemmas.Bool.{false≢true, eqb-true, cond_both}
 use Rattle.json.specs.Text.{content, plain}
 use Rattle.json.specs.Word.{word}
-use Rattle.json.specs.Token.{Token}
 use Rattle.json.specs.Lex.{Lexeme, token, comma, Class, class, quote, backslash, operator, space, other, operator_lexeme, string_token, Mode as LexMode, between, in_word, in_string, in_escape, lex_byte, lex, tokens}
-use Rattle.haya_elements.specs.Steps.{Step, at_operator, behind_comma, blank, close_of, closed, in_element, in_text, lost, opened, step}
+use Rattle.haya_elements.specs.Steps.{Step, at_operator, behind_comma, blank, close_of, closed, in_element, in_text, lost, opened}
 use Rattle.haya_elements.specs.Elements.{lines_from}
 use Rattle.haya_elements.specs.declared.place.Brackets.{Brackets}
 use Rattle.haya_elements.specs.declared.place.Brackets.TheVariants.{Square, Curly}
 use Rattle.haya_elements.specs.declared.place.Mode.{Mode}
 use Rattle.haya_elements.specs.declared.place.Mode.TheVariants.{Between, Word, Text, Escape}
-use Rattle.haya_elements.specs.declared.place.Place.{Place}
-use Rattle.haya_elements.specs.declared.place.Place.TheVariants.{Next, Element, Closed, Lost}
+use Rattle.haya_elements.specs.declared.place.Place.TheVariants.{Next, Element, Closed}
 use Rattle.haya_elements.proofs.Classes.{apart, blank_class, blank_feed, class_tells, text_class, text_feed}
 use Rattle.haya_elements.proofs.Copied.{is_closed, line_at, line_from, line_on, more_at, more_from, more_on, string_copied, word_copied}
 use Rattle.haya_elements.proofs.Faults.{AreFine, IsSound}
 use Rattle.haya_elements.proofs.Joined.{AreGood, close_token}
-use Rattle.haya_elements.proofs.Pieces.{filled, first_line, later_lines}
+use Rattle.haya_elements.proofs.Pieces.{filled, later_lines}
 use Rattle.haya_elements.proofs.Words.{same_word}
 
 -- the tokens of each line are good
