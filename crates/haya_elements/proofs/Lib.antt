@@ -1,3 +1,12 @@
-mod Grammar
 mod Joined
+mod Closing
+mod Words
+mod Pieces
+mod Faults
+mod Classes
+mod Copied
+mod Within
+mod Lexed
 mod Punctuated
+mod Grammar
+mod Documents
