@@ -1,10 +1,10 @@
 -- What a byte's class says of it, and of the byte that is put in its place.
-use Rattle.std.proofs.Common.{◌≡◌, ℕ, ◌+◌, ◌-◌, ◌<◌, ◌≤◌, Bool, true, false, ◌||◌, ◌==◌, nat_lt, cond, List, [], ◌∷◌, refl, sym, ap, ◌∙◌, subst, ⊎_elim, arith}
-use Rattle.std.proofs.lemmas.Bool.{true≢false, eqb-true, eqb-false, ne_eqb, or_cases, or_parts, cond_both}
+use Rattle.std.proofs.Common.{◌≡◌, ℕ, ◌+◌, ◌-◌, ◌≤◌, Bool, true, false, ◌||◌, ◌==◌, nat_lt, cond, List, [], ◌∷◌, refl, sym, ap, ◌∙◌, subst, ⊎_elim, arith}
+use Rattle.std.proofs.lemmas.Bool.{true≢false, eqb-true, ne_eqb, or_cases, or_parts, cond_both}
 use Rattle.json.specs.Align.{is_blank}
 use Rattle.json.specs.Word.{is_operator, is_space}
 use Rattle.json.specs.Lex.{Class, class, quote, backslash, operator, space, other}
-use Rattle.haya_elements.specs.Steps.{Step, at_operator, begins, begins_operator, behind_comma, blank, close_of, closed, in_element, in_text, lost, only_space, open_of, opened, step}
+use Rattle.haya_elements.specs.Steps.{Step, at_operator, begins, behind_comma, blank, close_of, closed, in_element, in_text, lost, only_space, open_of, opened, step}
 use Rattle.haya_elements.specs.Elements.{end_of, lines_from}
 use Rattle.haya_elements.specs.declared.place.Brackets.{Brackets}
 use Rattle.haya_elements.specs.declared.place.Mode.{Mode}

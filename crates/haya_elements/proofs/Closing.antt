@@ -1,7 +1,7 @@
 -- A string's content is known at its closing quote, whatever follows.
-use Rattle.std.proofs.Common.{◌≡◌, ℕ, ◌+◌, ◌<◌, ◌≤◌, Bool, true, false, not, ◌&&◌, ◌||◌, ◌==◌, nat_lt, nat_le, cond, List, [], ◌∷◌, ◌++◌, Option, Some, None, is_some, option_and_then, inl, inr, ◌⊎◌, refl, sym, ap, ◌∙◌, arith, append_assoc}
+use Rattle.std.proofs.Common.{◌≡◌, ℕ, ◌<◌, ◌≤◌, Bool, true, false, not, ◌&&◌, ◌==◌, nat_lt, nat_le, cond, List, [], ◌∷◌, ◌++◌, Option, Some, None, is_some, option_and_then, inl, inr, ◌⊎◌, refl, sym, ap, ◌∙◌, arith, append_assoc}
 use Rattle.std.specs.Char.{encode_utf8, is_digit}
-use Rattle.std.proofs.lemmas.Bool.{true≢false, false≢true, eqb-true, le-leb, ltb-false, ne_eqb, and_parts, and_from, cases_lt, agree_below_at}
+use Rattle.std.proofs.lemmas.Bool.{false≢true, eqb-true, le-leb, ltb-false, ne_eqb, and_parts, and_from, cases_lt, agree_below_at}
 use Rattle.json.specs.Text.{code_unit, short_escape, is_high_surrogate, is_low_surrogate, surrogate_pair, Within, plain, after_backslash, after_u, after_high, prepend, content}
 
 -- bytes of a string in front of its closing quote, none of them a control character; the flag says
@@ -155,6 +155,7 @@ unit_closes (Some u) a b c d xs s eo high more h = by (is_high_surrogate u) (is_
   where
     here : (y : List ℕ) → content after_u (a ∷ b ∷ c ∷ d ∷ y) ≡ unit_of (Some u) (λ v. content (after_high v) y) (content plain y)
     here y = ap (λ o. unit_of o (λ v. content (after_high v) y) (content plain y)) eo
+
     by : (t l : Bool) → is_high_surrogate u ≡ t → is_low_surrogate u ≡ l
         → cond t (content (after_high u) xs) (cond l None (prepend (encode_utf8 u) (content plain xs))) ≡ Some s → Closes after_u (a ∷ b ∷ c ∷ d ∷ xs) s
     by true l et el k =
@@ -181,6 +182,7 @@ pair_closes true (Some l) h x u a b c d xs s et eo more k = by (is_low_surrogate
   where
     here : (y : List ℕ) → content (after_high h) (x ∷ u ∷ a ∷ b ∷ c ∷ d ∷ y) ≡ pair_of h (Some l) (content plain y)
     here y = λ i. cond (et i) (pair_of h (eo i) (content plain y)) None
+
     within : (f : List ℕ) → is_inside false f ≡ true → is_inside false (x ∷ u ∷ a ∷ b ∷ c ∷ d ∷ f) ≡ true
     within f m =
         let tests = and_parts _ _ et in
@@ -188,6 +190,7 @@ pair_closes true (Some l) h x u a b c d xs s et eo more k = by (is_low_surrogate
         let letter : u ≡ 117 = eqb-true u 117 tests.1 in
         plain_inside true x (u ∷ a ∷ b ∷ c ∷ d ∷ f) (ne_eqb x 34 (λ e. omega arith)) tests.0 (omega arith)
         (escape_inside u (a ∷ b ∷ c ∷ d ∷ f) (omega arith) ((digits a b c d l eo).inside f m))
+
     by : (low : Bool) → is_low_surrogate l ≡ low → cond low (prepend (encode_utf8 (surrogate_pair h l)) (content plain xs)) None ≡ Some s
         → Closes (after_high h) (x ∷ u ∷ a ∷ b ∷ c ∷ d ∷ xs) s
     by false el m = absurd (false≢true (ap is_some m))

@@ -1,7 +1,5 @@
 -- A text whose elements are items or members is their array or object.
 use Rattle.std.proofs.Common.{◌≡◌, ℕ, ◌≤◌, Bool, true, false, List, [], ◌∷◌, ◌++◌, map, Some, option_and_then, refl, sym, ap, ap₂, ◌∙◌, subst, append-nil, arith}
-use Rattle.std.proofs.lemmas.List.Elements.{All-nil, All-cons}
-use Rattle.std.specs.List.{All}
 use Rattle.std.specs.Prelude.{⊤}
 use Rattle.json.specs.Token.{Token}
 use Rattle.json.specs.Json.{Json, Items, no_items, item, Members, no_members, member, value, if_last, document}
@@ -12,6 +10,7 @@ use Rattle.json.proofs.Printed.Trees.{value-json_tokens}
 use Rattle.json.proofs.Unique.Spelling.{value-json_tokens_back}
 use Rattle.haya_elements.specs.Elements.{elements, IsItem, IsMember, AreItems, AreMembers}
 use Rattle.haya_elements.specs.declared.place.Brackets.TheVariants.{Square, Curly}
+use Rattle.haya_elements.proofs.Within.{AllGood}
 use Rattle.haya_elements.proofs.Joined.{bracketed, AreGood}
 use Rattle.haya_elements.proofs.Punctuated.{IsComplete, BeginsElement, IsElement, AreElements, tokens_before, punctuate-bracketed}
 
@@ -114,23 +113,18 @@ good_member line name j h =
     subst AreGood (sym h.named) (AreGood-from_complete false (Token.key name ∷ h.left) is.complete)
 
 -- the same of each item
-pub good_items : (lines : List (List ℕ)) (js : Items) → AreItems lines js
-    → All (λ line. AreGood (tokens line)) lines
-good_items [] no_items h = All-nil (λ line. AreGood (tokens line))
+pub good_items : (lines : List (List ℕ)) (js : Items) → AreItems lines js → AllGood lines
+good_items [] no_items h = tt
 good_items [] (item j js) h = absurd h
 good_items (line ∷ lines) no_items h = absurd h
-good_items (line ∷ lines) (item j js) h =
-    All-cons (λ l. AreGood (tokens l)) line lines (good_item line j h.0) (good_items lines js h.1)
+good_items (line ∷ lines) (item j js) h = (good_item line j h.0, good_items lines js h.1)
 
--- the same of each member
-pub good_members : (lines : List (List ℕ)) (ms : Members) → AreMembers lines ms
-    → All (λ line. AreGood (tokens line)) lines
-good_members [] no_members h = All-nil (λ line. AreGood (tokens line))
+-- the tokens of members have no fault
+pub good_members : (lines : List (List ℕ)) (ms : Members) → AreMembers lines ms → AllGood lines
+good_members [] no_members h = tt
 good_members [] (member k j ms) h = absurd h
 good_members (line ∷ lines) no_members h = absurd h
-good_members (line ∷ lines) (member k j ms) h =
-    All-cons (λ l. AreGood (tokens l)) line lines
-    (good_member line k j h.0) (good_members lines ms h.1)
+good_members (line ∷ lines) (member k j ms) h = (good_member line k j h.0, good_members lines ms h.1)
 
 -- ---- elements in brackets
 
