@@ -33,7 +33,8 @@ record First (b : Brackets) (p : Place) (xs : List ℕ) (ts after : List Token) 
   reads : punctuate after_value (separator b more ∷ lex between left) ≡ after
 
 -- A line with a lexeme has a byte.
-some_byte : (line : List ℕ) (l : Lexeme) (ls : List Lexeme) → lex between line ≡ l ∷ ls → 0 < length line
+some_byte : (line : List ℕ) (l : Lexeme) (ls : List Lexeme) → lex between line ≡ l ∷ ls
+    → 0 < length line
 unfolding lex
 some_byte [] l ls e = absurd cc
 some_byte (x ∷ line) l ls e = omega arith
@@ -49,8 +50,10 @@ first_piece b p xs (l ∷ front) more rest n start tight w e =
     ∙ pieces_line n.line (lines_from b (behind more) n.left) n.no_feed (some_byte n.line l front n.line_reads)
 
 -- A text that has the tokens of an element, and then others, has the element on its first line.
-first : (b : Brackets) (p : Place) (q : TokenPlace) (xs : List ℕ) (ts after : List Token) → IsStart p → IsOutside p
-    → may_begin q ≡ true → IsRest true 0 ts → Follows b after → punctuate q (lex between xs) ≡ ts ++ after
+first : (b : Brackets) (p : Place) (q : TokenPlace) (xs : List ℕ) (ts after : List Token)
+    → IsStart p → IsOutside p
+    → may_begin q ≡ true → IsRest true 0 ts → Follows b after
+    → punctuate q (lex between xs) ≡ ts ++ after
     → First b p xs ts after
 first b p q xs ts after start outside may h f e =
     let t = trimmed b xs in
@@ -82,7 +85,8 @@ unfolding punctuate
 behind_comma b ls = refl
 
 -- the lines behind an element are those of the elements that are left
-AreTokens-behind : (b : Brackets) (tss : List (List Token)) (more : Bool) (xs : List ℕ) → AreWhole tss
+AreTokens-behind : (b : Brackets) (tss : List (List Token)) (more : Bool) (xs : List ℕ)
+    → AreWhole tss
     → punctuate after_value (separator b more ∷ lex between xs) ≡ all_tokens b tss
     → AreTokens (pieces (lines_from b (behind more) xs)) tss
 AreTokens-behind b [] true xs h e =
@@ -134,10 +138,12 @@ AreTokens-elements b text tss h e =
 -- ---- items and members
 
 -- Tokens of a value that nests no deeper than the limit are read whole.
-whole : (ts : List Token) (j : Json) → depth j ≤ 127 → ts ≡ json_tokens j → value 127 ts ≡ Some (j, [])
+whole : (ts : List Token) (j : Json) → depth j ≤ 127 → ts ≡ json_tokens j
+    → value 127 ts ≡ Some (j, [])
 whole ts j le e = ap (value 127) (e ∙ sym (append-nil (json_tokens j))) ∙ value-json_tokens j 127 [] le
 
-AreItems-from_tokens : (ls : List (List ℕ)) (js : Items) → items_depth js ≤ 127 → AreTokens ls (item_tokens js)
+AreItems-from_tokens : (ls : List (List ℕ)) (js : Items) → items_depth js ≤ 127
+    → AreTokens ls (item_tokens js)
     → AreItems ls js
 AreItems-from_tokens [] no_items le h = tt
 AreItems-from_tokens [] (item j js) le h = absurd h
@@ -150,14 +156,16 @@ AreMembers-from_tokens : (ls : List (List ℕ)) (ms : Members) → members_depth
 AreMembers-from_tokens [] no_members le h = tt
 AreMembers-from_tokens [] (member k j ms) le h = absurd h
 AreMembers-from_tokens (l ∷ ls) no_members le h = absurd h
-AreMembers-from_tokens (l ∷ ls) (member k j ms) le h =
-    (record { left = json_tokens j; named = h.0; said = whole (json_tokens j) j (omega arith) refl },
-    AreMembers-from_tokens ls ms (omega arith) h.1)
+AreMembers-from_tokens (l ∷ ls) (member k j ms) le h = (
+  record { left = json_tokens j; named = h.0; said = whole (json_tokens j) j (omega arith) refl },
+  AreMembers-from_tokens ls ms (omega arith) h.1,
+)
 
 -- ---- the text
 
 -- A text that is a value is read whole.
-read_whole : (o : Option (Json × List Token)) (j : Json) → option_and_then (λ p. if_last p.0 p.1) o ≡ Some j
+read_whole : (o : Option (Json × List Token)) (j : Json)
+    → option_and_then (λ p. if_last p.0 p.1) o ≡ Some j
     → o ≡ Some (j, [])
 read_whole None j e = absurd (false≢true (ap is_some e))
 read_whole (Some (k, [])) j e =
@@ -166,11 +174,13 @@ read_whole (Some (k, [])) j e =
 read_whole (Some (k, t ∷ ts)) j e = absurd (false≢true (ap is_some e))
 
 -- the tokens of a text that is a value
-tokens_of : (text : List ℕ) (j : Json) → document text ≡ Some j → (tokens text ≡ json_tokens j) × (depth j ≤ 128)
+tokens_of : (text : List ℕ) (j : Json) → document text ≡ Some j
+    → (tokens text ≡ json_tokens j) × (depth j ≤ 128)
 tokens_of text j e =
-    let read = read_whole (value 128 (tokens text)) j e in
-    (value-json_tokens_back 128 (tokens text) [] j read ∙ append-nil (json_tokens j),
-    value-depth 128 (tokens text) [] j read)
+    let read = read_whole (value 128 (tokens text)) j e in (
+      value-json_tokens_back 128 (tokens text) [] j read ∙ append-nil (json_tokens j),
+      value-depth 128 (tokens text) [] j read,
+    )
 
 -- The elements of a text that is an array are its items.
 pub items-of-array : (text : List ℕ) (js : Items) → document text ≡ Some (Json.array js)

@@ -59,7 +59,8 @@ Sound names = ⊤
 Sound faulty = ⊥
 
 -- A token that something holds behind is no fault.
-sound_turn : (k : Kind) (due : Bool) (d : ℕ) (next : Bool → ℕ → Type 0) → Turn k due d next → Sound k
+sound_turn : (k : Kind) (due : Bool) (d : ℕ) (next : Bool → ℕ → Type 0) → Turn k due d next
+    → Sound k
 sound_turn opens due d next h = tt
 sound_turn closes due d next h = tt
 sound_turn scalar due d next h = tt
@@ -87,7 +88,8 @@ record Onward (f : (Place → List Token) → List Token) (k : Place → List To
   is_left : left ≡ k (place_behind (kind x))
   again : (m : Place → List Token) → f m ≡ x ∷ m (place_behind (kind x))
 
-no_bad : {A : Type 0} (x : Token) (left : List Token) → Sound (kind x) → Token.bad ∷ [] ≡ x ∷ left → A
+no_bad : {A : Type 0} (x : Token) (left : List Token) → Sound (kind x) → Token.bad ∷ [] ≡ x ∷ left
+    → A
 no_bad x left s e = let is : x ≡ Token.bad = cc in absurd (subst (λ t. Sound (kind t)) is s)
 
 module _ (k : Place → List Token) (x : Token) (left : List Token) (s : Sound (kind x)) where
@@ -95,7 +97,8 @@ module _ (k : Place → List Token) (x : Token) (left : List Token) (s : Sound (
     same : x ≡ y
     onward : Onward (λ m. if_allowed b y m next) k x left
 
-  allowed : (b : Bool) (y : Token) (next : Place) → place_behind (kind y) ≡ next → if_allowed b y k next ≡ x ∷ left → Allowed b y next
+  allowed : (b : Bool) (y : Token) (next : Place) → place_behind (kind y) ≡ next
+      → if_allowed b y k next ≡ x ∷ left → Allowed b y next
   allowed false y next p e = no_bad x left s e
   allowed true y next p e =
       let same : x ≡ y = cc in
@@ -114,8 +117,10 @@ module _ (k : Place → List Token) (x : Token) (left : List Token) (s : Sound (
     same : (kind x ≡ names → ⊥) → t ≡ x
     onward : Onward (place_token q t before) k x left
 
-  plain_token : (q : Place) (t : Token) (before b : Bool) (next : Place) → kind t ≡ spelled (kind t) → place_behind (kind t) ≡ next
-      → ((m : Place → List Token) → place_token q t before m ≡ if_allowed b t m next) → place_token q t before k ≡ x ∷ left → Placed q t before
+  plain_token : (q : Place) (t : Token) (before b : Bool) (next : Place) → kind t ≡ spelled (kind t)
+      → place_behind (kind t) ≡ next
+      → ((m : Place → List Token) → place_token q t before m ≡ if_allowed b t m next)
+      → place_token q t before k ≡ x ∷ left → Placed q t before
   plain_token q t before b next sp p f e =
       let a = allowed b t next p (sym (f k) ∙ e) in
       record {
@@ -125,7 +130,8 @@ module _ (k : Place → List Token) (x : Token) (left : List Token) (s : Sound (
       }
 
   -- What is read at a token's lexeme is that token, or a name at a string.
-  placed : (q : Place) (t : Token) (before : Bool) → place_token q t before k ≡ x ∷ left → Placed q t before
+  placed : (q : Place) (t : Token) (before : Bool) → place_token q t before k ≡ x ∷ left
+      → Placed q t before
   placed q Token.begin_object before e = plain_token q _ before (may_begin q) _ refl refl (λ m. refl) e
   placed q Token.end_object before e = plain_token q _ before (may_close q) _ refl refl (λ m. refl) e
   placed q Token.begin_array before e = plain_token q _ before (may_begin q) _ refl refl (λ m. refl) e
@@ -151,7 +157,8 @@ pub record Begins (ls : List Lexeme) (x : Token) (left : List Token) : Type 0 wh
   pub reads : punctuate (place_behind (kind x)) tail ≡ left
 
 -- Lexemes whose first token is no name begin with its lexeme.
-pub begins : (ls : List Lexeme) (x : Token) (left : List Token) → Sound (kind x) → (kind x ≡ names → ⊥)
+pub begins : (ls : List Lexeme) (x : Token) (left : List Token) → Sound (kind x)
+    → (kind x ≡ names → ⊥)
     → punctuate fresh ls ≡ x ∷ left → Begins ls x left
 unfolding punctuate
 begins [] x left s other e = absurd cc

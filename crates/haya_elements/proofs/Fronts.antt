@@ -56,7 +56,8 @@ BeginsAs-front after_comma (colon ∷ ls) ts m h i e = no_fault ts h e
 BeginsAs-front after_key (colon ∷ ls) ts m h i e = absurd (false≢true m)
 
 -- A token that is read behind a comma is read at the front too.
-alone_token : (t : Token) (before : Bool) (k : Place → List Token) (ts : List Token) → IsRest true 0 ts
+alone_token : (t : Token) (before : Bool) (k : Place → List Token) (ts : List Token)
+    → IsRest true 0 ts
     → place_token after_comma t before k ≡ ts → place_token fresh t before k ≡ ts
 alone_token Token.begin_object before k ts h e = e
 alone_token Token.end_object before k ts h e = no_fault ts h e
@@ -129,7 +130,8 @@ NoClosing-behind_comma (comma ∷ ls) = tt
 NoClosing-behind_comma (colon ∷ ls) = tt
 
 -- No bracket closes behind a comma.
-pub no_closing : (b : Brackets) (ls : List Lexeme) → punctuate after_comma ls ≡ close_token b ∷ [] → ⊥
+pub no_closing : (b : Brackets) (ls : List Lexeme) → punctuate after_comma ls ≡ close_token b ∷ []
+    → ⊥
 no_closing Square ls e = subst NoClosing e (NoClosing-behind_comma ls)
 no_closing Curly ls e = subst NoClosing e (NoClosing-behind_comma ls)
 

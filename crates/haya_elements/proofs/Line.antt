@@ -265,7 +265,8 @@ IsPlain-word t =
     (λ e. cond_both (head t == 110) _ _ (λ k. IsPlain (kind k)) (λ e. IsPlain-literal ascii.null_text Token.null tt)
     (λ e. IsPlain-number (after_number t))))
   where
-    IsPlain-literal : (name : List ℕ) (k : Token) → IsPlain (kind k) → IsPlain (kind (literal name k t))
+    IsPlain-literal : (name : List ℕ) (k : Token) → IsPlain (kind k)
+        → IsPlain (kind (literal name k t))
     IsPlain-literal name k h =
         cond_both (starts_with nat_eq t name && ends_word (drop (length name) t)) k Token.bad
         (λ u. IsPlain (kind u)) (λ e. h) (λ e. tt)
@@ -282,7 +283,8 @@ IsPlain-string None = tt
 IsPlain-string (Some s) = tt
 
 -- Behind a scalar the number of open brackets is the same.
-plain_turn : (k : Kind) (d : ℕ) (next : Bool → ℕ → Type 0) → IsPlain k → Turn k false d next → next false d
+plain_turn : (k : Kind) (d : ℕ) (next : Bool → ℕ → Type 0) → IsPlain k → Turn k false d next
+    → next false d
 plain_turn opens d next p h = absurd p
 plain_turn closes_kind d next p h = absurd p
 plain_turn scalar d next p h = h
@@ -290,7 +292,8 @@ plain_turn names d next p h = absurd p
 plain_turn faulty d next p h = absurd h
 
 -- Only a closing bracket's token separates elements.
-separator_kind : (b : Brackets) (more : Bool) (t : Token) → token t ≡ separator b more → kind t ≡ closes_kind
+separator_kind : (b : Brackets) (more : Bool) (t : Token) → token t ≡ separator b more
+    → kind t ≡ closes_kind
 separator_kind b true t e = absurd cc
 separator_kind Square false t e = let is : t ≡ Token.end_array = cc in ap kind is
 separator_kind Curly false t e = let is : t ≡ Token.end_object = cc in ap kind is
@@ -313,7 +316,8 @@ pub record Line (b : Brackets) (d : ℕ) (xs : List ℕ) (front : List Lexeme) (
   pub ended : ends_word xs ≡ true → ends_word line ≡ true
 
 -- A property of the bytes that are operators.
-pub operators : (P : ℕ → Type 0) → P 123 → P 125 → P 91 → P 93 → P 58 → P 44 → (x : ℕ) → is_operator x ≡ true → P x
+pub operators : (P : ℕ → Type 0) → P 123 → P 125 → P 91 → P 93 → P 58 → P 44 → (x : ℕ)
+    → is_operator x ≡ true → P x
 operators P a b c d e f x h = last (or_cases _ _ h)
   where
     at : (n : ℕ) → P n → (x == n) ≡ true → P x
@@ -335,7 +339,8 @@ operators P a b c d e f x h = last (or_cases _ _ h)
     five (inl k) = four (or_cases _ _ k)
     five (inr k) = at 58 e k
 
-    last : (((x == 123) || (x == 125) || (x == 91) || (x == 93) || (x == 58)) ≡ true) ⊎ ((x == 44) ≡ true) → P x
+    last : (((x == 123) || (x == 125) || (x == 91) || (x == 93) || (x == 58)) ≡ true) ⊎ ((x == 44) ≡ true)
+        → P x
     last (inl k) = five (or_cases _ _ k)
     last (inr k) = at 44 f k
 
@@ -345,7 +350,8 @@ module _ (b : Brackets) where
   Lined xs = (d : ℕ) (front : List Lexeme) (more : Bool) (rest : List Lexeme) → IsInside d front
       → lex between xs ≡ front ++ separator b more ∷ rest → Line b d xs front more rest
 
-  no_lexeme : (front : List Lexeme) (more : Bool) (rest : List Lexeme) → [] ≡ front ++ separator b more ∷ rest → ⊥
+  no_lexeme : (front : List Lexeme) (more : Bool) (rest : List Lexeme)
+      → [] ≡ front ++ separator b more ∷ rest → ⊥
   no_lexeme [] more rest e = cc
   no_lexeme (l ∷ front) more rest e = cc
 
@@ -400,7 +406,8 @@ module _ (b : Brackets) where
         }
 
   -- at a string
-  at_quote : (x : ℕ) (xs : List ℕ) → class x ≡ quote → ((ys : List ℕ) → length ys ≤ length xs → Lined ys) → Lined (x ∷ xs)
+  at_quote : (x : ℕ) (xs : List ℕ) → class x ≡ quote
+      → ((ys : List ℕ) → length ys ≤ length xs → Lined ys) → Lined (x ∷ xs)
   at_quote x xs k again d [] more rest h e =
       let is : token (string_token (content plain xs)) ≡ separator b more =
       let whole = sym (lex_class between x xs quote k) ∙ e in cc in
@@ -413,7 +420,8 @@ module _ (b : Brackets) where
           let is : l ≡ token (string_token (content plain xs)) = cc in
           subst (λ u. IsInside d (u ∷ front)) is h
 
-      by : (o : Option (List ℕ)) → content plain xs ≡ o → IsInside d (token (string_token o) ∷ front)
+      by : (o : Option (List ℕ)) → content plain xs ≡ o
+          → IsInside d (token (string_token o) ∷ front)
           → Line b d (x ∷ xs) (l ∷ front) more rest
       by None eo i = absurd i
       by (Some s) eo i =
@@ -437,7 +445,8 @@ module _ (b : Brackets) where
           tt h e (again c.behind short)
 
   -- at a word
-  at_other : (x : ℕ) (xs : List ℕ) → class x ≡ other → ((ys : List ℕ) → length ys ≤ length xs → Lined ys) → Lined (x ∷ xs)
+  at_other : (x : ℕ) (xs : List ℕ) → class x ≡ other
+      → ((ys : List ℕ) → length ys ≤ length xs → Lined ys) → Lined (x ∷ xs)
   at_other x xs k again d front more rest h e =
       let s = span xs in
       let short : length s.rest ≤ length xs = omega (arith, ap length s.is, length-append s.front s.rest) in
@@ -474,7 +483,8 @@ module _ (b : Brackets) where
     inside : IsInside within front
 
   -- at an operator, whose lexeme is o
-  at_sign : (x : ℕ) (o : Lexeme) (xs : List ℕ) → ((z : List ℕ) → lex between (x ∷ z) ≡ o ∷ lex between z)
+  at_sign : (x : ℕ) (o : Lexeme) (xs : List ℕ)
+      → ((z : List ℕ) → lex between (x ∷ z) ≡ o ∷ lex between z)
       → (x == 10) ≡ false
       → ((more : Bool) → o ≡ separator b more → lines_from b (Element Between 0) (x ∷ xs) ≡ 10 ∷ lines_from b (behind more) xs)
       → ((d : ℕ) (front : List Lexeme) → IsInside d (o ∷ front) → Goes x xs d front)
@@ -514,7 +524,8 @@ module _ (b : Brackets) where
       → (cond t p q).1 ∷ lines_from b (cond t p q).0 xs ≡ (cond u p q).1 ∷ lines_from b (cond u p q).0 xs
   by_test xs t u p q e = ap (λ v. (cond v p q).1 ∷ lines_from b (cond v p q).0 xs) e
 
-  no_separator : (more : Bool) (t : Token) → (kind t ≡ closes_kind → ⊥) → token t ≡ separator b more → ⊥
+  no_separator : (more : Bool) (t : Token) → (kind t ≡ closes_kind → ⊥) → token t ≡ separator b more
+      → ⊥
   no_separator more t other_kind e = other_kind (separator_kind b more t e)
 
   at_open_brace : (xs : List ℕ) → Lined xs → Lined (123 ∷ xs)
@@ -604,7 +615,8 @@ lined b n [] le = λ d front more rest h e. absurd (no_lexeme b front more rest 
 lined b zero (x ∷ xs) le = absurd (omega arith)
 lined b (suc n) (x ∷ xs) le = by_class (class x) refl (λ ys short. lined b n ys (omega arith))
   where
-    by_class : (c : Class) → class x ≡ c → ((ys : List ℕ) → length ys ≤ length xs → Lined b ys) → Lined b (x ∷ xs)
+    by_class : (c : Class) → class x ≡ c → ((ys : List ℕ) → length ys ≤ length xs → Lined b ys)
+        → Lined b (x ∷ xs)
     by_class quote k again = at_quote b x xs k again
     by_class backslash k again = at_backslash b x xs k
     by_class operator k again =
@@ -616,5 +628,6 @@ lined b (suc n) (x ∷ xs) le = by_class (class x) refl (λ ys short. lined b n 
 
 -- the line of an element, and the text behind it
 pub line_of : (b : Brackets) (xs : List ℕ) (front : List Lexeme) (more : Bool) (rest : List Lexeme)
-    → IsInside 0 front → lex between xs ≡ front ++ separator b more ∷ rest → Line b 0 xs front more rest
+    → IsInside 0 front → lex between xs ≡ front ++ separator b more ∷ rest
+    → Line b 0 xs front more rest
 line_of b xs front more rest h e = lined b (length xs) xs (omega arith) 0 front more rest h e

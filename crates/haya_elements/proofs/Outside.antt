@@ -44,12 +44,14 @@ pub pieces_line : (line out : List ℕ) → HasNoFeed line → 0 < length line
 pieces_line line out h some =
     (λ i. filled (first_of line out h i ∷ later_of line out h i)) ∙ by line some
   where
-    by : (l : List ℕ) → 0 < length l → filled (l ∷ (first_line out ∷ later_lines out)) ≡ l ∷ pieces out
+    by : (l : List ℕ) → 0 < length l
+        → filled (l ∷ (first_line out ∷ later_lines out)) ≡ l ∷ pieces out
     by [] none = absurd (omega arith)
     by (x ∷ l) some = filled-some x l (first_line out ∷ later_lines out)
 
 -- The elements of a text are the pieces of its lines.
-pub elements_pieces : (b : Brackets) (text : List ℕ) → elements b text ≡ pieces (lines_from b Front text)
+pub elements_pieces : (b : Brackets) (text : List ℕ)
+    → elements b text ≡ pieces (lines_from b Front text)
 elements_pieces b text = filled_lines (lines_from b Front text) (no_return b Front text)
 
 -- ---- white space
@@ -83,7 +85,8 @@ close_operator Square = refl
 close_operator Curly = refl
 
 -- bytes of two classes are two
-apart_class : (x y : ℕ) (c : Class) → class x ≡ c → class y ≡ operator → (c ≡ operator → ⊥) → (x == y) ≡ false
+apart_class : (x y : ℕ) (c : Class) → class x ≡ c → class y ≡ operator → (c ≡ operator → ⊥)
+    → (x == y) ≡ false
 apart_class x y c k m unlike = ne_eqb x y (λ e. unlike (sym k ∙ ap class e ∙ m))
 
 -- White space outside of elements is an empty line.
@@ -159,7 +162,8 @@ sign (x ∷ xs) t ls tight unlike e = by_class (class x) refl
         record { byte = x; rest = xs; is = refl; is_sign = k; lexeme = is; reads = tail }
 
 -- The opening bracket's lexeme is that of its byte,
-open_byte : (b : Brackets) (x : ℕ) → class x ≡ operator → operator_lexeme x ≡ token (open_token b) → x ≡ open_of b
+open_byte : (b : Brackets) (x : ℕ) → class x ≡ operator → operator_lexeme x ≡ token (open_token b)
+    → x ≡ open_of b
 open_byte Square x k =
     operators (λ y. operator_lexeme y ≡ token Token.begin_array → y ≡ 91) (λ e. absurd cc) (λ e. absurd cc)
     (λ e. refl) (λ e. absurd cc) (λ e. absurd cc) (λ e. absurd cc) x (class_tells x operator k).2
@@ -168,7 +172,8 @@ open_byte Curly x k =
     (λ e. absurd cc) (λ e. absurd cc) (λ e. absurd cc) (λ e. absurd cc) x (class_tells x operator k).2
 
 -- and so is the closing bracket's.
-close_byte : (b : Brackets) (x : ℕ) → class x ≡ operator → operator_lexeme x ≡ token (close_token b) → x ≡ close_of b
+close_byte : (b : Brackets) (x : ℕ) → class x ≡ operator → operator_lexeme x ≡ token (close_token b)
+    → x ≡ close_of b
 close_byte Square x k =
     operators (λ y. operator_lexeme y ≡ token Token.end_array → y ≡ 93) (λ e. absurd cc) (λ e. absurd cc)
     (λ e. absurd cc) (λ e. refl) (λ e. absurd cc) (λ e. absurd cc) x (class_tells x operator k).2
@@ -176,11 +181,13 @@ close_byte Curly x k =
     operators (λ y. operator_lexeme y ≡ token Token.end_object → y ≡ 125) (λ e. absurd cc) (λ e. refl)
     (λ e. absurd cc) (λ e. absurd cc) (λ e. absurd cc) (λ e. absurd cc) x (class_tells x operator k).2
 
-open_line : (b : Brackets) (xs : List ℕ) → lines_from b Front (open_of b ∷ xs) ≡ 10 ∷ lines_from b Opened xs
+open_line : (b : Brackets) (xs : List ℕ)
+    → lines_from b Front (open_of b ∷ xs) ≡ 10 ∷ lines_from b Opened xs
 open_line Square xs = refl
 open_line Curly xs = refl
 
-close_line : (b : Brackets) (xs : List ℕ) → lines_from b Opened (close_of b ∷ xs) ≡ 10 ∷ lines_from b Closed xs
+close_line : (b : Brackets) (xs : List ℕ)
+    → lines_from b Opened (close_of b ∷ xs) ≡ 10 ∷ lines_from b Closed xs
 close_line Square xs = refl
 close_line Curly xs = refl
 
@@ -199,7 +206,8 @@ pub record Bracket (b : Brackets) (p q : Place) (xs : List ℕ) (ls : List Lexem
   pub reads : lex between left ≡ ls
 
 -- the text behind the opening bracket
-pub opening : (b : Brackets) (xs : List ℕ) (ls : List Lexeme) → lex between xs ≡ token (open_token b) ∷ ls
+pub opening : (b : Brackets) (xs : List ℕ) (ls : List Lexeme)
+    → lex between xs ≡ token (open_token b) ∷ ls
     → Bracket b Front Opened xs ls
 opening b xs ls e =
     let t = trimmed b xs in
@@ -212,7 +220,8 @@ opening b xs ls e =
     }
 
 -- the text behind a closing bracket with no element in front of it
-pub closing : (b : Brackets) (xs : List ℕ) (ls : List Lexeme) → lex between xs ≡ token (close_token b) ∷ ls
+pub closing : (b : Brackets) (xs : List ℕ) (ls : List Lexeme)
+    → lex between xs ≡ token (close_token b) ∷ ls
     → Bracket b Opened Closed xs ls
 closing b xs ls e =
     let t = trimmed b xs in
@@ -225,7 +234,8 @@ closing b xs ls e =
     }
 
 -- Behind the closing bracket a text with no lexemes has no lines but empty ones.
-pub closed_pieces : (b : Brackets) (xs : List ℕ) → lex between xs ≡ [] → pieces (lines_from b Closed xs) ≡ []
+pub closed_pieces : (b : Brackets) (xs : List ℕ) → lex between xs ≡ []
+    → pieces (lines_from b Closed xs) ≡ []
 closed_pieces b xs e =
     let t = trimmed b xs in t.same Closed tt ∙ by t.rest t.tight (sym t.reads ∙ e)
   where
@@ -253,7 +263,8 @@ IsStart Closed = ⊥
 IsStart Lost = ⊥
 
 -- A byte that is no operator is as in an element.
-start_step : (b : Brackets) (p : Place) (x : ℕ) (c : Class) → IsStart p → class x ≡ c → (c ≡ operator → ⊥)
+start_step : (b : Brackets) (p : Place) (x : ℕ) (c : Class) → IsStart p → class x ≡ c
+    → (c ≡ operator → ⊥)
     → begins b p c x ≡ in_element b Between 0 c x → step b p x ≡ step b (Element Between 0) x
 start_step b Front x c h k unlike e = absurd h
 start_step b Opened x c h k unlike e =
@@ -285,8 +296,10 @@ bracket_step b Closed h = absurd h
 bracket_step b Lost h = absurd h
 
 -- Where an element begins the lines are as in it.
-pub begun : (b : Brackets) (p : Place) (xs : List ℕ) (l : Lexeme) (ls : List Lexeme) → IsStart p → BeginsTight xs
-    → BeginsWith l → lex between xs ≡ l ∷ ls → lines_from b p xs ≡ lines_from b (Element Between 0) xs
+pub begun : (b : Brackets) (p : Place) (xs : List ℕ) (l : Lexeme) (ls : List Lexeme) → IsStart p
+    → BeginsTight xs
+    → BeginsWith l → lex between xs ≡ l ∷ ls
+    → lines_from b p xs ≡ lines_from b (Element Between 0) xs
 unfolding lex
 begun b p [] l ls h tight w e = absurd cc
 begun b p (x ∷ xs) l ls h tight w e = ap (λ s. s.1 ∷ lines_from b s.0 xs) (by_class (class x) refl)

@@ -60,7 +60,8 @@ IsRest-item j le =
     (IsRest-value j true 0 [] (omega arith) refl (refl, refl))
 
 -- and so are those of a name with a value.
-pub IsRest-member : (k : List ℕ) (j : Json) → depth j ≤ 127 → IsRest true 0 (Token.key k ∷ json_tokens j)
+pub IsRest-member : (k : List ℕ) (j : Json) → depth j ≤ 127
+    → IsRest true 0 (Token.key k ∷ json_tokens j)
 IsRest-member k j le = (refl, IsRest-item j le)
 
 -- ---- elements one behind another
