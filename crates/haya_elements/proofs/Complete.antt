@@ -15,11 +15,11 @@ use Rattle.haya_elements.specs.declared.place.Brackets.TheVariants.{Square, Curl
 use Rattle.haya_elements.specs.declared.place.Place.{Place}
 use Rattle.haya_elements.specs.declared.place.Place.TheVariants.{Opened, Next}
 use Rattle.haya_elements.proofs.Joined.{open_token, close_token}
-use Rattle.haya_elements.proofs.Cut.{names, kind, Sound, place_behind, begins, IsRest, Follows, separator, cut}
+use Rattle.haya_elements.proofs.Cut.{names, kind, Sound, place_behind, begins, IsRest, Follows, separator, Cut, cut}
 use Rattle.haya_elements.proofs.Rests.{all_tokens, AreWhole, item_tokens, member_tokens, all_tokens-items, all_tokens-members, AreWhole-items, AreWhole-members}
 use Rattle.haya_elements.proofs.Line.{Line, behind, line_of}
 use Rattle.haya_elements.proofs.Fronts.{BeginsAs, BeginsAs-front, alone, Follows-all_tokens, no_closing, nothing_left, behind_closing}
-use Rattle.haya_elements.proofs.Outside.{BeginsTight, pieces, pieces_line, elements_pieces, IsOutside, trimmed, opening, closing, closed_pieces, IsStart, begun}
+use Rattle.haya_elements.proofs.Outside.{BeginsTight, Trimmed, pieces, pieces_line, elements_pieces, IsOutside, trimmed, opening, closing, closed_pieces, IsStart, begun}
 
 -- ---- one element
 
@@ -40,14 +40,16 @@ some_byte [] l ls e = absurd cc
 some_byte (x ∷ line) l ls e = omega arith
 
 -- The first piece is the line of the element that the text begins with.
-first_piece : (b : Brackets) (p : Place) (xs : List ℕ) (front : List Lexeme) (more : Bool) (rest : List Lexeme)
-    (n : Line b 0 xs front more rest) → IsStart p → BeginsTight xs → BeginsAs front
+first_piece : (b : Brackets) (p : Place) (xs : List ℕ) (front : List Lexeme) (more : Bool)
+    (rest : List Lexeme) (n : Line b 0 xs front more rest) → IsStart p → BeginsTight xs
+    → BeginsAs front
     → lex between xs ≡ front ++ separator b more ∷ rest
     → pieces (lines_from b p xs) ≡ n.line ∷ pieces (lines_from b (behind more) n.left)
 first_piece b p xs [] more rest n start tight w e = absurd w
 first_piece b p xs (l ∷ front) more rest n start tight w e =
+    let some = some_byte n.line l front n.line_reads in
     ap pieces (begun b p xs l (front ++ separator b more ∷ rest) start tight w e ∙ n.is)
-    ∙ pieces_line n.line (lines_from b (behind more) n.left) n.no_feed (some_byte n.line l front n.line_reads)
+    ∙ pieces_line n.line (lines_from b (behind more) n.left) n.no_feed some
 
 -- A text that has the tokens of an element, and then others, has the element on its first line.
 first : (b : Brackets) (p : Place) (q : TokenPlace) (xs : List ℕ) (ts after : List Token)
@@ -58,16 +60,22 @@ first : (b : Brackets) (p : Place) (q : TokenPlace) (xs : List ℕ) (ts after : 
 first b p q xs ts after start outside may h f e =
     let t = trimmed b xs in
     let c = cut b q (lex between t.rest) ts after may h f (ap (punctuate q) (sym t.reads) ∙ e) in
-    let w = BeginsAs-front q c.front ts may h c.inside c.reads in
-    let n = line_of b t.rest c.front c.more c.rest c.inside c.is in
-    record {
-      line = n.line;
-      more = c.more;
-      left = n.left;
-      same = t.same p outside ∙ first_piece b p t.rest c.front c.more c.rest n start t.tight w c.is;
-      says = ap (punctuate fresh) n.line_reads ∙ alone q c.front ts may h c.reads;
-      reads = ap (λ ls. punctuate after_value (separator b c.more ∷ ls)) n.left_reads ∙ c.behind;
-    }
+    by t c (line_of b t.rest c.front c.more c.rest c.inside c.is)
+  where
+    by : (t : Trimmed b xs) (c : Cut b q 0 (lex between t.rest) ts after)
+        → Line b 0 t.rest c.front c.more c.rest → First b p xs ts after
+    by t c n =
+        let w = BeginsAs-front q c.front ts may h c.inside c.reads in
+        record {
+          line = n.line;
+          more = c.more;
+          left = n.left;
+          same = t.same p outside
+              ∙ first_piece b p t.rest c.front c.more c.rest n start t.tight w c.is;
+          says = ap (punctuate fresh) n.line_reads ∙ alone q c.front ts may h c.reads;
+          reads = ap (λ ls. punctuate after_value (separator b c.more ∷ ls)) n.left_reads
+              ∙ c.behind;
+        }
 
 -- ---- all elements
 
@@ -84,7 +92,7 @@ behind_comma : (b : Brackets) (ls : List Lexeme)
 unfolding punctuate
 behind_comma b ls = refl
 
--- the lines behind an element are those of the elements that are left
+-- The lines behind an element are those of the elements that are left.
 AreTokens-behind : (b : Brackets) (tss : List (List Token)) (more : Bool) (xs : List ℕ)
     → AreWhole tss
     → punctuate after_value (separator b more ∷ lex between xs) ≡ all_tokens b tss
@@ -92,26 +100,31 @@ AreTokens-behind : (b : Brackets) (tss : List (List Token)) (more : Bool) (xs : 
 AreTokens-behind b [] true xs h e =
     absurd (no_closing b (lex between xs) (sym (behind_comma b (lex between xs)) ∙ e))
 AreTokens-behind b [] false xs h e =
-    subst (λ ls. AreTokens ls []) (sym (closed_pieces b xs (behind_closing b (lex between xs) [] tt e).1)) tt
+    let none = closed_pieces b xs (behind_closing b (lex between xs) [] tt e).1 in
+    subst (λ ls. AreTokens ls []) (sym none) tt
 AreTokens-behind b (ts ∷ tss) true xs h e =
-    let f = first b Next after_comma xs ts (all_tokens b tss) tt tt refl h.0 (Follows-all_tokens b tss h.1)
-    (sym (behind_comma b (lex between xs)) ∙ e) in
-    subst (λ ls. AreTokens ls (ts ∷ tss)) (sym f.same) (f.says, AreTokens-behind b tss f.more f.left h.1 f.reads)
+    let follows = Follows-all_tokens b tss h.1 in
+    let here = sym (behind_comma b (lex between xs)) ∙ e in
+    let f = first b Next after_comma xs ts (all_tokens b tss) tt tt refl h.0 follows here in
+    let rest = AreTokens-behind b tss f.more f.left h.1 f.reads in
+    subst (λ ls. AreTokens ls (ts ∷ tss)) (sym f.same) (f.says, rest)
 AreTokens-behind b (ts ∷ tss) false xs h e =
     let none : (ts ∷ tss) ≡ [] = (behind_closing b (lex between xs) (ts ∷ tss) h e).0 in
     absurd cc
 
+-- what is read of the closing bracket
 close_sound : (b : Brackets) → Sound (kind (close_token b)) × (kind (close_token b) ≡ names → ⊥)
     × (place_behind (kind (close_token b)) ≡ after_value)
 close_sound Square = (tt, λ e. cc, refl)
 close_sound Curly = (tt, λ e. cc, refl)
 
+-- what is read of the opening bracket
 open_sound : (b : Brackets) → Sound (kind (open_token b)) × (kind (open_token b) ≡ names → ⊥)
     × (place_behind (kind (open_token b)) ≡ fresh)
 open_sound Square = (tt, λ e. cc, refl)
 open_sound Curly = (tt, λ e. cc, refl)
 
--- the lines behind the opening bracket are those of the elements
+-- The lines behind the opening bracket are those of the elements.
 AreTokens-opened : (b : Brackets) (tss : List (List Token)) (xs : List ℕ) → AreWhole tss
     → punctuate fresh (lex between xs) ≡ all_tokens b tss
     → AreTokens (pieces (lines_from b Opened xs)) tss
@@ -122,8 +135,10 @@ AreTokens-opened b [] xs h e =
     let k = closing b xs c.tail c.is in
     subst (λ ls. AreTokens ls []) (sym (k.same ∙ closed_pieces b k.left (k.reads ∙ none))) tt
 AreTokens-opened b (ts ∷ tss) xs h e =
-    let f = first b Opened fresh xs ts (all_tokens b tss) tt tt refl h.0 (Follows-all_tokens b tss h.1) e in
-    subst (λ ls. AreTokens ls (ts ∷ tss)) (sym f.same) (f.says, AreTokens-behind b tss f.more f.left h.1 f.reads)
+    let follows = Follows-all_tokens b tss h.1 in
+    let f = first b Opened fresh xs ts (all_tokens b tss) tt tt refl h.0 follows e in
+    let rest = AreTokens-behind b tss f.more f.left h.1 f.reads in
+    subst (λ ls. AreTokens ls (ts ∷ tss)) (sym f.same) (f.says, rest)
 
 -- A text with the tokens of elements in brackets has these elements.
 AreTokens-elements : (b : Brackets) (text : List ℕ) (tss : List (List Token)) → AreWhole tss
@@ -133,15 +148,18 @@ AreTokens-elements b text tss h e =
     let o = begins (lex between text) (open_token b) (all_tokens b tss) s.0 s.1 e in
     let k = opening b text o.tail o.is in
     let inside = ap (punctuate fresh) k.reads ∙ ap (λ q. punctuate q o.tail) (sym s.2) ∙ o.reads in
-    subst (λ ls. AreTokens ls tss) (sym (elements_pieces b text ∙ k.same)) (AreTokens-opened b tss k.left h inside)
+    subst (λ ls. AreTokens ls tss) (sym (elements_pieces b text ∙ k.same))
+    (AreTokens-opened b tss k.left h inside)
 
 -- ---- items and members
 
 -- Tokens of a value that nests no deeper than the limit are read whole.
 whole : (ts : List Token) (j : Json) → depth j ≤ 127 → ts ≡ json_tokens j
     → value 127 ts ≡ Some (j, [])
-whole ts j le e = ap (value 127) (e ∙ sym (append-nil (json_tokens j))) ∙ value-json_tokens j 127 [] le
+whole ts j le e =
+    ap (value 127) (e ∙ sym (append-nil (json_tokens j))) ∙ value-json_tokens j 127 [] le
 
+-- Lines with the tokens of items are these items,
 AreItems-from_tokens : (ls : List (List ℕ)) (js : Items) → items_depth js ≤ 127
     → AreTokens ls (item_tokens js)
     → AreItems ls js
@@ -151,6 +169,7 @@ AreItems-from_tokens (l ∷ ls) no_items le h = absurd h
 AreItems-from_tokens (l ∷ ls) (item j js) le h =
     (whole (tokens l) j (omega arith) h.0, AreItems-from_tokens ls js (omega arith) h.1)
 
+-- and lines with those of members are these members.
 AreMembers-from_tokens : (ls : List (List ℕ)) (ms : Members) → members_depth ms ≤ 127
     → AreTokens ls (member_tokens ms) → AreMembers ls ms
 AreMembers-from_tokens [] no_members le h = tt

@@ -32,7 +32,8 @@ more_at b s xs = filled (later_lines (s.1 ∷ lines_from b s.0 xs))
 
 -- ---- strings
 
-abbrev string_mode : Bool → Mode
+-- the mode in a string, behind a backslash or not
+abbrev pub string_mode : Bool → Mode
 string_mode false = Text
 string_mode true = Escape
 
@@ -45,13 +46,13 @@ stops : (front behind : List ℕ) → 44 ∷ [] ≡ front ++ 34 ∷ behind → �
 stops [] behind e = false≢true (ap (λ l. head l == 34) e)
 stops (f ∷ front) behind e = omega (arith, ap length e, length-append front (34 ∷ behind))
 
-text_parts : (f : ℕ) (front : List ℕ) → is_inside false (f ∷ front) ≡ true → (32 ≤ f) × ((f == 34) ≡ false) × (is_inside (f == 92) front ≡ true)
+pub text_parts : (f : ℕ) (front : List ℕ) → is_inside false (f ∷ front) ≡ true → (32 ≤ f) × ((f == 34) ≡ false) × (is_inside (f == 92) front ≡ true)
 text_parts f front h =
     let above = and_parts (nat_le 32 f) (not (f == 34) && is_inside (f == 92) front) h in
     let rest = and_parts (not (f == 34)) (is_inside (f == 92) front) above.1 in
     (leb-true 32 f above.0, not-true (f == 34) rest.0, rest.1)
 
-escape_parts : (f : ℕ) (front : List ℕ) → is_inside true (f ∷ front) ≡ true → (32 ≤ f) × (is_inside false front ≡ true)
+pub escape_parts : (f : ℕ) (front : List ℕ) → is_inside true (f ∷ front) ≡ true → (32 ≤ f) × (is_inside false front ≡ true)
 escape_parts f front h = let parts = and_parts (nat_le 32 f) (is_inside false front) h in (leb-true 32 f parts.0, parts.1)
 
 -- a byte that ends no line is the line's first

@@ -84,7 +84,8 @@ spelled names = scalar
 spelled faulty = faulty
 
 -- The token x is put in front of whatever the rest is read as; here the rest is read as `left`.
-record Onward (f : (Place → List Token) → List Token) (k : Place → List Token) (x : Token) (left : List Token) : Type 0 where
+record Onward (f : (Place → List Token) → List Token) (k : Place → List Token) (x : Token)
+    (left : List Token) : Type 0 where
   is_left : left ≡ k (place_behind (kind x))
   again : (m : Place → List Token) → f m ≡ x ∷ m (place_behind (kind x))
 
@@ -132,10 +133,14 @@ module _ (k : Place → List Token) (x : Token) (left : List Token) (s : Sound (
   -- What is read at a token's lexeme is that token, or a name at a string.
   placed : (q : Place) (t : Token) (before : Bool) → place_token q t before k ≡ x ∷ left
       → Placed q t before
-  placed q Token.begin_object before e = plain_token q _ before (may_begin q) _ refl refl (λ m. refl) e
-  placed q Token.end_object before e = plain_token q _ before (may_close q) _ refl refl (λ m. refl) e
-  placed q Token.begin_array before e = plain_token q _ before (may_begin q) _ refl refl (λ m. refl) e
-  placed q Token.end_array before e = plain_token q _ before (may_close q) _ refl refl (λ m. refl) e
+  placed q Token.begin_object before e =
+      plain_token q _ before (may_begin q) _ refl refl (λ m. refl) e
+  placed q Token.end_object before e =
+      plain_token q _ before (may_close q) _ refl refl (λ m. refl) e
+  placed q Token.begin_array before e =
+      plain_token q _ before (may_begin q) _ refl refl (λ m. refl) e
+  placed q Token.end_array before e =
+      plain_token q _ before (may_close q) _ refl refl (λ m. refl) e
   placed q (Token.key n) before e = no_bad x left s e
   placed q (Token.string n) true e =
       let a = allowed (may_begin q) (Token.key n) after_key refl e in
@@ -145,9 +150,12 @@ module _ (k : Place → List Token) (x : Token) (left : List Token) (s : Sound (
         onward = a.onward;
       }
   placed q (Token.string n) false e = plain_token q _ false (may_begin q) _ refl refl (λ m. refl) e
-  placed q (Token.number n) before e = plain_token q _ before (may_begin q) _ refl refl (λ m. refl) e
-  placed q (Token.boolean v) before e = plain_token q _ before (may_begin q) _ refl refl (λ m. refl) e
-  placed q Token.null before e = plain_token q _ before (may_begin q) _ refl refl (λ m. refl) e
+  placed q (Token.number n) before e =
+      plain_token q _ before (may_begin q) _ refl refl (λ m. refl) e
+  placed q (Token.boolean v) before e =
+      plain_token q _ before (may_begin q) _ refl refl (λ m. refl) e
+  placed q Token.null before e =
+      plain_token q _ before (may_begin q) _ refl refl (λ m. refl) e
   placed q Token.bad before e = no_bad x left s e
 
 -- the lexemes begin with this token's, and the rest is read as `left`
@@ -181,7 +189,8 @@ Follows b [] = ⊥
 Follows b (t ∷ ts) = (kind t ≡ closes → t ≡ close_token b) × Sound (kind t)
 
 -- the lexemes of an element whose rest has the tokens ts, and what stands behind them
-pub record Cut (b : Brackets) (q : Place) (d : ℕ) (ls : List Lexeme) (ts after : List Token) : Type 0 where
+pub record Cut (b : Brackets) (q : Place) (d : ℕ) (ls : List Lexeme) (ts after : List Token)
+    : Type 0 where
   pub front : List Lexeme
   pub more : Bool
   pub rest : List Lexeme
@@ -196,8 +205,8 @@ is_behind after_value = true
 is_behind after_comma = false
 is_behind after_key = false
 
--- A place in front of the rest of an element: no value has ended where one is due, and one has outside
--- of brackets where none is.
+-- A place in front of the rest of an element: no value has ended where one is due, and outside of
+-- brackets one has ended where none is due.
 abbrev Fits : Bool → ℕ → Place → Type 0
 Fits true d q = (d ≡ 0) × (is_behind q ≡ false)
 Fits false d q = (d == 0) ≡ true → is_behind q ≡ true
@@ -240,7 +249,15 @@ module _ (b : Brackets) (after : List Token) (follows : Follows b after) where
         behind = ap (λ u. punctuate after_value (token u ∷ ls)) (sym is) ∙ e;
       }
   at_end (comma ∷ ls) e =
-      record { front = []; more = true; rest = ls; is = refl; inside = refl; reads = refl; behind = e }
+      record {
+        front = [];
+        more = true;
+        rest = ls;
+        is = refl;
+        inside = refl;
+        reads = refl;
+        behind = e;
+      }
   at_end (colon ∷ ls) e = absurd ((subst (Follows b) (sym e) follows).1)
 
   -- the element ends somewhere in these lexemes, whatever is left of it
@@ -306,9 +323,12 @@ module _ (b : Brackets) (after : List Token) (follows : Follows b after) where
       let n = next_of (kind t) q due d ts f h.0 h.1 in
       let c = again (place_behind (kind t)) n.due n.within ts n.fits n.rest (sym p.onward.is_left) in
       let inside : Turn (kind u) false d (λ b m. IsInside m c.front) =
-      subst (λ k. Turn k false d (λ b m. IsInside m c.front)) (sym p.spells) (n.inside c.front c.inside) in
+      subst (λ k. Turn k false d (λ b m. IsInside m c.front)) (sym p.spells)
+      (n.inside c.front c.inside) in
       let same : begins_colon c.front ≡ begins_colon ls =
-      sym (ap begins_colon c.is ∙ begins_colon-append c.front (separator b c.more ∷ c.rest) (separator_begins b c.more c.rest)) in
+      let tail = separator b c.more ∷ c.rest in
+      sym (ap begins_colon c.is
+      ∙ begins_colon-append c.front tail (separator_begins b c.more c.rest)) in
       record {
         front = token u ∷ c.front;
         more = c.more;

@@ -158,7 +158,8 @@ some_token q Token.bad before k e = cc
 some_behind_comma : (ls : List Lexeme) → punctuate after_comma ls ≡ [] → ⊥
 unfolding punctuate
 some_behind_comma [] e = cc
-some_behind_comma (token t ∷ ls) e = some_token after_comma t (begins_colon ls) (λ n. punctuate n ls) e
+some_behind_comma (token t ∷ ls) e =
+    some_token after_comma t (begins_colon ls) (λ n. punctuate n ls) e
 some_behind_comma (comma ∷ ls) e = cc
 some_behind_comma (colon ∷ ls) e = cc
 

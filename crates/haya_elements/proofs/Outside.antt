@@ -29,14 +29,16 @@ pieces out = filled (first_line out ∷ later_lines out)
 first_of : (line out : List ℕ) → HasNoFeed line → first_line (line ++ 10 ∷ out) ≡ line
 first_of [] out h = refl
 first_of (x ∷ line) out h =
-    ap (λ t. cond t [] (x ∷ first_line (line ++ 10 ∷ out))) h.0 ∙ ap (λ l. x ∷ l) (first_of line out h.1)
+    ap (λ t. cond t [] (x ∷ first_line (line ++ 10 ∷ out))) h.0
+    ∙ ap (λ l. x ∷ l) (first_of line out h.1)
 
 later_of : (line out : List ℕ) → HasNoFeed line
     → later_lines (line ++ 10 ∷ out) ≡ first_line out ∷ later_lines out
 later_of [] out h = refl
 later_of (x ∷ line) out h =
     let rest = line ++ 10 ∷ out in
-    ap (λ t. cond t (first_line rest ∷ later_lines rest) (later_lines rest)) h.0 ∙ later_of line out h.1
+    ap (λ t. cond t (first_line rest ∷ later_lines rest) (later_lines rest)) h.0
+    ∙ later_of line out h.1
 
 -- A line with a byte is the first piece.
 pub pieces_line : (line out : List ℕ) → HasNoFeed line → 0 < length line
@@ -165,21 +167,25 @@ sign (x ∷ xs) t ls tight unlike e = by_class (class x) refl
 open_byte : (b : Brackets) (x : ℕ) → class x ≡ operator → operator_lexeme x ≡ token (open_token b)
     → x ≡ open_of b
 open_byte Square x k =
-    operators (λ y. operator_lexeme y ≡ token Token.begin_array → y ≡ 91) (λ e. absurd cc) (λ e. absurd cc)
-    (λ e. refl) (λ e. absurd cc) (λ e. absurd cc) (λ e. absurd cc) x (class_tells x operator k).2
+    operators (λ y. operator_lexeme y ≡ token Token.begin_array → y ≡ 91)
+    (λ e. absurd cc) (λ e. absurd cc) (λ e. refl) (λ e. absurd cc) (λ e. absurd cc) (λ e. absurd cc)
+    x (class_tells x operator k).2
 open_byte Curly x k =
-    operators (λ y. operator_lexeme y ≡ token Token.begin_object → y ≡ 123) (λ e. refl) (λ e. absurd cc)
-    (λ e. absurd cc) (λ e. absurd cc) (λ e. absurd cc) (λ e. absurd cc) x (class_tells x operator k).2
+    operators (λ y. operator_lexeme y ≡ token Token.begin_object → y ≡ 123)
+    (λ e. refl) (λ e. absurd cc) (λ e. absurd cc) (λ e. absurd cc) (λ e. absurd cc) (λ e. absurd cc)
+    x (class_tells x operator k).2
 
 -- and so is the closing bracket's.
 close_byte : (b : Brackets) (x : ℕ) → class x ≡ operator → operator_lexeme x ≡ token (close_token b)
     → x ≡ close_of b
 close_byte Square x k =
-    operators (λ y. operator_lexeme y ≡ token Token.end_array → y ≡ 93) (λ e. absurd cc) (λ e. absurd cc)
-    (λ e. absurd cc) (λ e. refl) (λ e. absurd cc) (λ e. absurd cc) x (class_tells x operator k).2
+    operators (λ y. operator_lexeme y ≡ token Token.end_array → y ≡ 93)
+    (λ e. absurd cc) (λ e. absurd cc) (λ e. absurd cc) (λ e. refl) (λ e. absurd cc) (λ e. absurd cc)
+    x (class_tells x operator k).2
 close_byte Curly x k =
-    operators (λ y. operator_lexeme y ≡ token Token.end_object → y ≡ 125) (λ e. absurd cc) (λ e. refl)
-    (λ e. absurd cc) (λ e. absurd cc) (λ e. absurd cc) (λ e. absurd cc) x (class_tells x operator k).2
+    operators (λ y. operator_lexeme y ≡ token Token.end_object → y ≡ 125)
+    (λ e. absurd cc) (λ e. refl) (λ e. absurd cc) (λ e. absurd cc) (λ e. absurd cc) (λ e. absurd cc)
+    x (class_tells x operator k).2
 
 open_line : (b : Brackets) (xs : List ℕ)
     → lines_from b Front (open_of b ∷ xs) ≡ 10 ∷ lines_from b Opened xs
@@ -215,7 +221,8 @@ opening b xs ls e =
     let is = s.is ∙ ap (λ y. y ∷ s.rest) (open_byte b s.byte s.is_sign s.lexeme) in
     record {
       left = s.rest;
-      same = t.same Front tt ∙ ap (λ u. pieces (lines_from b Front u)) is ∙ ap pieces (open_line b s.rest);
+      same = t.same Front tt ∙ ap (λ u. pieces (lines_from b Front u)) is
+          ∙ ap pieces (open_line b s.rest);
       reads = s.reads;
     }
 
@@ -229,7 +236,8 @@ closing b xs ls e =
     let is = s.is ∙ ap (λ y. y ∷ s.rest) (close_byte b s.byte s.is_sign s.lexeme) in
     record {
       left = s.rest;
-      same = t.same Opened tt ∙ ap (λ u. pieces (lines_from b Opened u)) is ∙ ap pieces (close_line b s.rest);
+      same = t.same Opened tt ∙ ap (λ u. pieces (lines_from b Opened u)) is
+          ∙ ap pieces (close_line b s.rest);
       reads = s.reads;
     }
 
@@ -249,7 +257,8 @@ closed_pieces b xs e =
 
     by : (ys : List ℕ) → BeginsTight ys → lex between ys ≡ [] → pieces (lines_from b Closed ys) ≡ []
     by [] h k = refl
-    by (x ∷ ys) h k = absurd (by_class x ys (class x) h (sym (lex_class between x ys (class x) refl) ∙ k))
+    by (x ∷ ys) h k =
+        absurd (by_class x ys (class x) h (sym (lex_class between x ys (class x) refl) ∙ k))
 
 -- ---- where an element begins
 
@@ -269,7 +278,8 @@ start_step : (b : Brackets) (p : Place) (x : ℕ) (c : Class) → IsStart p → 
 start_step b Front x c h k unlike e = absurd h
 start_step b Opened x c h k unlike e =
     let other_byte = apart_class x (close_of b) c k (close_operator b) unlike in
-    (λ i. cond (other_byte i) (Closed, 10) (begins b Opened (k i) x)) ∙ e ∙ sym (λ i. in_element b Between 0 (k i) x)
+    (λ i. cond (other_byte i) (Closed, 10) (begins b Opened (k i) x)) ∙ e
+    ∙ sym (λ i. in_element b Between 0 (k i) x)
 start_step b Next x c h k unlike e =
     (λ i. begins b Next (k i) x) ∙ e ∙ sym (λ i. in_element b Between 0 (k i) x)
 start_step b (Element m d) x c h k unlike e = absurd h
@@ -313,5 +323,6 @@ begun b p (x ∷ xs) l ls h tight w e = ap (λ s. s.1 ∷ lines_from b s.0 xs) (
         let whole = sym (lex_class between x xs operator k) ∙ e in
         let is : l ≡ operator_lexeme x = cc in
         operators (λ y. BeginsWith (operator_lexeme y) → step b p y ≡ step b (Element Between 0) y)
-        (λ v. brace_step b p h) (λ v. absurd v) (λ v. bracket_step b p h) (λ v. absurd v) (λ v. absurd v)
-        (λ v. absurd v) x (class_tells x operator k).2 (subst BeginsWith is w)
+        (λ v. brace_step b p h) (λ v. absurd v) (λ v. bracket_step b p h)
+        (λ v. absurd v) (λ v. absurd v) (λ v. absurd v) x (class_tells x operator k).2
+        (subst BeginsWith is w)

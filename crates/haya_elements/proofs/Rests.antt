@@ -50,8 +50,10 @@ mutual
   IsRest-members no_members d more le h = (some_more d, (some_more d, closes_one d more h))
   IsRest-members (member k j ms) d more le h =
       let rest = IsRest-members ms d more (omega arith) h in
-      let value = IsRest-value j false (d + 1) (members_tokens ms ++ more) (omega arith) (some_more d) rest in
-      (some_more d, subst (IsRest false (d + 1)) (sym (append_assoc (json_tokens j) (members_tokens ms) more)) value)
+      let some = some_more d in
+      let value = IsRest-value j false (d + 1) (members_tokens ms ++ more) (omega arith) some rest in
+      let joined = append_assoc (json_tokens j) (members_tokens ms) more in
+      (some, subst (IsRest false (d + 1)) (sym joined) value)
 
 -- The tokens of a value are an element,
 pub IsRest-item : (j : Json) → depth j ≤ 127 → IsRest true 0 (json_tokens j)

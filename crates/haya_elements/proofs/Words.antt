@@ -10,7 +10,7 @@ use Rattle.json.specs.Token.{Token}
 use Rattle.json.specs.Word.{is_operator, is_space, head, ends_word, after_digits, after_minus, after_sign, after_whole, after_fraction, after_exponent, after_number, number_before, literal, word}
 
 -- the byte ends a word
-abbrev ends : ℕ → Bool
+abbrev pub ends : ℕ → Bool
 ends c = is_operator c || is_space c
 
 module _ (rest : List ℕ) (ended : ends_word rest ≡ true) where
