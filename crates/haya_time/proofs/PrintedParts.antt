@@ -1,4 +1,4 @@
--- Numbers of a fixed width, and marks, as they are printed.
+-- Numbers in digits of a width, and marks, as they are printed.
 use Rattle.std.proofs.Common.{◌≡◌, ℕ, zero, suc, ◌-◌, ◌^◌, ◌<◌, ◌≤◌, Bool, true, false, cond, List, [], ◌++◌, length, replicate, refl, ◌∙◌, arith, subst, length-append}
 use Rattle.std.proofs.lemmas.Bool.Decides.{nat_tests}
 use Rattle.std.proofs.lemmas.Fmt.{IsAscii-from_digits, decimal_is_IsNumeral, length-decimal-le}
@@ -17,9 +17,11 @@ use Rattle.haya_time.specs.Padded.{digit_zero, padded_decimal}
 
 -- ---- digits
 
+-- the characters from 0 to 9 are digits
 is_digit : (c : ℕ) → 48 ≤ c → c ≤ 57 → is_ascii_digit c ≡ true
 is_digit c low high = grind (arith, nat_tests)
 
+-- what std asks of a test of digits
 tells : IsDigitsTest (λ ds. list_all is_ascii_digit ds ≡ true)
 tells = record {
   empty = refl;
@@ -31,11 +33,13 @@ tells = record {
 pub digits_model : IsNumeralModel (λ ds. list_all is_ascii_digit ds ≡ true) (digits_value 10)
 digits_model = numerals_by_value _ tells
 
+-- both of std's tests of digits agree
 pub all_ascii_digits-from : (ds : List ℕ) → list_all is_ascii_digit ds ≡ true → all_ascii_digits ds ≡ true
 all_ascii_digits-from ds h = (numerals_by_value _ tells_all_ascii_digits).from ds (digits_model.to ds h)
 
 -- ---- padded numbers
 
+-- zeros in front keep a list of digits one, and its value
 zeros-digits : (k : ℕ) (ds : List ℕ) → list_all is_ascii_digit ds ≡ true → list_all is_ascii_digit (replicate k digit_zero ++ ds) ≡ true
 zeros-digits zero ds h = h
 zeros-digits (suc k) ds h = zeros-digits k ds h
@@ -51,6 +55,7 @@ pub record Printed (width n : ℕ) : Type 0 where
   pub least : width ≤ length (padded_decimal width n)
   pub some : 0 < length (padded_decimal width n)
 
+-- as many digits as it takes are there, with zeros in front
 pub printed : (width n : ℕ) → n < 2 ^ 64 → Printed width n
 printed width n small =
     let numeral = decimal_is_IsNumeral n small in
@@ -92,6 +97,7 @@ written_as {W} {took} {f} {g} a b e h = subst (λ (bs : List ℕ). HasWritten to
 
 -- ---- bytes that are their characters
 
+-- a padded number is ASCII
 pub IsAscii-padded : (width n : ℕ) → n < 2 ^ 64 → IsAscii (padded_decimal width n)
 IsAscii-padded width n small = IsAscii-from_digits _ (digits_model.to _ (printed width n small).digits)
 

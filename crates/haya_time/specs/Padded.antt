@@ -1,4 +1,4 @@
--- Numbers of a fixed width.
+-- Numbers in digits of a width.
 use Rattle.std.specs.Prelude.{ℕ, ◌-◌, List, ◌++◌, length, replicate}
 use Rattle.std.specs.Fmt.{decimal}
 

@@ -4,6 +4,7 @@ use Rattle.std.specs.Char.{is_whitespace}
 use Rattle.std.specs.List.{list_all}
 use Rattle.std.specs.Str.{skip_leading_whitespace}
 
+-- no characters
 abbrev pub is_empty : List ℕ → Bool
 is_empty [] = true
 is_empty (c ∷ cs) = false
@@ -18,11 +19,11 @@ pub record BeginsWith (part text rest : List ℕ) : Type 0 where
   pub white : IsBlank blank
   pub joined : text ≡ blank ++ (part ++ rest)
 
--- what follows the sign, if the text begins with it
+-- what follows the sign, where the text begins with it
 abbrev pub behind_first : ℕ → List ℕ → Option (List ℕ)
 behind_first sign [] = None
 behind_first sign (c ∷ cs) = if c == sign then Some cs else None
 
--- the same behind white space
+-- the same, where white space may precede the sign
 abbrev pub behind : ℕ → List ℕ → Option (List ℕ)
 behind sign text = behind_first sign (skip_leading_whitespace text)
