@@ -1,3 +1,4 @@
+mod ElementLists
 mod EntryLists
 mod Lines
 mod Streams

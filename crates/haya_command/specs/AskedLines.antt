@@ -40,13 +40,13 @@ IsLineIn CslJson line entry = item_lines.IsItemLineOf line entry
 IsLineIn Hayagriva line entry = member_lines.IsMemberLineOf line entry
 IsLineIn Lines line entry = ⊥
 
--- the entries that lines list in a format in which they come one after another, in order, repeated
--- keys and all
+-- the entries that a text lists, in order, repeated keys and all
 abbrev pub IsListIn : Format → List ℕ → List Tree → Type 0
 IsListIn Lines text entries = lines_list.IsListOf text entries
-IsListIn format text entries = AllZip (IsLineIn format) (filled (lines text)) entries
+IsListIn format text entries =
+    AllZip (IsLineIn format) (filled (lines (asked_lines format text))) entries
 
--- a first part of the lines, or all, lists these entries
+-- a first part of lines, or all, lists these entries
 pub record BeginsLines (format : Format) (text : List ℕ) (entries : List Tree) : Type 0 where
   pub first : List (List ℕ)
   pub more : List (List ℕ)
@@ -70,12 +70,12 @@ line_passed_over Lines line = []
 abbrev pub lines_passed_over : Format → List (List ℕ) → List (List ℕ)
 lines_passed_over format ls = flat_map (line_passed_over format) (filled ls)
 
--- where the run is strict, nothing is passed over of the lines; of those that are no JSON nothing
--- ever is
+-- where the run is strict, nothing is passed over of a text; of lines that are no JSON nothing ever
+-- is
 abbrev pub IsAccepted : Options → Format → List ℕ → Type 0
 IsAccepted options format text =
     IsTrue options.strict → (ignored : Ignored)
-    × (counts_of ignored ≡ tally (lines_passed_over format (lines text)))
+    × (counts_of ignored ≡ tally (lines_passed_over format (lines (asked_lines format text))))
     × (counts_of ignored ≡ [])
 
 -- something is passed over of a first part of the lines, or of all

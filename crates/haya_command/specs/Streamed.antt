@@ -126,26 +126,25 @@ pub record AsksPart (format : Format) (name : List ℕ) (options : Options) (sel
 
 -- ---- elements of JSON
 
--- The elements of an input whose bytes are known are asked, an element a line: all, or as many as a
+-- The elements of an input whose bytes are known are asked: all, or, of their lines, as many as a
 -- quiet run needs. Nothing is said of an input whose bytes aren't known.
-abbrev pub AsksElements : Format → Options → Options → Syntax → Syntax → ℕ → ℕ → Option (List ℕ)
-    → Option (List ℕ) → Option (List ℕ) → Type 0
-AsksElements format options next_options selector next_selector before after unread out_before
+abbrev pub AsksElements : Format → Options → Options → Syntax → Syntax → ℕ → ℕ
+    → Option (List ℕ) → Option (List ℕ) → Option (List ℕ) → Option (List ℕ) → Type 0
+AsksElements format options next_options selector next_selector before after unread left out_before
     out_after =
     (text : List ℕ) → unread ≡ Some text →
     (next_options ≡ options) × (next_selector ≡ selector)
-    × ((left : Option (List ℕ)) × (AsksInput format options selector before after
-    (Some (asked_lines format text)) left out_before out_after
-    ⊎ AsksFirst format options selector before after
-    (Some (asked_lines format text)) left out_before out_after))
+    × (AsksInput format options selector before after unread left out_before out_after
+    ⊎ (behind : Option (List ℕ)) × AsksFirst format options selector before after
+    (Some (asked_lines format text)) behind out_before out_after)
 
--- the same where it stops at a fault
+-- the same where it stops at a fault: the first of their lines are asked
 abbrev pub AsksElementsPart : Format → List ℕ → Options → Syntax → Option (List ℕ)
     → Option (List ℕ) → Option (List ℕ) → Fault → Type 0
 AsksElementsPart format name options selector unread out_before out_after e =
     (text : List ℕ) → unread ≡ Some text →
-    (left : Option (List ℕ)) × AsksPart format name options selector
-    (Some (asked_lines format text)) left out_before out_after e
+    (behind : Option (List ℕ)) × AsksPart format name options selector
+    (Some (asked_lines format text)) behind out_before out_after e
 
 -- ---- faults of a stream
 

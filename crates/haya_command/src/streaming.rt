@@ -96,19 +96,25 @@ pub fn ask_csl_json<'o, R: Read, W: Write>(
 ) -> Result<Asker<'o>, Fault>
     ensures asks { IfOk result (λ asked. AsksElements CslJson asker.entry.options.now
         asked.options.now asker.entry.selector asked.selector asker.entry.hits asked.hits
-        (R.remaining input.old) (W.contents out.old) (W.contents out.new)) }
+        (R.remaining input.old) (R.remaining input.new) (W.contents out.old)
+        (W.contents out.new)) }
     ensures part { IfErr result (AsksElementsPart CslJson name.now asker.entry.options.now
         asker.entry.selector (R.remaining input.old) (W.contents out.old) (W.contents out.new)) }
 {
     let alloc = asker.alloc;
-    let reader = ItemReader::new(alloc, asker.keys);
-    match answer_elements(alloc, Brackets::Square, reader, asker, input, out) {
-        Ok((asked, reader)) => {
-            note_passed_over(alloc, asked.options, name, &reader.ignored, notes)?;
-            Ok(asked)
-        }
-        Err(fault) => Err(list_fault(alloc, name, fault)),
-    }
+    let (asked, reader) = match answer_elements(
+        alloc,
+        Brackets::Square,
+        ItemReader::new(alloc, asker.keys),
+        asker,
+        input,
+        out,
+    ) {
+        Ok(done) => done,
+        Err(fault) => return Err(list_fault(alloc, name, fault)),
+    };
+    note_passed_over(alloc, asked.options, name, &reader.ignored, notes)?;
+    Ok(asked)
 }
 
 /// The same of an input in hayagriva's format: each member of its object is asked as it is read.
@@ -121,19 +127,25 @@ pub fn ask_hayagriva<'o, R: Read, W: Write>(
 ) -> Result<Asker<'o>, Fault>
     ensures asks { IfOk result (λ asked. AsksElements Hayagriva asker.entry.options.now
         asked.options.now asker.entry.selector asked.selector asker.entry.hits asked.hits
-        (R.remaining input.old) (W.contents out.old) (W.contents out.new)) }
+        (R.remaining input.old) (R.remaining input.new) (W.contents out.old)
+        (W.contents out.new)) }
     ensures part { IfErr result (AsksElementsPart Hayagriva name.now asker.entry.options.now
         asker.entry.selector (R.remaining input.old) (W.contents out.old) (W.contents out.new)) }
 {
     let alloc = asker.alloc;
-    let reader = MemberReader::new(alloc, asker.keys);
-    match answer_elements(alloc, Brackets::Curly, reader, asker, input, out) {
-        Ok((asked, reader)) => {
-            note_passed_over(alloc, asked.options, name, &reader.ignored, notes)?;
-            Ok(asked)
-        }
-        Err(fault) => Err(list_fault(alloc, name, fault)),
-    }
+    let (asked, reader) = match answer_elements(
+        alloc,
+        Brackets::Curly,
+        MemberReader::new(alloc, asker.keys),
+        asker,
+        input,
+        out,
+    ) {
+        Ok(done) => done,
+        Err(fault) => return Err(list_fault(alloc, name, fault)),
+    };
+    note_passed_over(alloc, asked.options, name, &reader.ignored, notes)?;
+    Ok(asked)
 }
 
 // The fault of the input that is called so, at which its stream stops.
