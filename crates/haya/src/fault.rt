@@ -1,17 +1,10 @@
 //! Why the process ends with status 2 before anything is asked.
 use std::alloc::{AllocError, AllocFailed};
-use std::io;
 use thiserror::Error;
 
 /// Why there is nothing to ask.
 #[derive(Debug, Drop, Error)]
 pub enum StartFault {
-    /// The file that is called so can't be read.
-    #[error("{0}: {1}")]
-    CannotRead(String, io::Error),
-    /// It isn't UTF-8.
-    #[error("{0}: not text")]
-    NotText(String),
     /// The input is to be read as it comes, and is in a format that is read whole.
     #[error("--stream reads lines: --from lines or json-lines")]
     NotStreamed,

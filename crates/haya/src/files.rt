@@ -1,14 +1,8 @@
 //! Reads the input: files, and standard input.
-ghost use Rattle.std.specs.Prelude.{◌≡◌, IfOk, OnOk, string_bytes};
-ghost use Rattle.std.specs.Io.KnownBytes.{Consumes, IsAtEnd};
-
-use crate::fault::StartFault;
 use crate::progress::Progress;
-use haya_command::Input;
-use haya_stream::read_all;
+use haya_command::{Fault, Input};
 use std::alloc::Global;
 use std::fs::File;
-use std::io;
 use std::io::{Read, Write};
 use std::rt::Files;
 
@@ -19,10 +13,10 @@ pub fn read_files<F: Files, R: Read, E: Write>(
     files: &[String],
     stdin: &mut R,
     progress: &mut Progress<'_, E>,
-) -> Result<Vec<Input>, StartFault> {
+) -> Result<Vec<Input>, Fault> {
     let mut inputs = Vec::new(alloc);
     if files.is_empty() {
-        inputs.push(read_input(alloc, "standard input", stdin, progress)?)?;
+        inputs.push(Input::read(alloc, "standard input", stdin, progress)?)?;
     }
     for file in files {
         inputs.push(read_file(alloc, rt, file.as_str(), stdin, progress)?)?;
@@ -37,43 +31,15 @@ fn read_file<F: Files, R: Read, E: Write>(
     name: &str,
     stdin: &mut R,
     progress: &mut Progress<'_, E>,
-) -> Result<Input, StartFault> {
+) -> Result<Input, Fault> {
     if name == "-" {
-        return read_input(alloc, "standard input", stdin, progress);
+        return Input::read(alloc, "standard input", stdin, progress);
     }
     match File::open(rt, name) {
-        Ok(mut file) => read_input(alloc, name, &mut file, progress),
-        Err(error) => Err(cannot_read(alloc, name, error)),
-    }
-}
-
-// All that a reader has left, which is called so.
-fn read_input<R: Read, E: Write>(
-    alloc: Global,
-    name: &str,
-    reader: &mut R,
-    progress: &mut Progress<'_, E>,
-) -> Result<Input, StartFault>
-    ensures text { IfOk result (λ input.
-        Consumes (R.remaining reader.old) (R.remaining reader.new) (string_bytes input.text)) }
-    ensures end { OnOk result (IsAtEnd (R.remaining reader.new)) }
-    ensures name { IfOk result (λ input. string_bytes input.name ≡ name.now) }
-{
-    let bytes = match read_all(alloc, reader, progress) {
-        Ok(bytes) => bytes,
-        Err(error) => return Err(cannot_read(alloc, name, error)),
-    };
-    let name = String::from_str(alloc, name)?;
-    match String::from_utf8(bytes) {
-        Ok(text) => Ok(Input { name, text }),
-        Err(_) => Err(StartFault::NotText(name)),
-    }
-}
-
-// What is said where the file that is called so can't be read.
-fn cannot_read(alloc: Global, name: &str, error: io::Error) -> StartFault {
-    match String::from_str(alloc, name) {
-        Ok(name) => StartFault::CannotRead(name, error),
-        Err(_) => StartFault::OutOfMemory,
+        Ok(mut file) => Input::read(alloc, name, &mut file, progress),
+        Err(error) => {
+            let name = String::from_str(alloc, name)?;
+            Err(Fault::CannotRead(name, error))
+        }
     }
 }

@@ -67,7 +67,7 @@ fn run_files<F: Files, R: Read, W: Write, E: Write + IsTerminal>(
     progress.end();
     match read {
         Ok(inputs) => run(alloc, keys, options, inputs.as_slice(), out, err),
-        Err(fault) => tell_of(options, &fault, err),
+        Err(fault) => complain(alloc, options, &fault, err),
     }
 }
 

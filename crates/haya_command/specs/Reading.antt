@@ -1,6 +1,8 @@
 -- The library of texts in any of the formats.
-use Rattle.std.specs.Prelude.{◌≡◌, ◌≢◌, ◌⊎◌, ℕ, List, [], Any, IsTrue, String, flat_map, map, string_bytes}
+use Rattle.std.specs.Prelude.{◌≡◌, ◌≢◌, ◌⊎◌, ℕ, List, [], Any, IsTrue, Option, String, flat_map, map, string_bytes}
 use Rattle.std.specs.List.{AllZip}
+use Rattle.std.specs.Io.KnownBytes.{Consumes, IsAtEnd}
+use Rattle.std.specs.Str.{IsUtf8}
 use Rattle.std.specs.Str.Lines.{lines}
 use Rattle.std.specs.declared.alloc.Global.{Global}
 use Rattle.hayagriva.specs.Library.{from_entries}
@@ -80,6 +82,16 @@ pub record AreReadAs (options : Options) (texts : List (List ℕ)) (library : Li
   pub pushed : library ≡ from_entries (flat_map (λ part. part) parts)
 
 -- ---- faults
+
+-- What a fault says of an input that is called so, where not all that was left of it is read as a
+-- text: a read failed, or what was left isn't UTF-8.
+abbrev pub IsReadFault : List ℕ → Option (List ℕ) → Option (List ℕ) → Fault → Type 0
+IsReadFault name unread left (fault.CannotRead called e) = string_bytes called ≡ name
+IsReadFault name unread left (fault.NotText called) =
+    (string_bytes called ≡ name)
+    × ((bytes : List ℕ) × Consumes unread left bytes × IsAtEnd left × (¬ IsUtf8 bytes))
+IsReadFault name unread left fault.OutOfMemory = Unit {0}
+IsReadFault name unread left _ = ⊥
 
 -- the fault that members of the text that is called so are unknown
 pub record IsUnknown (name : List ℕ) (e : Fault) : Type 0 where

@@ -6,6 +6,7 @@ mod asker;
 mod fault;
 mod form;
 mod format;
+mod input;
 mod json_line;
 mod json_reader;
 pub mod laws;

@@ -44,8 +44,8 @@ pub fn ask_lines<'o, R: Read, W: Write>(
     }
 }
 
-/// The same of an input in lines of JSON. What is passed over of it is noted; a strict run takes it
-/// for a fault, at the input's end.
+/// The same of an input in lines of JSON. What is passed over of it is noted when the input has
+/// ended; in a strict run that is a fault.
 pub fn ask_json_lines<'o, R: Read, W: Write>(
     asker: Asker<'o>,
     name: &str,

@@ -3,7 +3,6 @@
 
 mod dates;
 mod draft;
-mod errors;
 mod fields;
 mod items;
 mod kinds;

@@ -9,10 +9,9 @@ ghost use Rattle.haya_csl.specs.Ignored.{list_passed_over, passed_over};
 ghost use Rattle.haya_json.specs.Ignored.{counts_of};
 ghost use Rattle.haya_json.specs.Tally.{all_counted, tally};
 
-use crate::errors::{name_twice, not_json};
 use crate::items::read_item;
 use crate::turns::read_list_text;
-use haya_json::reading::{Fault, member};
+use haya_json::reading::{Fault, member, name_twice, not_json};
 use haya_json::{Ignored, ReadError, Why};
 use hayagriva::{HashKeys, Library};
 use json::{Scratch, Value};
@@ -55,6 +54,7 @@ pub fn read_csl_json_with_hash_keys(
 }
 
 // The library of a text that is no list, and what is passed over of it.
+#[tactic(auto, using(haya_json::proofs::ParseErrors::error_of_json))]
 fn read_text(
     alloc: Global,
     keys: HashKeys,

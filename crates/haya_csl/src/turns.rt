@@ -10,10 +10,9 @@ ghost use Rattle.haya_csl.specs.Made.{IsErrorWith, IsMadeBut, IsMadeOf, IsMadeOf
 ghost use Rattle.haya_csl.specs.Made.{MakesEntry, TakesItem};
 ghost use Rattle.haya_csl.specs.Turns.{first_and_left, items_left};
 
-use crate::errors::{name_twice, not_json};
 use crate::items::read_item;
 use crate::unique::has_unique_names;
-use haya_json::reading::Fault;
+use haya_json::reading::{Fault, name_twice, not_json};
 use haya_json::{Ignored, ReadError};
 use haya_text::OutOfMemory;
 use hayagriva::{HashKeys, Library};
@@ -206,6 +205,7 @@ impl Made {
     }
 
     // What is read of the text in the end, where these were all its items.
+    #[tactic(auto, using(haya_json::proofs::ParseErrors::error_of_json))]
     fn into_read(self, alloc: Global, text: &str) -> Result<(Library, Ignored), ReadError>
         ensures library { IfOk result (λ read.
             IsMadeOfText text.now self → DescribesAsCsl text.now read.0) }

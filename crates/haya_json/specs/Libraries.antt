@@ -36,14 +36,19 @@ pub record Describes (text : List ℕ) (library : List Tree) : Type 0 where
   pub unique : HasUniqueKeys value
   pub read : library_of value ≡ Ok library
 
+-- what an error says of the JSON of a text
+abbrev pub IsErrorOfJson : List ℕ → ReadError → Type 0
+IsErrorOfJson text (NotJson p) = document text ≡ None
+IsErrorOfJson text (NameTwice p) = IsSomeAnd (document text) (λ j. ¬ HasUniqueKeys j)
+IsErrorOfJson text (Refused path why) = ⊥
+IsErrorOfJson text OutOfMemory = ⊤
+
 -- what an error says of a text, whose value is read like this
 abbrev pub IsErrorOfReading : {T : Type 0} → (Json → Result T Refusal) → List ℕ → ReadError → Type 0
-IsErrorOfReading read text (NotJson p) = document text ≡ None
-IsErrorOfReading read text (NameTwice p) = IsSomeAnd (document text) (λ j. ¬ HasUniqueKeys j)
 IsErrorOfReading read text (Refused path why) =
     IsSomeAnd (document text)
     (λ j. HasUniqueKeys j × (read j ≡ Err (refusal_at path.items why)))
-IsErrorOfReading read text OutOfMemory = ⊤
+IsErrorOfReading read text e = IsErrorOfJson text e
 
 abbrev pub IsErrorOf : List ℕ → ReadError → Type 0
 IsErrorOf text error = IsErrorOfReading library_of text error

@@ -38,6 +38,7 @@ pub fn read_library(alloc: Global, text: &str) -> Result<(Library, Ignored), Rea
 }
 
 /// As `read_library`, with maps that hash with these keys.
+#[tactic(auto, using(crate::proofs::ParseErrors::error_of_json))]
 pub fn read_library_with_hash_keys(
     alloc: Global,
     keys: HashKeys,
