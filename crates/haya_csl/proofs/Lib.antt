@@ -2,3 +2,6 @@ mod ListTurns
 mod Lists
 mod MadeLemmas
 mod Pieces
+mod KeptKeys
+mod NewIds
+pub mod ItemLists

@@ -12,3 +12,4 @@ pub mod Libraries
 pub mod Ignored
 pub mod Turns
 pub mod Made
+pub mod ItemLines

@@ -4,13 +4,15 @@
 mod dates;
 mod draft;
 mod fields;
+mod item_lines;
 mod items;
 mod kinds;
+pub mod laws;
 mod libraries;
 mod markup;
 mod members;
 mod names;
 mod turns;
-mod unique;
 
+pub use item_lines::read_item_line;
 pub use libraries::{read_csl_json, read_csl_json_with_hash_keys};

@@ -54,7 +54,7 @@ pub fn read_csl_json_with_hash_keys(
 }
 
 // The library of a text that is no list, and what is passed over of it.
-#[tactic(auto, using(haya_json::proofs::ParseErrors::error_of_json))]
+#[tactic(auto, using(haya_json::proofs::ParseErrors::parse_errors))]
 fn read_text(
     alloc: Global,
     keys: HashKeys,

@@ -11,16 +11,12 @@ ghost use Rattle.haya_csl.specs.Made.{MakesEntry, TakesItem};
 ghost use Rattle.haya_csl.specs.Turns.{first_and_left, items_left};
 
 use crate::items::read_item;
-use crate::unique::has_unique_names;
-use haya_json::reading::{Fault, name_twice, not_json};
+use haya_json::reading::{ELEMENT_DEPTH, Fault, has_unique_names, name_twice, not_json};
 use haya_json::{Ignored, ReadError};
 use haya_text::OutOfMemory;
 use hayagriva::{HashKeys, Library};
 use json::{Error, Reader, Scratch, Token, Value};
 use std::alloc::Global;
-
-// How deep an item of a list may nest: one less than the text.
-const ITEM_DEPTH: usize = 127;
 
 // What is made of items that are read one after another, of which none is kept.
 #[derive(Drop)]
@@ -121,7 +117,7 @@ fn next_item<'a>(alloc: Global, reader: &mut Reader<'a>) -> Result<Option<Value<
     if reader.take_end_array() {
         return Ok(None);
     }
-    match Value::read(alloc, reader, ITEM_DEPTH) {
+    match Value::read(alloc, reader, ELEMENT_DEPTH) {
         Ok(item) => Ok(Some(item)),
         Err(error) => Err(error),
     }
@@ -205,7 +201,7 @@ impl Made {
     }
 
     // What is read of the text in the end, where these were all its items.
-    #[tactic(auto, using(haya_json::proofs::ParseErrors::error_of_json))]
+    #[tactic(auto, using(haya_json::proofs::ParseErrors::parse_errors))]
     fn into_read(self, alloc: Global, text: &str) -> Result<(Library, Ignored), ReadError>
         ensures library { IfOk result (λ read.
             IsMadeOfText text.now self → DescribesAsCsl text.now read.0) }

@@ -3,6 +3,7 @@
 mod examples;
 mod fields;
 mod ignored;
+mod item_lines;
 mod kinds;
 mod refused;
 mod shown;

@@ -3,6 +3,7 @@ mod examples;
 mod ignored;
 mod limits;
 mod lines;
+mod member_lines;
 mod printed;
 mod refused;
 mod rows;

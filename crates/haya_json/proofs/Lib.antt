@@ -3,6 +3,7 @@ pub mod Tallies
 pub mod ParseErrors
 mod Wholes
 mod Serials
+pub mod KeptKeys
 mod InOrder
 mod Written
 mod WrittenEntries
@@ -31,3 +32,6 @@ mod NamedRead
 mod Positions
 pub mod LinesTaken
 mod LawsBelow
+pub mod ValuesAlone
+pub mod OneMember
+pub mod MemberLists

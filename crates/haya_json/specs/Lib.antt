@@ -14,3 +14,5 @@ pub mod Writing
 pub mod Readable
 pub mod ReadBack
 pub mod JsonLines
+pub mod Alone
+pub mod MemberLines

@@ -1,5 +1,5 @@
 -- The library that a JSON value says, and the one that a text does.
-use Rattle.std.specs.Prelude.{◌≡◌, ℕ, List, [], ◌∷◌, None, Some, IsSomeAnd, Result, Ok, Err, ⊤}
+use Rattle.std.specs.Prelude.{◌≡◌, ℕ, List, [], ◌∷◌, Option, None, Some, IsSomeAnd, Result, Ok, Err, ⊤}
 use Rattle.json.specs.Json as json
 use Rattle.json.specs.Json.{Json, Members, document}
 use Rattle.json.specs.Strict.{HasUniqueKeys}
@@ -36,19 +36,30 @@ pub record Describes (text : List ℕ) (library : List Tree) : Type 0 where
   pub unique : HasUniqueKeys value
   pub read : library_of value ≡ Ok library
 
--- what an error says of the JSON of a text
-abbrev pub IsErrorOfJson : List ℕ → ReadError → Type 0
-IsErrorOfJson text (NotJson p) = document text ≡ None
-IsErrorOfJson text (NameTwice p) = IsSomeAnd (document text) (λ j. ¬ HasUniqueKeys j)
-IsErrorOfJson text (Refused path why) = ⊥
-IsErrorOfJson text OutOfMemory = ⊤
+-- an error of a text that is no JSON, or out of memory
+abbrev pub IsNotJson : ReadError → Type 0
+IsNotJson (NotJson p) = ⊤
+IsNotJson OutOfMemory = ⊤
+IsNotJson _ = ⊥
 
--- what an error says of a text, whose value is read like this
+-- an error of JSON in which an object has a member twice, or out of memory
+abbrev pub IsNameTwice : ReadError → Type 0
+IsNameTwice (NameTwice p) = ⊤
+IsNameTwice OutOfMemory = ⊤
+IsNameTwice _ = ⊥
+
+-- what an error says of JSON that is read like this; None is that of a text that is no JSON
+abbrev pub IsErrorOfJson : {T : Type 0} → (Json → Result T Refusal) → Option Json → ReadError
+    → Type 0
+IsErrorOfJson read json (NotJson p) = json ≡ None
+IsErrorOfJson read json (NameTwice p) = IsSomeAnd json (λ j. ¬ HasUniqueKeys j)
+IsErrorOfJson read json (Refused path why) =
+    IsSomeAnd json (λ j. HasUniqueKeys j × (read j ≡ Err (refusal_at path.items why)))
+IsErrorOfJson read json OutOfMemory = ⊤
+
+-- what an error says of a text whose JSON is read like this
 abbrev pub IsErrorOfReading : {T : Type 0} → (Json → Result T Refusal) → List ℕ → ReadError → Type 0
-IsErrorOfReading read text (Refused path why) =
-    IsSomeAnd (document text)
-    (λ j. HasUniqueKeys j × (read j ≡ Err (refusal_at path.items why)))
-IsErrorOfReading read text e = IsErrorOfJson text e
+IsErrorOfReading read text error = IsErrorOfJson read (document text) error
 
 abbrev pub IsErrorOf : List ℕ → ReadError → Type 0
 IsErrorOf text error = IsErrorOfReading library_of text error

@@ -81,7 +81,7 @@ fn push_line(
 /// `NotJson`: the line is no JSON. `NameTwice`: it is, and an object has a member twice. `Refused`:
 /// a value is not what its place asks for; a line that is no object has no key. At each of these
 /// `ignored` is as before.
-#[tactic(auto, using(crate::proofs::ParseErrors::error_of_json))]
+#[tactic(auto, using(crate::proofs::ParseErrors::parse_errors))]
 pub fn read_entry_line(alloc: Global, line: &str, ignored: &mut Ignored) -> Result<Entry, ReadError>
     ensures entry { IfOk result (λ entry. IsLineOf line.now (view entry)) }
     ensures ignored { OnOk result (counts_of ignored.new

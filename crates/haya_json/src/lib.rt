@@ -1,6 +1,7 @@
 //! Libraries in JSON: hayagriva's own file format.
 #![tactic(auto)]
 
+mod alone;
 mod entries;
 mod error;
 mod fault;
@@ -10,6 +11,7 @@ mod ignored;
 mod json_lines;
 pub mod laws;
 mod libraries;
+mod member_lines;
 mod members;
 mod nesting;
 mod parse_errors;
@@ -17,6 +19,7 @@ mod passed_over;
 mod position;
 pub mod reading;
 mod reading_back;
+mod unique;
 mod values;
 mod writing;
 
@@ -25,6 +28,7 @@ pub use fault::{Step, Why};
 pub use ignored::{Ignored, IgnoredNames};
 pub use json_lines::{read_entry_line, read_json_lines};
 pub use libraries::{read_library, read_library_with_hash_keys};
+pub use member_lines::read_member_line;
 pub use position::Position;
 pub use reading_back::reads_back;
 pub use writing::{lay_out, to_json, to_json_pretty, write_entry};

@@ -38,7 +38,7 @@ pub fn read_library(alloc: Global, text: &str) -> Result<(Library, Ignored), Rea
 }
 
 /// As `read_library`, with maps that hash with these keys.
-#[tactic(auto, using(crate::proofs::ParseErrors::error_of_json))]
+#[tactic(auto, using(crate::proofs::ParseErrors::parse_errors))]
 pub fn read_library_with_hash_keys(
     alloc: Global,
     keys: HashKeys,

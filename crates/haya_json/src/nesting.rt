@@ -1,4 +1,5 @@
-//! The tokens of a text, taken as those of one value.
+//! The tokens of a text, taken as those of one value, or of one member of an object.
+use crate::alone::ELEMENT_DEPTH;
 use json::{MAX_DEPTH, Token};
 use std::alloc::{AllocError, Global};
 
@@ -12,19 +13,43 @@ enum Open {
     Member,
 }
 
+// What may stand outside of all that is open.
+#[derive(Clone, Copy, PartialEq, Eq)]
+enum Next {
+    Name,
+    Value,
+    Nothing,
+}
+
 /// What is open after the tokens that were taken.
 #[derive(Drop)]
 pub(crate) struct Nesting {
     open: Vec<Open>,
-    has_begun: bool,
+    max_open: usize,
+    next: Next,
 }
 
 impl Nesting {
-    /// Before the first token.
-    pub(crate) fn new(alloc: Global) -> Nesting {
+    /// Before the first token of a text.
+    pub(crate) fn of_text(alloc: Global) -> Nesting {
+        Nesting::new(alloc, MAX_DEPTH, Next::Value)
+    }
+
+    /// Before the first token of an item of the array that a text is.
+    pub(crate) fn of_item(alloc: Global) -> Nesting {
+        Nesting::new(alloc, ELEMENT_DEPTH, Next::Value)
+    }
+
+    /// Before the first token of a member of the object that a text is.
+    pub(crate) fn of_member(alloc: Global) -> Nesting {
+        Nesting::new(alloc, ELEMENT_DEPTH, Next::Name)
+    }
+
+    fn new(alloc: Global, max_open: usize, next: Next) -> Nesting {
         Nesting {
             open: Vec::new(alloc),
-            has_begun: false,
+            max_open,
+            next,
         }
     }
 
@@ -53,9 +78,9 @@ impl Nesting {
                 true
             }
             None => {
-                let is_first = !self.has_begun;
-                self.has_begun = true;
-                is_first
+                let may_stand = self.next == Next::Value;
+                self.next = Next::Nothing;
+                may_stand
             }
         }
     }
@@ -66,12 +91,17 @@ impl Nesting {
                 *open = Open::Member;
                 true
             }
-            _ => false,
+            Some(_) => false,
+            None => {
+                let may_stand = self.next == Next::Name;
+                self.next = Next::Value;
+                may_stand
+            }
         }
     }
 
     fn begins(&mut self, open: Open) -> Result<bool, AllocError> {
-        if self.open.len() >= MAX_DEPTH || !self.takes_value() {
+        if self.open.len() >= self.max_open || !self.takes_value() {
             return Ok(false);
         }
         self.open.push(open)?;

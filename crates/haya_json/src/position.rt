@@ -31,14 +31,17 @@ impl fmt::Display for Position {
     }
 }
 
-/// Where a text that is no JSON stops being JSON: at the first token that can't stand there, or
-/// that opens an array or an object more than 128 deep, or at the end.
-pub fn position_of_fault(alloc: Global, text: &str) -> Result<Position, AllocError>
+/// Where the tokens of a text stop standing as they have to: at the first that can't stand there, or
+/// that opens an array or an object too deep, or at the end.
+pub(crate) fn position_of_fault(
+    alloc: Global,
+    text: &str,
+    mut nesting: Nesting,
+) -> Result<Position, AllocError>
     ensures { IfOk result (IsPositionIn text.now) }
 {
     let mut scratch = Scratch::new(alloc);
     let mut reader = Reader::new(text, &mut scratch)?;
-    let mut nesting = Nesting::new(alloc);
     let mut place = reader.offset();
     'tokens: while let Some(token) = reader.next() {
         if !nesting.takes(&token)? {

@@ -2,7 +2,7 @@ use Rattle.std.proofs.Common.{◌↔◌, drop, length}
 use Rattle.json.specs.Strict.{ItemsHaveUniqueKeys, MembersHaveUniqueKeys}
 use Rattle.json.specs.Tree.{json_tokens, items_tokens, members_tokens}
 use Rattle.json.specs.Value.{value_view, items_view, members_view}
-use Rattle.haya_csl.proofs.unique.+unique.Given as goal
+use Rattle.haya_json.proofs.unique.+unique.Given as goal
 
 -- a value has fewer tokens than what it is in
 

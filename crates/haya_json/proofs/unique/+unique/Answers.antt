@@ -5,7 +5,7 @@ use Rattle.json.specs.Tree.{json_tokens, items_tokens, members_tokens}
 use Rattle.json.specs.Value.{value_view, items_view, members_view}
 use Rattle.json.proofs.Trees.{item_smaller, member_smaller, view-Object}
 use Rattle.json.proofs.Unique.Keys.{texts}
-use Rattle.haya_csl.proofs.unique.+unique.Goals as goal
+use Rattle.haya_json.proofs.unique.+unique.Goals as goal
 
 pub has_unique_names-returns-else-are_distinct : goal.has_unique_names-returns-else-are_distinct
 has_unique_names-returns-else-are_distinct t c =

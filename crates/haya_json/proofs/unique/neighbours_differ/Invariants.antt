@@ -1,6 +1,6 @@
 use Rattle.std.proofs.Common.{ℕ, ◌+◌, ◌<◌}
 use Rattle.json.proofs.Unique.Keys.{DifferAt}
-use Rattle.haya_csl.proofs.unique.neighbours_differ.Given as goal
+use Rattle.haya_json.proofs.unique.neighbours_differ.Given as goal
 
 -- the names that were looked at differ from the one before
 abbrev pub invariant-names : goal.invariant-names

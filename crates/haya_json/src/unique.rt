@@ -15,10 +15,7 @@ const MAX_UNSORTED: usize = 32;
 /// Whether no object in the value, at any depth, has a member twice. The names of one object at a
 /// time are put into `names`.
 #[cycle(unique)]
-pub(crate) fn has_unique_names<'a>(
-    json: &Value<'a>,
-    names: &mut Vec<&'a str>,
-) -> Result<bool, AllocError>
+pub fn has_unique_names<'a>(json: &Value<'a>, names: &mut Vec<&'a str>) -> Result<bool, AllocError>
     ensures { IfOk result (λ b. IsTrue b ↔ HasUniqueKeys (value_view json.now)) }
 {
     match json {
@@ -79,8 +76,8 @@ fn copy_names<'a>(
     Ok(())
 }
 
-/// Whether no two of these names are equal. It may change their order.
-pub(crate) fn are_distinct(names: &mut [&str]) -> bool
+// Whether no two of these names are equal. It may change their order.
+fn are_distinct(names: &mut [&str]) -> bool
     ensures { IsTrue result ↔ AreDistinct (map (λ name. name.now) names.old) }
 {
     if names.len() <= MAX_UNSORTED {

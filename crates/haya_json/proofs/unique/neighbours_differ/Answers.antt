@@ -1,6 +1,6 @@
 use Rattle.std.proofs.Common.{◌-◌, arith, rules}
 use Rattle.json.proofs.Unique.Keys.{AreDistinct-from_places, DifferAt-from_distinct, DifferAt-from_sorted}
-use Rattle.haya_csl.proofs.unique.neighbours_differ.Goals as goal
+use Rattle.haya_json.proofs.unique.neighbours_differ.Goals as goal
 
 pub returns-then-eq : goal.returns-then-eq
 returns-then-eq c = (λ never. absurd (cc), λ h. let differ = DifferAt-from_distinct c.args.names.now (c.names.at - 1) c.names.at h (omega arith) c.names-test.true in grind arith)

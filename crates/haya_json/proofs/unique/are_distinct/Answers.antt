@@ -1,5 +1,5 @@
 use Rattle.json.proofs.Unique.Keys.{AreDistinct-permutation, AreDistinct-permutation_back}
-use Rattle.haya_csl.proofs.unique.are_distinct.Goals as goal
+use Rattle.haya_json.proofs.unique.are_distinct.Goals as goal
 
 pub returns : goal.returns
 returns c =

@@ -1,6 +1,6 @@
 use Rattle.std.proofs.Common.{◌<◌, [], arith, below_more, rules}
 use Rattle.json.proofs.Unique.Keys.{Key, DifferAt, AreDistinct-from_places, DifferAt-from_contains, repeated_from_contains}
-use Rattle.haya_csl.proofs.unique.each_is_new.Goals as goal
+use Rattle.haya_json.proofs.unique.each_is_new.Goals as goal
 
 abbrev blank : Key
 blank = record { ref_ptr = (0, 0); now = [] }

@@ -1,0 +1,146 @@
+-- An item reads as it does alone where its id is new to a library.
+use Rattle.std.proofs.Common.{◌≡◌, ℕ, Bool, true, false, cond, List, [], Option, None, Some, Result, Ok, Err, refl, ap, ◌∙◌}
+use Rattle.std.specs.Prelude.{⊤, codes, is_some, ok_or, if◌then◌else◌}
+use Rattle.std.specs.List.{AllByRecursion, IsDistinct}
+use Rattle.std.specs.Cmp.Lexicographic.{nat_list_eq_equiv}
+use Rattle.std.specs.Str.{bytes_eq}
+use Rattle.std.proofs.lemmas.Map.Keys.{IsDistinct-head, IsDistinct-tail}
+use Rattle.std.proofs.lemmas.Map.Made.{IsDistinct-from_AllPairs}
+use Rattle.std.proofs.lemmas.Slice.Eq.{bytes_eq-Decides}
+use Rattle.json.specs.Json as json
+use Rattle.json.specs.Json.{Json, Members}
+use Rattle.json.specs.Find.{get_member, is_null, later_or}
+use Rattle.json.specs.Strict.{HasUniqueKeys, keys}
+use Rattle.haya_entry.specs.Tree.{Tree}
+use Rattle.hayagriva.specs.Library.{get, key_of}
+use Rattle.haya_json.specs.Parts.{member_of, text_in, unless_null}
+use Rattle.haya_json.specs.Refusal.{Refusal, and_then, here, refused, to_member, within}
+use Rattle.haya_json.specs.declared.fault.Why.TheVariants.{NotText, SameId}
+use Rattle.haya_csl.specs.Items.{DraftView, entry_made, id_checked, item_of, item_under, key_in, members_set, new_draft, type_checked, with_field, with_member}
+use Rattle.haya_csl.specs.Kinds.{kind_of}
+use Rattle.haya_csl.specs.declared.kinds.Kind.{Kind}
+use Rattle.haya_csl.proofs.KeptKeys.{key_of_item}
+
+-- ---- the member of a name
+
+-- each member of this name is the value
+abbrev AllNamed : List ℕ → Json → Members → Type 0
+AllNamed name v json.no_members = ⊤
+AllNamed name v (json.member k j ms) = (bytes_eq k name ≡ true → j ≡ v) × AllNamed name v ms
+
+none_here : (o : Option Json) (b : Bool) (j : Json) → later_or o (cond b (Some j) None) ≡ None → (o ≡ None) × (b ≡ false)
+none_here None true j h = cc
+none_here None false j h = (refl, refl)
+none_here (Some i) b j h = cc
+
+none_named : (name : List ℕ) (v : Json) (ms : Members) → get_member name ms ≡ None → AllNamed name v ms
+none_named name v json.no_members h = tt
+none_named name v (json.member k j ms) h =
+    let parts = none_here (get_member name ms) (bytes_eq k name) j h in
+    ((λ is. cc), none_named name v ms parts.0)
+
+not_among : (name : List ℕ) (ms : Members) → AllByRecursion (λ k. bytes_eq name k ≡ false) (keys ms) → get_member name ms ≡ None
+not_among name json.no_members h = refl
+not_among name (json.member k j ms) h = rw (not_among name ms h.1, nat_list_eq_equiv.symm k name, h.0) refl
+
+-- where names are distinct, there is one
+one_named : (name : List ℕ) (v : Json) (ms : Members) → IsDistinct bytes_eq (keys ms) → get_member name ms ≡ Some v → AllNamed name v ms
+one_named name v json.no_members d h = tt
+one_named name v (json.member k j ms) d h = by (one_named name v ms more) (get_member name ms) refl (bytes_eq k name) refl h
+  where
+    more : IsDistinct bytes_eq (keys ms)
+    more = IsDistinct-tail bytes_eq k (keys ms) d
+
+    some_none : (w : Json) → get_member k ms ≡ Some w → get_member k ms ≡ None → ⊥
+    some_none w a b = cc
+
+    by : (get_member name ms ≡ Some v → AllNamed name v ms) → (o : Option Json) → get_member name ms ≡ o → (b : Bool) → bytes_eq k name ≡ b → later_or o (cond b (Some j) None) ≡ Some v
+        → (bytes_eq k name ≡ true → j ≡ v) × AllNamed name v ms
+    by rest None none true is g = ((λ _. cc), none_named name v ms none)
+    by rest None none false is g = cc
+    by rest (Some w) some true is g =
+        let same : k ≡ name = (bytes_eq-Decides k name).0 is in
+        let none : get_member k ms ≡ None = not_among k ms (IsDistinct-head bytes_eq k (keys ms) d) in
+        absurd (some_none w (rw same some) none)
+    by rest (Some w) some false is g = ((λ yes. cc), rest (some ∙ g))
+
+-- ---- the id
+
+-- no entry of the library has the id
+NewTo : List Tree → Json → Type 0
+NewTo library id = (key : List ℕ) → text_in id ≡ Some key → get key library ≡ None
+
+new_to : (library : List Tree) (id : Json) → get (key_in id) library ≡ None → NewTo library id
+unfolding NewTo
+new_to library id none key is = rw is at none
+
+id_passes : (library : List Tree) (id : Json) (d : DraftView) → NewTo library id → id_checked library id d ≡ id_checked [] id d
+unfolding NewTo
+id_passes library id d new = by (text_in id) refl
+  where
+    by : (o : Option (List ℕ)) → text_in id ≡ o
+        → and_then (ok_or o (here NotText)) (λ key. if is_some (get key library) then refused SameId else Ok d)
+        ≡ and_then (ok_or o (here NotText)) (λ key. if is_some (get key []) then refused SameId else Ok d)
+    by None none = refl
+    by (Some key) some = rw (new key some) refl
+
+-- ---- members
+
+module _ (library : List Tree) (id : Json) (new : NewTo library id) (kind : Kind) (item : Json) (key : List ℕ) where
+  member_alone : (k : List ℕ) (j : Json) (d : DraftView) → (bytes_eq k (codes "id") ≡ true → j ≡ id)
+      → with_member library kind item key k j d ≡ with_member [] kind item key k j d
+  member_alone k j d only = by (is_null j) (bytes_eq k (codes "id")) refl
+    where
+      by : (null is_id : Bool) → bytes_eq k (codes "id") ≡ is_id
+          → (if null then Ok d else if is_id then id_checked library j d else if bytes_eq k (codes "type") then type_checked item j d else with_field kind item key k j d)
+          ≡ (if null then Ok d else if is_id then id_checked [] j d else if bytes_eq k (codes "type") then type_checked item j d else with_field kind item key k j d)
+      by true is_id is = refl
+      by false true is = rw (only is) (id_passes library id d new)
+      by false false is = refl
+
+  members_alone : (ms : Members) (d : DraftView) → AllNamed (codes "id") id ms → members_set library kind item key ms d ≡ members_set [] kind item key ms d
+  members_alone json.no_members d named = refl
+  members_alone (json.member k j ms) d named =
+      ap (λ r. and_then (within (to_member k) r) (λ more. members_set library kind item key ms more)) (member_alone k j d named.0)
+      ∙ by (λ more. members_alone ms more named.1) (within (to_member k) (with_member [] kind item key k j d))
+    where
+      by : ((more : DraftView) → members_set library kind item key ms more ≡ members_set [] kind item key ms more) → (r : Result DraftView Refusal)
+          → and_then r (λ more. members_set library kind item key ms more) ≡ and_then r (λ more. members_set [] kind item key ms more)
+      by rest (Ok more) = rest more
+      by rest (Err r) = refl
+
+-- ---- items
+
+found_in : (o : Option Json) (id : Json) → unless_null o ≡ Some id → o ≡ Some id
+found_in None id h = cc
+found_in (Some j) id h = by (is_null j) h
+  where
+    by : (b : Bool) → (let none : Option Json = None in if b then none else Some j) ≡ Some id → Some j ≡ Some id
+    by true g = cc
+    by false g = g
+
+item_with_id : (library : List Tree) (ms : Members) (id : Json) → IsDistinct bytes_eq (keys ms) → member_of (codes "id") (json.object ms) ≡ Some id → get (key_in id) library ≡ None
+    → item_of library (json.object ms) ≡ item_of [] (json.object ms)
+item_with_id library ms id d found none =
+    let named = one_named (codes "id") id ms d (found_in (get_member (codes "id") ms) id found) in
+    let item = json.object ms in
+    let same = members_alone library id (new_to library id none) (kind_of item) item (key_in id) ms (new_draft (key_in id) (kind_of item).entry) named in
+    rw found (ap (λ r. and_then r (λ e. Ok (entry_made e))) same)
+
+-- the entry of an item is the same in a library that hasn't its key
+pub item_alone : (library : List Tree) (j : Json) (t : Tree) → HasUniqueKeys j → item_of [] j ≡ Ok t → get (key_of t) library ≡ None → item_of library j ≡ Ok t
+item_alone library (json.object ms) t unique is none = by (member_of (codes "id") (json.object ms)) refl
+  where
+    by : (o : Option Json) → member_of (codes "id") (json.object ms) ≡ o → item_of library (json.object ms) ≡ Ok t
+    by None missing = absurd (no_entry (rw missing at is))
+      where
+        no_entry : item_under None [] (json.object ms) ms ≡ Ok t → ⊥
+        no_entry h = cc
+    by (Some id) found =
+        let own : key_of t ≡ key_in id = key_of_item [] ms id t found is in
+        item_with_id library ms id (IsDistinct-from_AllPairs bytes_eq-Decides (keys ms) unique.0) found (rw (← own) none) ∙ is
+item_alone library json.null t unique is none = cc
+item_alone library (json.boolean b) t unique is none = cc
+item_alone library (json.number s) t unique is none = cc
+item_alone library (json.string s) t unique is none = cc
+item_alone library (json.array js) t unique is none = cc

@@ -1,0 +1,106 @@
+//! The items of a list, each on a line of its own.
+use haya_csl::read_item_line;
+use haya_json::{Ignored, to_json};
+use hayagriva::Library;
+use std::process::Abort;
+
+// A line, and the library of the entry that it says, with the names that are passed over of it.
+const ENTRIES: &[(&str, &str)] = &[
+    (r#"{"id":"a"}"#, r#"{"a":{"type":"misc"}}"#),
+    // white space round tokens, a number for an id, and members that are passed over
+    (
+        "\t{ \"y\": 1, \"id\" : 1 ,\t\"type\": \"book\", \"x\": {}, \"title\": \"T\" } ",
+        r#"{"1":{"type":"book","title":"T"}}y 1, x 1, "#,
+    ),
+    (
+        r#"{"id":"a","type":"chapter","container-title":"B"}"#,
+        r#"{"a":{"type":"chapter","parent":{"type":"book","title":"B"}}}"#,
+    ),
+];
+
+// A line, and what its error shows.
+const REFUSED: &[(&str, &str)] = &[
+    ("", "line 1, column 1: no JSON"),
+    (r#"{"id":"a""#, "line 1, column 10: no JSON"),
+    // nothing may stand behind the item
+    (r#"{"id":"a"},"#, "line 1, column 12: no JSON"),
+    (r#"{"id":"a"}]"#, "line 1, column 11: no JSON"),
+    (r#"{"id":"a"},{"id":"b"}"#, "line 1, column 12: no JSON"),
+    (r#""a":{"id":"a"}"#, "line 1, column 1: no JSON"),
+    (
+        r#"{"id":"a","id":"b"}"#,
+        "line 1, column 11: an object has a member twice",
+    ),
+    (
+        r#"{"é":"a","x":{"y":1,"\u0079":2}}"#,
+        "line 1, column 21: an object has a member twice",
+    ),
+    (r#"["a"]"#, ": expected an object"),
+    ("{}", "/id: missing"),
+    (r#"{"id":"a","type":"novel"}"#, "/type: unknown type"),
+];
+
+// The library of a line's entry, and behind it each name that is passed over, with how often it
+// came.
+fn shown(rt: &(impl Abort + AllocGlobal), line: &str) -> String {
+    let mut ignored = Ignored::new(rt.alloc());
+    let entry = read_item_line(rt.alloc(), line, &mut ignored).expect(rt, "an entry");
+    let mut library = Library::new(rt.alloc());
+    library.insert(entry).expect(rt, "memory");
+    let json = to_json(rt.alloc(), &library).expect(rt, "memory");
+    drop(library);
+    let mut shown = String::from_utf8(json).expect(rt, "a text");
+    for (name, count) in &ignored {
+        write!(shown, "{name} {count}, ").expect(rt, "memory");
+    }
+    shown
+}
+
+// What the error of a line shows, or nothing where it has none.
+fn message(rt: &(impl Abort + AllocGlobal), line: &str) -> String {
+    let mut ignored = Ignored::new(rt.alloc());
+    match read_item_line(rt.alloc(), line, &mut ignored) {
+        Ok(entry) => {
+            drop(entry);
+            String::new(rt.alloc())
+        }
+        Err(error) => format!(in rt.alloc(); "{error}").expect(rt, "memory"),
+    }
+}
+
+// A line of so many arrays, each in the next.
+fn nested(rt: &(impl Abort + AllocGlobal), depth: usize) -> String {
+    let mut line = String::new(rt.alloc());
+    for _ in 0..depth {
+        line.push_str("[").expect(rt, "memory");
+    }
+    for _ in 0..depth {
+        line.push_str("]").expect(rt, "memory");
+    }
+    line
+}
+
+#[test]
+fn reads_an_item_of_a_list(rt: HostRuntime) {
+    for (line, wanted) in ENTRIES {
+        let shown = shown(&rt, *line);
+        assert!(rt; shown.as_str() == *wanted, "{line}: {shown}");
+    }
+}
+
+#[test]
+fn refuses_what_is_no_item_of_a_list(rt: HostRuntime) {
+    for (line, wanted) in REFUSED {
+        let shown = message(&rt, *line);
+        assert!(rt; shown.as_str() == *wanted, "{line}: {shown}");
+    }
+}
+
+// One less than a text, since the list round the item is a level of it.
+#[test]
+fn an_item_nests_127_deep(rt: HostRuntime) {
+    let shown = message(&rt, nested(&rt, 127).as_str());
+    assert!(rt; shown == ": expected an object");
+    let shown = message(&rt, nested(&rt, 128).as_str());
+    assert!(rt; shown == "line 1, column 128: no JSON");
+}

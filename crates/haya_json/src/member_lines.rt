@@ -1,0 +1,101 @@
+//! The entry that a member of a library says, on a line of its own.
+ghost use Rattle.std.specs.Prelude.{◌≡◌, ◌≢◌, None, Ok, Some, false, IfErr, IfOk, OnOk};
+ghost use Rattle.json.specs.Strict.{HasUniqueKeys};
+ghost use Rattle.json.specs.Value.{value_view};
+ghost use Rattle.haya_entry.specs.Tree.{view};
+ghost use Rattle.haya_json.specs.Entries.{entry_of};
+ghost use Rattle.haya_json.specs.Ignored.{counts_of, passed_over_in};
+ghost use Rattle.haya_json.specs.Libraries.{IsErrorOfJson, library_of};
+ghost use Rattle.haya_json.specs.MemberLines.{IsMemberLineErrorOf, IsMemberLineOf};
+ghost use Rattle.haya_json.specs.MemberLines.{line_passed_over, member_in, single};
+ghost use Rattle.haya_json.specs.Refusal.{IsFaultOf, to_member, within};
+ghost use Rattle.haya_json.specs.Tally.{all_counted};
+
+use crate::alone::read_alone;
+use crate::entries::read_entry;
+use crate::error::ReadError;
+use crate::fault::Fault;
+use crate::ignored::Ignored;
+use crate::parse_errors::{name_twice, no_member};
+use crate::passed_over::note_entry;
+use haya_entry::Entry;
+use json::{Reader, Scratch, Token, Value};
+use std::alloc::Global;
+
+/// The entry that a line says: a member of the object that a text in hayagriva's file format is,
+/// without the commas round it. Its name is the key. What is passed over of the entry is counted in
+/// `ignored`.
+///
+/// `NotJson`: the line is no member, or its value nests more than 127 deep. `NameTwice`: it is one,
+/// and an object in it has a member twice. `Refused`: a value is not what its place asks for; its
+/// path begins with the member. At each of these `ignored` is as before.
+pub fn read_member_line(
+    alloc: Global,
+    line: &str,
+    ignored: &mut Ignored,
+) -> Result<Entry, ReadError>
+    ensures entry { IfOk result (λ entry. IsMemberLineOf line.now (view entry)) }
+    ensures ignored { OnOk result (counts_of ignored.new
+        ≡ all_counted (line_passed_over line.now) (counts_of ignored.old)) }
+    ensures error { IfErr result (IsMemberLineErrorOf line.now) }
+    ensures unchanged { IfErr result
+        (λ e. e ≢ ReadError.OutOfMemory → counts_of ignored.new ≡ counts_of ignored.old) }
+{
+    let mut scratch = Scratch::new(alloc);
+    let (name, json) = member_in(alloc, line, &mut scratch)?;
+    match entry_and_ignored(alloc, name, &json, ignored) {
+        Ok(entry) => Ok(entry),
+        Err(Fault::Refused(path, why)) => Err(ReadError::Refused(path, why)),
+        Err(Fault::OutOfMemory) => Err(ReadError::OutOfMemory),
+    }
+}
+
+// The name and the value of the member that a line is, in which no object has a member twice.
+#[tactic(auto, using(crate::proofs::ParseErrors::parse_errors))]
+fn member_in<'a>(
+    alloc: Global,
+    line: &'a str,
+    scratch: &'a mut Scratch,
+) -> Result<(&'a str, Value<'a>), ReadError>
+    ensures member { IfOk result
+        (λ m. member_in line.now ≡ Some (single m.0.now (value_view m.1))) }
+    ensures unique { IfOk result (λ m. HasUniqueKeys (value_view m.1)) }
+    ensures error { IfErr result (IsErrorOfJson library_of (member_in line.now)) }
+{
+    let Ok(mut reader) = Reader::new(line, scratch) else {
+        return Err(ReadError::OutOfMemory);
+    };
+    let Some(Token::Key(name)) = reader.next() else {
+        return Err(no_member(alloc, line));
+    };
+    match read_alone(alloc, &mut reader) {
+        Ok(json) => Ok((name, json)),
+        Err(json::Error::Invalid) => Err(no_member(alloc, line)),
+        Err(json::Error::DuplicateKey) => Err(name_twice(alloc, line)),
+        Err(_) => Err(ReadError::OutOfMemory),
+    }
+}
+
+// The entry that a member says. What is passed over of it is counted.
+fn entry_and_ignored(
+    alloc: Global,
+    name: &str,
+    json: &Value<'_>,
+    ignored: &mut Ignored,
+) -> Result<Entry, Fault>
+    ensures entry { IfOk result
+        (λ entry. entry_of name.now None (value_view json.now) ≡ Ok (view entry)) }
+    ensures ignored { OnOk result (counts_of ignored.new
+        ≡ all_counted (passed_over_in false (value_view json.now)) (counts_of ignored.old)) }
+    ensures fault { IfErr result (IsFaultOf
+        (within (to_member name.now) (entry_of name.now None (value_view json.now)))) }
+    ensures unchanged { IfErr result
+        (λ e. e ≢ Fault.OutOfMemory → counts_of ignored.new ≡ counts_of ignored.old) }
+{
+    let entry = match read_entry(alloc, name, None, json) {
+        Ok(entry) => entry,
+        Err(fault) => return Err(fault.in_member(alloc, name)),
+    };
+    note_entry(ignored, false, json)?;
+    Ok(entry)
+}
