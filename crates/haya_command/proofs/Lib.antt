@@ -1,5 +1,7 @@
 mod JsonLists
+mod JsonParts
 mod Lines
+mod PrintedLines
 mod Streams
 mod Together
 mod Written
