@@ -10,6 +10,7 @@ use Rattle.hayagriva.specs.Library.{AreDistinct}
 use Rattle.haya_json.specs.Libraries.{Describes, library_of}
 use Rattle.haya_json.specs.Printed.{library_json}
 use Rattle.haya_json.specs.ReadBack.{ReadsBack}
+use Rattle.haya_json.specs.Readable.{EntriesAreReadable}
 use Rattle.haya_json.proofs.EntriesRead.{entries_readable, library_read}
 use Rattle.haya_json.proofs.InOrder.{keys_of_entries}
 use Rattle.haya_json.proofs.ReadBacks.{described}
@@ -25,7 +26,8 @@ distinct_keys (json.number s) library unique is = cc
 distinct_keys (json.string s) library unique is = cc
 distinct_keys (json.array js) library unique is = cc
 
-pub read_again : ReadAgain → (text : List ℕ) (library : List Tree) → IsUtf8 text → Describes text library → nesting (library_json library) ≤ max_depth → ReadsBack library
-read_again again text library utf8 d shallow =
-    let read = library_read again d.value library (document_texts text d.value utf8 d.parsed) d.read in
-    described library (says_itself library (entries_readable library read) (distinct_keys d.value library d.unique d.read) shallow)
+pub library_readable : ReadAgain → (text : List ℕ) (library : List Tree) → IsUtf8 text → Describes text library → EntriesAreReadable library
+library_readable again text library utf8 d = entries_readable library (library_read again d.value library (document_texts text d.value utf8 d.parsed) d.read)
+
+pub read_again : (text : List ℕ) (library : List Tree) → Describes text library → EntriesAreReadable library → nesting (library_json library) ≤ max_depth → ReadsBack library
+read_again text library d readable shallow = described library (says_itself library readable (distinct_keys d.value library d.unique d.read) shallow)
