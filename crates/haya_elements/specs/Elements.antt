@@ -1,6 +1,5 @@
 -- The elements of a text, an element a line.
 use Rattle.std.specs.Prelude.{◌≡◌, ℕ, ◌==◌, List, [], ◌∷◌, Some, filter, length, not}
-use Rattle.std.specs.List.{AllZip}
 use Rattle.std.specs.Str.Lines.{lines}
 use Rattle.json.specs.Json.{Json, Items, Members, value, no_items, item, no_members, member}
 use Rattle.json.specs.Lex.{tokens}
