@@ -23,7 +23,8 @@ ghost use Rattle.haya_command.specs.Picks.{wanted};
 ghost use Rattle.haya_command.specs.Printed.{FitsLine, IsTextOf};
 ghost use Rattle.haya_command.specs.Reading.{IsWhole, format_in};
 ghost use Rattle.haya_command.specs.Run.{Prints};
-ghost use Rattle.haya_command.specs.Streamed.{IsListIn, IsTold, end_text};
+ghost use Rattle.haya_command.specs.AskedLines.{IsListIn};
+ghost use Rattle.haya_command.specs.Streamed.{IsTold, end_text};
 ghost use Rattle.haya_command.specs.declared.form.Form.TheVariants as form;
 ghost use Rattle.haya_command.specs.declared.options.Options.{Options as OptionsData};
 

@@ -88,25 +88,21 @@ items_pushed_of_lines (l ∷ ls) (json.item j js) library (t ∷ ts) place are l
 
 -- ---- a text
 
-module _ (text : List ℕ) (js : Items) (are : AreItems (elements Square text) js) (parsed : document text ≡ Some (array js)) where
+module _ (sound : (text : List ℕ) (js : Items) → AreItems (elements Square text) js → document text ≡ Some (array js)) where
   -- where no key comes twice, a text that lists entries describes the library of them
-  pub list_described : (entries : List Tree) → IsListOf text entries → AreDistinct entries → DescribesAsCsl text entries
-  list_described entries listed distinct =
-      let said = items_pushed_of_lines (elements Square text) js [] entries 0 are listed distinct in
+  pub list_described : (text : List ℕ) (entries : List Tree) → IsListOf text entries → AreDistinct entries → DescribesAsCsl text entries
+  list_described text entries listed distinct =
+      let js = items_of_lines (elements Square text) entries listed in
+      let said = items_pushed_of_lines (elements Square text) js.0 [] entries 0 js.1 listed distinct in
       record {
-        value = array js;
-        parsed = parsed;
+        value = array js.0;
+        parsed = sound text js.0 js.1;
         unique = said.0;
         read = said.1;
       }
 
   -- and what is passed over of its lines is what is passed over of the library
-  pub passed_over_described : (ignored : Ignored) → IsPassedOver text ignored → whole.IsPassedOver text ignored
-  passed_over_described ignored counted = rw parsed (counted ∙ ap tally (passed_over_of_lines (elements Square text) js are))
-
--- so each list is described, as far as items on lines of their own are those of the text
-pub listed_is_described : ((text : List ℕ) (js : Items) → AreItems (elements Square text) js → document text ≡ Some (array js))
-    → (text : List ℕ) (entries : List Tree) → IsListOf text entries → AreDistinct entries → DescribesAsCsl text entries
-listed_is_described sound text entries listed distinct =
-    let js = items_of_lines (elements Square text) entries listed in
-    list_described text js.0 js.1 (sound text js.0 js.1) entries listed distinct
+  pub passed_over_described : (text : List ℕ) (entries : List Tree) (ignored : Ignored) → IsListOf text entries → IsPassedOver text ignored → whole.IsPassedOver text ignored
+  passed_over_described text entries ignored listed counted =
+      let js = items_of_lines (elements Square text) entries listed in
+      rw (sound text js.0 js.1) (counted ∙ ap tally (passed_over_of_lines (elements Square text) js.0 js.1))

@@ -57,25 +57,21 @@ passed_over_of_lines (l ∷ ls) (json.member k j ms) are =
 
 -- ---- a text
 
-module _ (text : List ℕ) (ms : Members) (are : AreMembers (elements Curly text) ms) (parsed : document text ≡ Some (object ms)) where
+module _ (sound : (text : List ℕ) (ms : Members) → AreMembers (elements Curly text) ms → document text ≡ Some (object ms)) where
   -- where no key comes twice, a text that lists entries describes the library of them
-  pub list_described : (entries : List Tree) → IsListOf text entries → AreDistinct entries → Describes text entries
-  list_described entries listed distinct =
-      let said = entries_of_lines (elements Curly text) ms entries are listed in
+  pub list_described : (text : List ℕ) (entries : List Tree) → IsListOf text entries → AreDistinct entries → Describes text entries
+  list_described text entries listed distinct =
+      let ms = members_of_lines (elements Curly text) entries listed in
+      let said = entries_of_lines (elements Curly text) ms.0 entries ms.1 listed in
       record {
-        value = object ms;
-        parsed = parsed;
-        unique = (subst (AllPairs (λ a b. a ≢ b)) (keys_of_entries ms entries said.1) distinct, said.0);
+        value = object ms.0;
+        parsed = sound text ms.0 ms.1;
+        unique = (subst (AllPairs (λ a b. a ≢ b)) (keys_of_entries ms.0 entries said.1) distinct, said.0);
         read = said.1;
       }
 
   -- and what is passed over of its lines is what is passed over of the library
-  pub passed_over_described : (ignored : Ignored) → IsPassedOver text ignored → whole.IsPassedOver text ignored
-  passed_over_described ignored counted = rw parsed (counted ∙ ap tally (passed_over_of_lines (elements Curly text) ms are))
-
--- so each list is described, as far as members on lines of their own are those of the text
-pub listed_is_described : ((text : List ℕ) (ms : Members) → AreMembers (elements Curly text) ms → document text ≡ Some (object ms))
-    → (text : List ℕ) (entries : List Tree) → IsListOf text entries → AreDistinct entries → Describes text entries
-listed_is_described sound text entries listed distinct =
-    let ms = members_of_lines (elements Curly text) entries listed in
-    list_described text ms.0 ms.1 (sound text ms.0 ms.1) entries listed distinct
+  pub passed_over_described : (text : List ℕ) (entries : List Tree) (ignored : Ignored) → IsListOf text entries → IsPassedOver text ignored → whole.IsPassedOver text ignored
+  passed_over_described text entries ignored listed counted =
+      let ms = members_of_lines (elements Curly text) entries listed in
+      rw (sound text ms.0 ms.1) (counted ∙ ap tally (passed_over_of_lines (elements Curly text) ms.0 ms.1))

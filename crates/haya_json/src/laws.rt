@@ -1,8 +1,8 @@
 //! Laws of the definitions. A call of one, as `one_library();`, gives its statement to the caller's
 //! proof.
-ghost use Rattle.std.specs.Prelude.{◌≡◌, ◌≤◌, ℕ, All, List, Ok, Some};
+ghost use Rattle.std.specs.Prelude.{◌≡◌, ◌≤◌, ℕ, All, List, Ok};
 ghost use Rattle.std.specs.Str.{IsUtf8};
-ghost use Rattle.json.specs.Json.{Json, Members, document, max_depth, object};
+ghost use Rattle.json.specs.Json.{Json, max_depth};
 ghost use Rattle.json.specs.Print.{print};
 ghost use Rattle.json.specs.Tree.{HasNumbers, depth as nesting, json_tokens};
 ghost use Rattle.haya_text.specs.Chunks.{chunks};
@@ -10,8 +10,6 @@ ghost use Rattle.haya_text.specs.Normal.{IsNormal};
 ghost use Rattle.haya_text.specs.declared.strings.chunked.ChunkedString.{ChunkedString as Text};
 ghost use Rattle.haya_people.specs.Person.{PersonView};
 ghost use Rattle.haya_time.specs.declared.date.Date.{Date};
-ghost use Rattle.haya_elements.specs.Elements.{AreMembers, elements};
-ghost use Rattle.haya_elements.specs.declared.place.Brackets.TheVariants.{Curly};
 ghost use Rattle.haya_entry.specs.Tree.{Tree};
 ghost use Rattle.hayagriva.specs.Library.{AreDistinct};
 ghost use Rattle.haya_json.specs.Ignored.{IsPassedOver};
@@ -75,13 +73,14 @@ pub fn values_read_back()
 /// key comes twice, the text describes the library of these entries. What is passed over of the
 /// lines is what is passed over of that library.
 pub fn member_lines_are_a_library()
-    ensures library { (text : List ℕ) (ms : Members) (entries : List Tree)
-        → AreMembers (elements Curly text) ms → document text ≡ Some (object ms)
-        → member_lines.IsListOf text entries → AreDistinct entries → Describes text entries }
-    ensures ignored { (text : List ℕ) (ms : Members) (ignored : Ignored)
-        → AreMembers (elements Curly text) ms → document text ≡ Some (object ms)
-        → member_lines.IsPassedOver text ignored → IsPassedOver text ignored }
-{}
+    ensures library { (text : List ℕ) (entries : List Tree) → member_lines.IsListOf text entries
+        → AreDistinct entries → Describes text entries }
+    ensures ignored { (text : List ℕ) (entries : List Tree) (ignored : Ignored)
+        → member_lines.IsListOf text entries → member_lines.IsPassedOver text ignored
+        → IsPassedOver text ignored }
+{
+    haya_elements::laws::documents();
+}
 
 /// Entries that were read have values as `EntriesAreReadable` says: those of a library, those that
 /// lines of JSON list, and those of the library of such lines.

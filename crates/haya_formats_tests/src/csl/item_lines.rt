@@ -107,7 +107,7 @@ fn refuses_what_is_no_item_of_a_list(rt: HostRuntime) {
 #[test]
 fn an_item_nests_127_deep(rt: HostRuntime) {
     let shown = message(&rt, nested(&rt, 127).as_str());
-    assert!(rt; shown == "/2: expected an object");
+    assert!(rt; shown.as_str() == "/2: expected an object");
     let shown = message(&rt, nested(&rt, 128).as_str());
-    assert!(rt; shown == "line 1, column 128: no JSON");
+    assert!(rt; shown.as_str() == "line 1, column 128: no JSON");
 }

@@ -103,7 +103,7 @@ fn refuses_what_is_no_member_of_a_library(rt: HostRuntime) {
 #[test]
 fn a_member_nests_127_deep(rt: HostRuntime) {
     let shown = message(&rt, nested(&rt, 127).as_str());
-    assert!(rt; shown == "/a: expected an object");
+    assert!(rt; shown.as_str() == "/a: expected an object");
     let shown = message(&rt, nested(&rt, 128).as_str());
-    assert!(rt; shown == "line 1, column 132: no JSON");
+    assert!(rt; shown.as_str() == "line 1, column 132: no JSON");
 }
