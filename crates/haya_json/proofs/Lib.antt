@@ -20,7 +20,7 @@ mod FieldsBack
 mod Sounds
 mod SoundEntries
 mod NoBad
-mod TextsRead
+pub mod TextsRead
 mod ValuesRead
 mod SerialsRead
 mod FieldsRead
