@@ -1,5 +1,5 @@
 -- The parts of a date's text, as they stand and as they are read.
-use Rattle.std.proofs.Common.{◌≡◌, ℕ, ◌<◌, ◌≤◌, Bool, true, false, ◌&&◌, List, [], ◌∷◌, ◌++◌, length, refl, ap, sym, ◌∙◌, arith, Option, Some, None, cond, eqb, eqb-true, eq-eqb, subst, ℤ, ◌⊎◌, inl, inr}
+use Rattle.std.proofs.Common.{◌≡◌, ℕ, ◌<◌, ◌≤◌, Bool, true, false, ◌&&◌, List, [], ◌∷◌, ◌++◌, length, refl, ap, sym, ◌∙◌, arith, Option, Some, None, cond, eqb, eqb-true, subst, ℤ, ◌⊎◌, inl, inr}
 use Rattle.std.proofs.lemmas.Bool.Decides.{nat_tests}
 use Rattle.std.specs.Prelude.{nat_le}
 use Rattle.std.specs.Char.{is_ascii_digit, is_whitespace}
@@ -7,67 +7,15 @@ use Rattle.std.specs.List.{list_all}
 use Rattle.std.specs.Str.{all_ascii_digits, skip_leading_whitespace}
 use Rattle.std.specs.Str.Parse.{digits_value}
 use Rattle.haya_text.proofs.Tells.{and-both, both-and}
-use Rattle.haya_time.specs.DateForms.{IsBlank, BeginsWith, HasMark, marked, unmarked, HasSign, minus, plus, unsigned, BeginsWithNumber, Opening, OpensWith, BeginsWithPart, calendar_year, with_sign}
-use Rattle.haya_time.specs.DateReading.{behind_first, behind, number_of, Number, number_before, number_at, mark_of, mark_at, sign_by, sign_at, opening_with, opening_by, opening_after_sign, opening_after_mark, opening_at, part_by, part_behind, part_at}
-use Rattle.haya_text.specs.Characters.{hyphen, run, behind_run, is_numeric}
+use Rattle.haya_time.specs.DateForms.{HasMark, marked, unmarked, HasSign, minus, plus, unsigned, BeginsWithNumber, Opening, OpensWith, BeginsWithPart, calendar_year, with_sign}
+use Rattle.haya_time.specs.DateReading.{number_of, Number, number_before, number_at, mark_of, mark_at, sign_by, sign_at, opening_with, opening_by, opening_after_sign, opening_after_mark, opening_at, part_by, part_behind, part_at}
+use Rattle.haya_text.specs.Characters.{begins_with, hyphen, run, behind_run, is_numeric}
 use Rattle.haya_time.specs.DateText.{plus_sign, tilde}
-use Rattle.haya_text.proofs.Numerics.{digit_low, digit_high, digit-numeric, run-behind_run, behind_run-stops, behind_run-of, run-none, none-run}
-use Rattle.haya_time.proofs.DateCharacters.{digit-white}
-
--- ---- white space
-
-blank-skip : (blank rest : List ℕ) → IsBlank blank → skip_leading_whitespace (blank ++ rest) ≡ skip_leading_whitespace rest
-blank-skip [] rest h = refl
-blank-skip (c ∷ cs) rest h = let p = and-both (is_whitespace c) (list_all is_whitespace cs) h in rw p.0 (blank-skip cs rest p.1)
-
-pub blank-skipped : (cs : List ℕ) → IsBlank cs → skip_leading_whitespace cs ≡ []
-blank-skipped [] h = refl
-blank-skipped (c ∷ cs) h = let p = and-both (is_whitespace c) (list_all is_whitespace cs) h in rw p.0 (blank-skipped cs p.1)
-
--- the white space in front of a text
-record Front (text : List ℕ) : Type 0 where
-  blank : List ℕ
-  white : IsBlank blank
-  whole : text ≡ blank ++ skip_leading_whitespace text
-
-front_of : (text : List ℕ) → Front text
-front_of [] = record { blank = []; white = refl; whole = refl }
-front_of (c ∷ cs) = by_white (is_whitespace c) refl (front_of cs)
-  where
-    by_white : (b : Bool) → is_whitespace c ≡ b → Front cs → Front (c ∷ cs)
-    by_white true h r = record { blank = c ∷ r.blank; white = both-and _ _ h r.white; whole = rw h (ap (λ t. c ∷ t) r.whole) }
-    by_white false h r = record { blank = []; white = refl; whole = rw h refl }
-
-begins : (part text rest : List ℕ) → skip_leading_whitespace text ≡ part ++ rest → BeginsWith part text rest
-begins part text rest e = let f = front_of text in record { blank = f.blank; white = f.white; joined = f.whole ∙ ap (λ t. f.blank ++ t) e }
-
-first-skip : (c : ℕ) (cs : List ℕ) → is_whitespace c ≡ false → skip_leading_whitespace (c ∷ cs) ≡ c ∷ cs
-first-skip c cs h = rw h refl
-
-begins-skip : (c : ℕ) (part text rest : List ℕ) → is_whitespace c ≡ false → BeginsWith (c ∷ part) text rest → skip_leading_whitespace text ≡ c ∷ (part ++ rest)
-begins-skip c part text rest w b = ap skip_leading_whitespace b.joined ∙ blank-skip b.blank (c ∷ (part ++ rest)) b.white ∙ first-skip c (part ++ rest) w
+use Rattle.haya_time.specs.TextFront.{BeginsWith, IsBlank, behind, behind_first}
+use Rattle.haya_text.proofs.Numerics.{digit_low, digit_high, digit-numeric, run-behind_run, behind_run-stops, run-of, behind_run-of}
+use Rattle.haya_time.proofs.TextFronts.{begins, begins-behind, begins-skip, behind-begins, blank-skipped, digit-no_space}
 
 -- ---- one character
-
-behind_first-some : (c : ℕ) (xs rest : List ℕ) → behind_first c xs ≡ Some rest → xs ≡ c ∷ rest
-behind_first-some c [] rest h = cc
-behind_first-some c (x ∷ xs) rest h = by_test (eqb x c) refl h
-  where
-    by_test : (b : Bool) → eqb x c ≡ b → cond b (Some xs) None ≡ Some rest → x ∷ xs ≡ c ∷ rest
-    by_test true e h = let s : x ≡ c = eqb-true x c e in let r : xs ≡ rest = cc in cc
-    by_test false e h = cc
-
-some-behind_first : (c : ℕ) (rest : List ℕ) → behind_first c (c ∷ rest) ≡ Some rest
-some-behind_first c rest = let t : eqb c c ≡ true = eq-eqb c c refl in rw t refl
-
-none-behind_first : (c x : ℕ) (rest : List ℕ) → eqb x c ≡ false → behind_first c (x ∷ rest) ≡ None
-none-behind_first c x rest t = rw t refl
-
-pub behind-begins : (c : ℕ) (text rest : List ℕ) → behind c text ≡ Some rest → BeginsWith (c ∷ []) text rest
-behind-begins c text rest h = begins (c ∷ []) text rest (behind_first-some c (skip_leading_whitespace text) rest h)
-
-pub begins-behind : (c : ℕ) (text rest : List ℕ) → is_whitespace c ≡ false → BeginsWith (c ∷ []) text rest → behind c text ≡ Some rest
-begins-behind c text rest w b = ap (behind_first c) (begins-skip c [] text rest w b) ∙ some-behind_first c rest
 
 -- the text begins with a character from low to 9, perhaps behind white space
 record Starts (low : ℕ) (text : List ℕ) : Type 0 where
@@ -76,6 +24,9 @@ record Starts (low : ℕ) (text : List ℕ) : Type 0 where
   skipped : skip_leading_whitespace text ≡ first ∷ later
   above : low ≤ first
   below : first ≤ 57
+
+none-behind_first : (c x : ℕ) (rest : List ℕ) → eqb x c ≡ false → behind_first c (x ∷ rest) ≡ None
+none-behind_first c x rest t = rw t refl
 
 starts-behind : (c low : ℕ) (text : List ℕ) → Starts low text → (c < low) ⊎ (57 < c) → behind c text ≡ None
 starts-behind c low text s (inl h) =
@@ -89,17 +40,11 @@ starts-behind c low text s (inr h) =
 
 -- ---- numbers
 
-digits-run : (ds rest : List ℕ) → all_ascii_digits ds ≡ true → run is_numeric rest ≡ [] → run is_numeric (ds ++ rest) ≡ ds
-digits-run [] rest a r = r
-digits-run (d ∷ ds) rest a r =
+digits-numeric : (ds : List ℕ) → all_ascii_digits ds ≡ true → list_all is_numeric ds ≡ true
+digits-numeric [] a = refl
+digits-numeric (d ∷ ds) a =
     let p = and-both (is_ascii_digit d) (all_ascii_digits ds) a in
-    rw (digit-numeric d p.0) (ap (λ t. d ∷ t) (digits-run ds rest p.1 r))
-
-digits-behind_run : (ds rest : List ℕ) → all_ascii_digits ds ≡ true → run is_numeric rest ≡ [] → behind_run is_numeric (ds ++ rest) ≡ rest
-digits-behind_run [] rest a r = behind_run-of is_numeric [] rest refl (none-run is_numeric rest r)
-digits-behind_run (d ∷ ds) rest a r =
-    let p = and-both (is_ascii_digit d) (all_ascii_digits ds) a in
-    rw (digit-numeric d p.0) (digits-behind_run ds rest p.1 r)
+    both-and (is_numeric d) (list_all is_numeric ds) (digit-numeric d p.0) (digits-numeric ds p.1)
 
 -- what a number that was read says of its run
 record Spells (cs rest : List ℕ) (n : Number) : Type 0 where
@@ -126,8 +71,7 @@ number-begins text n h =
       digits = run is_numeric front;
       stands = begins (run is_numeric front) text n.rest (run-behind_run is_numeric front ∙ ap (λ t. run is_numeric front ++ t) s.follows);
       ascii = s.ascii;
-      longest = ap (run is_numeric) (sym s.follows)
-          ∙ run-none is_numeric (behind_run is_numeric front) (behind_run-stops is_numeric front);
+      whole = ap (begins_with is_numeric) (sym s.follows) ∙ behind_run-stops is_numeric front;
       counted = s.counted;
       valued = s.valued;
     }
@@ -138,22 +82,21 @@ number_of-digits cs a high = let t : nat_le (length cs) 4 ≡ true = grind (arit
 abbrev number_front : List ℕ → Option Number
 number_front front = number_before (number_of (run is_numeric front)) (behind_run is_numeric front)
 
-digits-number : (digits text rest : List ℕ) → all_ascii_digits digits ≡ true → run is_numeric rest ≡ [] → 1 ≤ length digits → length digits ≤ 4 → BeginsWith digits text rest
+digits-number : (digits text rest : List ℕ) → all_ascii_digits digits ≡ true → begins_with is_numeric rest ≡ false → 1 ≤ length digits → length digits ≤ 4 → BeginsWith digits text rest
     → number_at text ≡ Some (record { count = length digits; value = digits_value 10 digits; rest = rest })
 digits-number [] text rest a r low high b = absurd (omega arith)
 digits-number (d ∷ ds) text rest a r low high b =
     let p = and-both (is_ascii_digit d) (all_ascii_digits ds) a in
-    let above = digit_low d p.0 in
-    let below = digit_high d p.0 in
-    let skipped = begins-skip d ds text rest (digit-white d (omega arith) (omega arith)) b in
-    let front = digits-run (d ∷ ds) rest a r in
-    let back = digits-behind_run (d ∷ ds) rest a r in
+    let skipped = begins-skip (d ∷ ds) text rest (digit-no_space d p.0) b in
+    let numeric = digits-numeric (d ∷ ds) a in
+    let front = run-of is_numeric (d ∷ ds) rest numeric r in
+    let back = behind_run-of is_numeric (d ∷ ds) rest numeric r in
     ap number_front skipped ∙ (λ i. number_before (number_of (front i)) (back i)) ∙ ap (λ n. number_before n rest) (number_of-digits (d ∷ ds) a high)
 
 pub begins-number : (text : List ℕ) (count value : ℕ) (rest : List ℕ) → BeginsWithNumber text count value rest → 1 ≤ count → count ≤ 4 → number_at text ≡ Some (record { count = count; value = value; rest = rest })
 begins-number text count value rest b low high =
     let counted = b.counted in
-    digits-number b.digits text rest b.ascii b.longest (omega arith) (omega arith) b.stands
+    digits-number b.digits text rest b.ascii b.whole (omega arith) (omega arith) b.stands
     ∙ (λ i. Some (record { count = b.counted i; value = b.valued i; rest = rest }))
 
 digits-start : (digits text rest : List ℕ) → all_ascii_digits digits ≡ true → 1 ≤ length digits → BeginsWith digits text rest → Starts 48 text
@@ -162,7 +105,7 @@ digits-start (d ∷ ds) text rest a low b =
     let p = and-both (is_ascii_digit d) (all_ascii_digits ds) a in
     let above = digit_low d p.0 in
     let below = digit_high d p.0 in
-    record { first = d; later = ds ++ rest; skipped = begins-skip d ds text rest (digit-white d (omega arith) (omega arith)) b; above = above; below = below }
+    record { first = d; later = ds ++ rest; skipped = begins-skip (d ∷ ds) text rest (digit-no_space d p.0) b; above = above; below = below }
 
 number-starts : (text : List ℕ) (count value : ℕ) (rest : List ℕ) → BeginsWithNumber text count value rest → 1 ≤ count → Starts 48 text
 number-starts text count value rest b low = let counted = b.counted in digits-start b.digits text rest b.ascii (omega arith) b.stands
@@ -179,8 +122,8 @@ tilde-white : is_whitespace tilde ≡ false
 tilde-white = refl
 
 sign-starts : (text : List ℕ) (negative : Bool) (rest : List ℕ) → HasSign text negative rest → Starts 48 rest → Starts 43 text
-sign-starts text _ rest (minus b) s = record { first = hyphen; later = rest; skipped = begins-skip hyphen [] text rest hyphen-white b; above = omega arith; below = omega arith }
-sign-starts text _ rest (plus b) s = record { first = plus_sign; later = rest; skipped = begins-skip plus_sign [] text rest plus-white b; above = omega arith; below = omega arith }
+sign-starts text _ rest (minus b) s = record { first = hyphen; later = rest; skipped = begins-skip (hyphen ∷ []) text rest hyphen-white b; above = omega arith; below = omega arith }
+sign-starts text _ rest (plus b) s = record { first = plus_sign; later = rest; skipped = begins-skip (plus_sign ∷ []) text rest plus-white b; above = omega arith; below = omega arith }
 sign-starts text _ _ unsigned s = let above = s.above in record { first = s.first; later = s.later; skipped = s.skipped; above = omega arith; below = s.below }
 
 plus-other : (rest : List ℕ) → behind_first hyphen (plus_sign ∷ rest) ≡ None
@@ -189,7 +132,7 @@ plus-other rest = refl
 sign-at : (text : List ℕ) (negative : Bool) (rest : List ℕ) → HasSign text negative rest → Starts 48 rest → sign_at text ≡ (negative, rest)
 sign-at text _ rest (minus b) s = ap (λ p. sign_by text p (behind plus_sign text)) (begins-behind hyphen text rest hyphen-white b)
 sign-at text _ rest (plus b) s =
-    let none : behind hyphen text ≡ None = ap (behind_first hyphen) (begins-skip plus_sign [] text rest plus-white b) ∙ plus-other rest in
+    let none : behind hyphen text ≡ None = ap (behind_first hyphen) (begins-skip (plus_sign ∷ []) text rest plus-white b) ∙ plus-other rest in
     let some = begins-behind plus_sign text rest plus-white b in
     (λ i. sign_by text (none i) (some i))
 sign-at text _ _ unsigned s =

@@ -6,8 +6,9 @@ use Rattle.haya_time.specs.declared.date.Date.{Date}
 use Rattle.haya_time.specs.declared.date.DateError.{DateError}
 use Rattle.haya_time.specs.declared.date.DateError.TheVariants.{UnknownFormat, MonthOutOfBounds, DayOutOfBounds}
 use Rattle.haya_time.specs.DateCalendar.{is_month, has_day}
-use Rattle.haya_time.specs.DateForms.{IsBlank, Opening, OpensWith, BeginsWithPart, date_with, ReadsAs, year, month, day, HasBadMonth, HasBadDay, IsRefusedAs}
+use Rattle.haya_time.specs.DateForms.{Opening, OpensWith, BeginsWithPart, date_with, ReadsAs, year, month, day, HasBadMonth, HasBadDay, IsRefusedAs}
 use Rattle.haya_time.specs.DateReading.{opening_at, part_at, date_at_end, with_day, with_month, with_opening, date_read}
+use Rattle.haya_time.specs.TextFront.{IsBlank}
 use Rattle.haya_time.proofs.DateParts.{opens-at, at-opens, begins-part, part-begins, blank-part}
 
 -- what an outcome says of the text, but for texts of no form

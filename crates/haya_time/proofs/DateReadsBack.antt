@@ -1,77 +1,47 @@
 -- Dates are read back from their printed text.
-use Rattle.std.proofs.Common.{◌≡◌, ℕ, zero, suc, ◌+◌, ◌-◌, ◌^◌, ◌<◌, ◌≤◌, Bool, true, false, ◌||◌, cond, eqb, List, [], ◌∷◌, ◌++◌, length, replicate, refl, ap, sym, ◌∙◌, subst, arith, rules, append_assoc, Option, Some, None, Ok, ℤ, pos, negsuc}
+use Rattle.std.proofs.Common.{◌≡◌, ℕ, ◌+◌, ◌-◌, ◌^◌, ◌<◌, ◌≤◌, Bool, true, false, ◌||◌, cond, eqb, List, [], ◌∷◌, ◌++◌, refl, ap, sym, ◌∙◌, subst, arith, append_assoc, Option, Some, None, Ok, ℤ, pos, negsuc}
 use Rattle.std.proofs.lemmas.Bool.Decides.{nat_tests}
-use Rattle.std.proofs.lemmas.Fmt.{digits_decimal, decimal_is_IsNumeral, length-decimal-le, IsAscii-from_digits}
+use Rattle.std.proofs.lemmas.List.{append-nil}
+use Rattle.std.proofs.lemmas.Str.Ascii.{IsAscii-cons, IsAscii-nil}
 use Rattle.std.proofs.lemmas.Str.{chars-IsAscii, IsAscii-append}
-use Rattle.std.proofs.lemmas.Str.Parse.{IsNumeralModel, numerals_by_fold}
 use Rattle.std.specs.Prelude.{nat_le, nat_lt, unsigned_abs}
-use Rattle.std.specs.Fmt.{decimal}
 use Rattle.std.specs.Int.{is_negative}
-use Rattle.std.specs.Str.{IsAscii, all_ascii_digits, chars}
-use Rattle.std.specs.Str.Parse.{digits_value, digits_value_after}
+use Rattle.std.specs.Str.{IsAscii, chars}
 use Rattle.haya_text.proofs.Tells.{and-both}
 use Rattle.haya_time.specs.declared.date.Date.{Date}
 use Rattle.haya_time.specs.DateCalendar.{is_leap_year, days_of_month, is_month, has_day}
 use Rattle.haya_time.specs.DateForms.{HasMark, marked, unmarked, HasSign, minus, unsigned, BeginsWithNumber, Opening, OpensWith, BeginsWithPart, with_sign, ReadsAs, year, month, day}
-use Rattle.haya_time.specs.DatePrinted.{padded_decimal, mark_text, year_digits, part_text, parts_text, date_text}
+use Rattle.haya_time.specs.DatePrinted.{mark_text, year_digits, part_text, parts_text, date_text}
 use Rattle.haya_time.specs.DateReadBack.{is_on_calendar, ReadsBack}
 use Rattle.haya_time.specs.DateReading.{date_read}
-use Rattle.haya_text.specs.Characters.{is_numeric, hyphen, run}
-use Rattle.haya_time.specs.DateText.{tilde, digit_zero}
+use Rattle.haya_text.specs.Characters.{begins_with, is_numeric, hyphen}
+use Rattle.haya_time.specs.DateText.{tilde}
+use Rattle.haya_time.specs.Padded.{padded_decimal}
 use Rattle.haya_text.proofs.Numerics.{hyphen-numeric}
 use Rattle.haya_time.proofs.DateReadings.{reads-read}
-
--- ---- padded digits
-
-own : IsNumeralModel (λ ds. all_ascii_digits ds ≡ true) (digits_value 10)
-own = numerals_by_fold _ (search rules) (digits_value_after 10) (search rules)
-
-zeros-digits : (k : ℕ) (ds : List ℕ) → all_ascii_digits ds ≡ true → all_ascii_digits (replicate k digit_zero ++ ds) ≡ true
-zeros-digits zero ds h = h
-zeros-digits (suc k) ds h = zeros-digits k ds h
-
-zeros-value : (k : ℕ) (ds : List ℕ) → digits_value 10 (replicate k digit_zero ++ ds) ≡ digits_value 10 ds
-zeros-value zero ds = refl
-zeros-value (suc k) ds = zeros-value k ds
-
-zeros-length : (k : ℕ) (ds : List ℕ) → length (replicate k digit_zero ++ ds) ≡ k + length ds
-zeros-length zero ds = omega arith
-zeros-length (suc k) ds = omega (arith, zeros-length k ds)
-
--- digits of a width that tell this number
-record Digits (ds : List ℕ) (width n : ℕ) : Type 0 where
-  ascii : all_ascii_digits ds ≡ true
-  wide : length ds ≡ width
-  tell : digits_value 10 ds ≡ n
-
-digits_of : (width n : ℕ) → 0 < width → n < 10 ^ width → n < 2 ^ 64 → Digits (padded_decimal width n) width n
-digits_of width n some short small =
-    let fits = length-decimal-le width n some short small in
-    let total = zeros-length (width - length (decimal n)) (decimal n) in
-    record {
-      ascii = zeros-digits (width - length (decimal n)) (decimal n) (digits_decimal own n small);
-      wide = omega arith;
-      tell = zeros-value (width - length (decimal n)) (decimal n) ∙ (decimal_is_IsNumeral n small).1;
-    }
-
-digits-number : (ds rest : List ℕ) (width n : ℕ) → Digits ds width n → run is_numeric rest ≡ [] → BeginsWithNumber (ds ++ rest) width n rest
-digits-number ds rest width n d stops = record {
-  digits = ds;
-  stands = record { blank = []; white = refl; joined = refl };
-  ascii = d.ascii;
-  longest = stops;
-  counted = d.wide;
-  valued = d.tell;
-}
+use Rattle.haya_time.proofs.PrintedParts.{IsAscii-if, IsAscii-padded, all_ascii_digits-from, printed, printed-exact}
+use Rattle.haya_time.proofs.TextFronts.{begins-itself}
 
 -- ---- the parts of a printed date
 
+padded-number : (width n : ℕ) (rest : List ℕ) → 0 < width → n < 10 ^ width → n < 2 ^ 64 → begins_with is_numeric rest ≡ false → BeginsWithNumber (padded_decimal width n ++ rest) width n rest
+padded-number width n rest some short small stops =
+    let p = printed width n small in
+    record {
+      digits = padded_decimal width n;
+      stands = begins-itself (padded_decimal width n) rest;
+      ascii = all_ascii_digits-from (padded_decimal width n) p.digits;
+      whole = stops;
+      counted = printed-exact width n some short small;
+      valued = p.value;
+    }
+
 mark-text : (c : ℕ) (b : Bool) (rest : List ℕ) → HasMark c (mark_text b c ++ rest) b rest
-mark-text c true rest = marked (record { blank = []; white = refl; joined = refl })
+mark-text c true rest = marked (begins-itself (c ∷ []) rest)
 mark-text c false rest = unmarked
 
 sign-text : (negative : Bool) (rest : List ℕ) → HasSign (mark_text negative hyphen ++ rest) negative rest
-sign-text true rest = minus (record { blank = []; white = refl; joined = refl })
+sign-text true rest = minus (begins-itself (hyphen ∷ []) rest)
 sign-text false rest = unsigned
 
 year-sign : (y : ℤ) → with_sign (is_negative y) (unsigned_abs y) ≡ y
@@ -85,39 +55,32 @@ opening_text approximate y rest = mark_text approximate tilde ++ (mark_text (is_
 abbrev opening_of : Bool → ℤ → List ℕ → Opening
 opening_of approximate y rest = record { approximate = approximate; count = 4; year = y; rest = rest }
 
-opening-text : (approximate : Bool) (y : ℤ) (rest : List ℕ) → unsigned_abs y ≤ 9999 → run is_numeric rest ≡ [] → OpensWith (opening_text approximate y rest) (opening_of approximate y rest)
-opening-text approximate y rest near stops =
-    let digits = digits_of 4 (unsigned_abs y) (omega arith) (omega arith) (omega arith) in
-    record {
-      unmarked = mark_text (is_negative y) hyphen ++ (padded_decimal 4 (unsigned_abs y) ++ rest);
-      unsigned = padded_decimal 4 (unsigned_abs y) ++ rest;
-      negative = is_negative y;
-      value = unsigned_abs y;
-      mark = mark-text tilde approximate _;
-      sign = sign-text (is_negative y) _;
-      number = digits-number (padded_decimal 4 (unsigned_abs y)) rest 4 (unsigned_abs y) digits stops;
-      named = ap (λ v. Some v) (year-sign y);
-    }
+opening-text : (approximate : Bool) (y : ℤ) (rest : List ℕ) → unsigned_abs y ≤ 9999 → begins_with is_numeric rest ≡ false → OpensWith (opening_text approximate y rest) (opening_of approximate y rest)
+opening-text approximate y rest near stops = record {
+  unmarked = mark_text (is_negative y) hyphen ++ (padded_decimal 4 (unsigned_abs y) ++ rest);
+  unsigned = padded_decimal 4 (unsigned_abs y) ++ rest;
+  negative = is_negative y;
+  value = unsigned_abs y;
+  mark = mark-text tilde approximate _;
+  sign = sign-text (is_negative y) _;
+  number = padded-number 4 (unsigned_abs y) rest (omega arith) (omega arith) (omega arith) stops;
+  named = ap (λ v. Some v) (year-sign y);
+}
 
-part-text : (n : ℕ) (rest : List ℕ) → n + 1 < 100 → run is_numeric rest ≡ [] → BeginsWithPart (part_text n ++ rest) (n + 1) rest
-part-text n rest short stops =
-    let digits = digits_of 2 (n + 1) (omega arith) (omega arith) (omega arith) in
-    record {
-      after = padded_decimal 2 (n + 1) ++ rest;
-      count = 2;
-      joint = record { blank = []; white = refl; joined = refl };
-      number = digits-number (padded_decimal 2 (n + 1)) rest 2 (n + 1) digits stops;
-      low = omega arith;
-      high = omega arith;
-    }
+part-text : (n : ℕ) (rest : List ℕ) → n + 1 < 100 → begins_with is_numeric rest ≡ false → BeginsWithPart (part_text n ++ rest) (n + 1) rest
+part-text n rest short stops = record {
+  after = padded_decimal 2 (n + 1) ++ rest;
+  count = 2;
+  joint = begins-itself (hyphen ∷ []) _;
+  number = padded-number 2 (n + 1) rest (omega arith) (omega arith) (omega arith) stops;
+  low = omega arith;
+  high = omega arith;
+}
 
-hyphen-stops : (rest : List ℕ) → run is_numeric (hyphen ∷ rest) ≡ []
-hyphen-stops rest = rw hyphen-numeric refl
-
-parts-stop : (m d : Option ℕ) → run is_numeric (parts_text m d) ≡ []
+parts-stop : (m d : Option ℕ) → begins_with is_numeric (parts_text m d) ≡ false
 parts-stop None d = refl
-parts-stop (Some m) None = hyphen-stops (padded_decimal 2 (m + 1))
-parts-stop (Some m) (Some d) = hyphen-stops (padded_decimal 2 (m + 1) ++ part_text d)
+parts-stop (Some m) None = hyphen-numeric
+parts-stop (Some m) (Some d) = hyphen-numeric
 
 month-low : (m : ℕ) → is_month m ≡ true → m ≤ 12
 month-low m h = let p = and-both (nat_le 1 m) (nat_le m 12) h in let q = p.1 in grind (arith, nat_tests)
@@ -142,18 +105,13 @@ day-low y m d h =
 less_one : (n : ℕ) → n + 1 - 1 ≡ n
 less_one n = omega arith
 
--- the end of a printed date reads as nothing more
-end-nil : (xs : List ℕ) → xs ++ [] ≡ xs
-end-nil [] = refl
-end-nil (x ∷ xs) = ap (λ t. x ∷ t) (end-nil xs)
-
 printed-reads : (y : ℤ) (m d : Option ℕ) (approximate : Bool) → unsigned_abs y ≤ 9999 → is_on_calendar y m d ≡ true
     → ReadsAs (opening_text approximate y (parts_text m d)) (record { year = y; month = m; day = d; approximate = approximate; season = None })
 printed-reads y None None approximate near good = year (opening-text approximate y [] near refl) refl refl
 printed-reads y None (Some d) approximate near good = cc
 printed-reads y (Some m) None approximate near good =
     let low = month-low (m + 1) good in
-    let part = subst (λ t. BeginsWithPart t (m + 1) []) (end-nil (part_text m)) (part-text m [] (omega arith) refl) in
+    let part = subst (λ t. BeginsWithPart t (m + 1) []) (append-nil (part_text m)) (part-text m [] (omega arith) refl) in
     let read = month (opening-text approximate y (part_text m) near (parts-stop (Some m) None)) refl part good refl in
     rw less_one at read
 printed-reads y (Some m) (Some d) approximate near good =
@@ -161,31 +119,20 @@ printed-reads y (Some m) (Some d) approximate near good =
     let low = month-low (m + 1) both.0 in
     let low_day = day-low y (m + 1) (d + 1) both.1 in
     let first = part-text m (part_text d) (omega arith) (parts-stop (Some d) None) in
-    let second = subst (λ t. BeginsWithPart t (d + 1) []) (end-nil (part_text d)) (part-text d [] (omega arith) refl) in
+    let second = subst (λ t. BeginsWithPart t (d + 1) []) (append-nil (part_text d)) (part-text d [] (omega arith) refl) in
     let read = day (opening-text approximate y (parts_text (Some m) (Some d)) near (parts-stop (Some m) (Some d))) first both.0 second both.1 refl in
     rw (less_one m, less_one d) at read
 
 -- ---- the bytes of a printed date are its characters
 
-ascii_one : (c : ℕ) → c < 128 → IsAscii (c ∷ [])
-ascii_one c h zero = h
-ascii_one c h (suc i) = omega arith
-
-ascii_nil : IsAscii []
-ascii_nil i = omega arith
-
 ascii_mark : (b : Bool) (c : ℕ) → c < 128 → IsAscii (mark_text b c)
-ascii_mark true c h = ascii_one c h
-ascii_mark false c h = ascii_nil
-
-ascii_digits : (width n : ℕ) → n < 2 ^ 64 → IsAscii (padded_decimal width n)
-ascii_digits width n small = IsAscii-from_digits _ (own.to _ (zeros-digits (width - length (decimal n)) (decimal n) (digits_decimal own n small)))
+ascii_mark b c h = IsAscii-if b (c ∷ []) (IsAscii-cons c [] h IsAscii-nil)
 
 ascii_part : (n : ℕ) → n + 1 < 100 → IsAscii (part_text n)
-ascii_part n short = IsAscii-append (hyphen ∷ []) (padded_decimal 2 (n + 1)) (ascii_one hyphen (omega arith)) (ascii_digits 2 (n + 1) (omega arith))
+ascii_part n short = IsAscii-append (hyphen ∷ []) (padded_decimal 2 (n + 1)) (IsAscii-cons hyphen [] (omega arith) IsAscii-nil) (IsAscii-padded 2 (n + 1) (omega arith))
 
 ascii_parts : (y : ℤ) (m d : Option ℕ) → is_on_calendar y m d ≡ true → IsAscii (parts_text m d)
-ascii_parts y None d good = ascii_nil
+ascii_parts y None d good = IsAscii-nil
 ascii_parts y (Some m) None good = let low = month-low (m + 1) good in ascii_part m (omega arith)
 ascii_parts y (Some m) (Some d) good =
     let both = and-both (is_month (m + 1)) (has_day y (m + 1) (d + 1)) good in
@@ -198,7 +145,7 @@ ascii_date d r =
     let near = r.year in
     IsAscii-append (mark_text d.approximate tilde) (year_digits d.year ++ parts_text d.month d.day) (ascii_mark d.approximate tilde (omega arith))
     (IsAscii-append (year_digits d.year) (parts_text d.month d.day)
-    (IsAscii-append (mark_text (is_negative d.year) hyphen) (padded_decimal 4 (unsigned_abs d.year)) (ascii_mark (is_negative d.year) hyphen (omega arith)) (ascii_digits 4 (unsigned_abs d.year) (omega arith)))
+    (IsAscii-append (mark_text (is_negative d.year) hyphen) (padded_decimal 4 (unsigned_abs d.year)) (ascii_mark (is_negative d.year) hyphen (omega arith)) (IsAscii-padded 4 (unsigned_abs d.year) (omega arith)))
     (ascii_parts d.year d.month d.day r.day))
 
 pub back : (d : Date) → ReadsBack d → date_read (chars (date_text d)) ≡ Ok d

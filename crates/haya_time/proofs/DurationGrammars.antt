@@ -7,12 +7,14 @@ use Rattle.std.specs.List.{list_all}
 use Rattle.std.specs.Str.{skip_leading_whitespace}
 use Rattle.haya_time.specs.declared.duration.Duration.{Duration}
 use Rattle.haya_text.specs.Characters.{is_numeric, begins_with, run, behind_run}
-use Rattle.haya_time.specs.DurationText.{colon, number, strip_sign, colons}
-use Rattle.haya_time.specs.DurationReading.{digits_at, sign_tail, with_colon, long_number, two_number, long_at, two_at, two_colon_at, minutes_at, hours_at, days_at, clock_at}
+use Rattle.haya_time.specs.DurationText.{colon, number, colons}
+use Rattle.haya_time.specs.DurationReading.{digits_at, with_colon, long_number, two_number, long_at, two_at, two_colon_at, minutes_at, hours_at, days_at, clock_at}
 use Rattle.haya_time.specs.DurationValues.{clock, from_hours, from_minutes}
-use Rattle.haya_time.specs.DurationGrammar.{IsNumber, IsSign, IsValue, AreMinutes, AreHours, AreDays, IsClock}
-use Rattle.haya_time.proofs.DurationNumbers.{both}
-use Rattle.haya_text.proofs.Numerics.{digit-numeric, run-behind_run, all-run, run-of, behind_run-of, skip-behind_run}
+use Rattle.haya_time.specs.DurationGrammar.{IsNumber, IsValue, AreMinutes, AreHours, AreDays, IsClock}
+use Rattle.haya_time.specs.TextFront.{BeginsWith, behind}
+use Rattle.haya_text.proofs.Tells.{and-both}
+use Rattle.haya_time.proofs.TextFronts.{begins, begins-behind, begins-skip, behind-begins, digit-no_space}
+use Rattle.haya_text.proofs.Numerics.{digit-numeric, run-behind_run, all-run, run-of, behind_run-of}
 
 -- optional values
 
@@ -37,22 +39,6 @@ mapped f (Some x) y h = record { x = x; was = refl; gives = cc }
 pub some_pair : {A B : Type 0} (p q : A × B) → Some p ≡ Some q → (p.0 ≡ q.0) × (p.1 ≡ q.1)
 some_pair p q h = let e : p ≡ q = cc in (ap (λ x. x.0) e, ap (λ x. x.1) e)
 
-pub digit-no_space : (c : ℕ) → is_ascii_digit c ≡ true → is_whitespace c ≡ false
-digit-no_space c h = grind (arith, nat_tests)
-
--- white space at the front
-
--- a text is white space and what is left of it
-pub space-cut : (text : List ℕ) → text ≡ run is_whitespace text ++ skip_leading_whitespace text
-space-cut text = run-behind_run is_whitespace text ∙ ap (λ x. run is_whitespace text ++ x) (sym (skip-behind_run text))
-
-pub skip-gap : (gap rest : List ℕ) → list_all is_whitespace gap ≡ true → begins_with is_whitespace rest ≡ false → skip_leading_whitespace (gap ++ rest) ≡ rest
-skip-gap [] [] h s = refl
-skip-gap [] (c ∷ cs) h s = rw s refl
-skip-gap (c ∷ cs) rest h s =
-    let p = both (is_whitespace c) (list_all is_whitespace cs) h in
-    rw p.0 (skip-gap cs rest p.1 s)
-
 no_digit : (rest : List ℕ) → begins_with is_numeric rest ≡ false → begins_with is_ascii_digit rest ≡ false
 no_digit [] h = refl
 no_digit (c ∷ cs) h = go (is_ascii_digit c) refl
@@ -71,9 +57,7 @@ number-of text ds rest h some = go (begins_with is_numeric (behind_run is_ascii_
 
     parts : begins_with is_numeric (behind_run is_ascii_digit front) ≡ false → ds ≡ run is_ascii_digit front → rest ≡ behind_run is_ascii_digit front → IsNumber text ds rest
     parts n d r = record {
-      gap = run is_whitespace text;
-      cut = space-cut text ∙ ap (λ x. run is_whitespace text ++ x) (run-behind_run is_ascii_digit front ∙ (λ i. sym d i ++ sym r i));
-      space = all-run is_whitespace text;
+      stands = begins ds text rest (run-behind_run is_ascii_digit front ∙ (λ i. sym d i ++ sym r i));
       some = some;
       ascii = rw d (all-run is_ascii_digit front);
       whole = rw r n;
@@ -88,41 +72,14 @@ number-of text ds rest h some = go (begins_with is_numeric (behind_run is_ascii_
 
 no_space_first : (ds rest : List ℕ) → 0 < length ds → list_all is_ascii_digit ds ≡ true → begins_with is_whitespace (ds ++ rest) ≡ false
 no_space_first [] rest some h = absurd (omega arith)
-no_space_first (c ∷ cs) rest some h = digit-no_space c (both (is_ascii_digit c) (list_all is_ascii_digit cs) h).0
+no_space_first (c ∷ cs) rest some h = digit-no_space c (and-both (is_ascii_digit c) (list_all is_ascii_digit cs) h).0
 
 pub number-at : (text ds rest : List ℕ) → IsNumber text ds rest → digits_at text ≡ Some (ds, rest)
 number-at text ds rest n =
-    let front : skip_leading_whitespace text ≡ ds ++ rest = ap skip_leading_whitespace n.cut ∙ skip-gap n.gap (ds ++ rest) n.space (no_space_first ds rest n.some n.ascii) in
+    let front : skip_leading_whitespace text ≡ ds ++ rest = begins-skip ds text rest (no_space_first ds rest n.some n.ascii) n.stands in
     let r : run is_ascii_digit (ds ++ rest) ≡ ds = run-of is_ascii_digit ds rest n.ascii (no_digit rest n.whole) in
     let b : behind_run is_ascii_digit (ds ++ rest) ≡ rest = behind_run-of is_ascii_digit ds rest n.ascii (no_digit rest n.whole) in
     rw (front, b, n.whole, r) refl
-
--- signs
-
-behind_sign-cut : (sign : ℕ) (cs tail : List ℕ) → strip_sign sign cs ≡ Some tail → cs ≡ sign ∷ tail
-behind_sign-cut sign [] tail h = cc
-behind_sign-cut sign (c ∷ cs) tail h = go (c == sign) refl
-  where
-    go : (b : Bool) → (c == sign) ≡ b → c ∷ cs ≡ sign ∷ tail
-    go true e =
-        let f : strip_sign sign (c ∷ cs) ≡ Some cs = rw e refl in
-        let same : c ≡ sign = grind (arith, nat_tests) in
-        let rest : cs ≡ tail = cc in
-        cc
-    go false e = let f : strip_sign sign (c ∷ cs) ≡ None = rw e refl in cc
-
-pub sign-of : (sign : ℕ) (text tail : List ℕ) → sign_tail sign text ≡ Some tail → IsSign sign text tail
-sign-of sign text tail h = record {
-  gap = run is_whitespace text;
-  cut = space-cut text ∙ ap (λ x. run is_whitespace text ++ x) (behind_sign-cut sign (skip_leading_whitespace text) tail h);
-  space = all-run is_whitespace text;
-}
-
-pub sign-at : (sign : ℕ) (text tail : List ℕ) → is_whitespace sign ≡ false → IsSign sign text tail → sign_tail sign text ≡ Some tail
-sign-at sign text tail w s =
-    let front : skip_leading_whitespace text ≡ sign ∷ tail = ap skip_leading_whitespace s.cut ∙ skip-gap s.gap (sign ∷ tail) s.space w in
-    let same : (sign == sign) ≡ true = grind (arith, nat_tests) in
-    rw (front, same) refl
 
 -- values
 
@@ -146,13 +103,13 @@ pub record TwoValue (text : List ℕ) (n : ℕ) (tail : List ℕ) : Type 0 where
   pub is : n ≡ number digits
 
 -- before a colon
-pub before_colon-of : {A : Type 0} (p q : A × List ℕ) → with_colon p ≡ Some q → IsSign colon p.1 q.1 × (q.0 ≡ p.0)
+pub before_colon-of : {A : Type 0} (p q : A × List ℕ) → with_colon p ≡ Some q → BeginsWith (colon ∷ []) p.1 q.1 × (q.0 ≡ p.0)
 before_colon-of p q h =
-    let m = mapped (λ rest. (p.0, rest)) (sign_tail colon p.1) q h in
-    (sign-of colon p.1 q.1 (m.was ∙ ap Some (ap (λ x. x.1) m.gives)), sym (ap (λ x. x.0) m.gives))
+    let m = mapped (λ rest. (p.0, rest)) (behind colon p.1) q h in
+    (behind-begins colon p.1 q.1 (m.was ∙ ap Some (ap (λ x. x.1) m.gives)), sym (ap (λ x. x.0) m.gives))
 
-pub before_colon-at : {A : Type 0} (x : A) (rest tail : List ℕ) → IsSign colon rest tail → with_colon (x, rest) ≡ Some (x, tail)
-before_colon-at x rest tail s = ap (option_map (λ t. (x, t))) (sign-at colon rest tail refl s)
+pub before_colon-at : {A : Type 0} (x : A) (rest tail : List ℕ) → BeginsWith (colon ∷ []) rest tail → with_colon (x, rest) ≡ Some (x, tail)
+before_colon-at x rest tail s = ap (option_map (λ t. (x, t))) (begins-behind colon rest tail refl s)
 
 record Long (least : ℕ) (p : List ℕ × List ℕ) (q : ℕ × List ℕ) : Type 0 where
   enough : least ≤ length p.0
@@ -178,7 +135,7 @@ long-of least text q pos h =
     let b = through (long_number least) (digits_at text) a.x a.was in
     let n = long_number-of least b.x a.x b.gives in
     let c = before_colon-of a.x q a.gives in
-    let s : IsSign colon b.x.1 q.1 = rw n.same at c.0 in
+    let s : BeginsWith (colon ∷ []) b.x.1 q.1 = rw n.same at c.0 in
     record {
       digits = b.x.0;
       value = record { rest = b.x.1; number = number-of text b.x.0 b.x.1 b.was (omega (arith, n.enough)); sign = s };

@@ -1,6 +1,5 @@
 -- The computed readings of durations and ranges are those of the grammar.
-use Rattle.std.proofs.Common.{◌≡◌, ℕ, ◌<◌, ◌==◌, ◌⊎◌, inl, inr, Bool, true, false, ◌||◌, List, [], ◌∷◌, ◌++◌, length, refl, ap, sym, ◌∙◌, arith, Option, Some, None, Result, Ok, Err}
-use Rattle.std.proofs.lemmas.List.{append-nil}
+use Rattle.std.proofs.Common.{◌≡◌, ℕ, ◌<◌, ◌==◌, ◌⊎◌, inl, inr, Bool, true, false, ◌||◌, List, [], ◌∷◌, length, refl, ap, sym, ◌∙◌, arith, Option, Some, None, Result, Ok, Err}
 use Rattle.std.specs.Prelude.{is_some}
 use Rattle.std.specs.Char.{is_whitespace}
 use Rattle.std.specs.List.{list_all}
@@ -10,16 +9,18 @@ use Rattle.haya_time.specs.declared.duration.range.DurationRange.{DurationRange}
 use Rattle.haya_time.specs.declared.duration.reading.DurationError.{DurationError}
 use Rattle.haya_time.specs.declared.duration.reading.DurationError.TheVariants.{Malformed, TooLarge}
 use Rattle.haya_text.specs.Characters.{comma, hyphen, run, behind_run}
-use Rattle.haya_time.specs.DurationText.{is_empty}
-use Rattle.haya_time.specs.DurationReading.{digits_at, sign_tail, clock_at, Front, fraction_front, with_fraction, front_at, is_ended, check_bounds, duration_read, is_start, range_to, range_from, range_read}
+use Rattle.haya_time.specs.TextFront.{BeginsWith, IsBlank, behind, is_empty}
+use Rattle.haya_time.specs.DurationReading.{digits_at, clock_at, Front, fraction_front, with_fraction, front_at, is_ended, check_bounds, duration_read, is_start, range_to, range_from, range_read}
 use Rattle.haya_time.specs.DurationValues.{milliseconds, is_too_large}
-use Rattle.haya_time.specs.DurationGrammar.{IsSign, IsClock, IsFraction, IsDuration, ReadsAs, ReadsTooLarge, IsStart, HasTwoTexts, IsOneDuration, ReadsAsRange, HasLargeStart, RangeTooLarge}
+use Rattle.haya_time.specs.DurationGrammar.{IsClock, IsFraction, IsDuration, ReadsAs, ReadsTooLarge, IsStart, HasTwoTexts, IsOneDuration, ReadsAsRange, HasLargeStart, RangeTooLarge}
 use Rattle.haya_text.proofs.Numerics.{run-behind_run, all-run, behind_run-of, behind_run-stops}
-use Rattle.haya_time.proofs.DurationGrammars.{Through, through, number-of, number-at, sign-of, sign-at, clock-of, clock-at, space-cut, skip-gap}
+use Rattle.haya_time.proofs.DurationGrammars.{Through, through, number-of, number-at, clock-of, clock-at}
+use Rattle.haya_time.proofs.DurationNumbers.{some-same}
+use Rattle.haya_time.proofs.TextFronts.{begins-behind, begins-skip, behind-begins, blank-skipped, blank_by_rest}
 
 -- the duration at the front
 
-pub front-clock : (text : List ℕ) (d : Duration) (rest : List ℕ) → IsClock text d rest → sign_tail comma rest ≡ None → front_at text ≡ Some (record { duration = d; has_fraction = false; rest = rest })
+pub front-clock : (text : List ℕ) (d : Duration) (rest : List ℕ) → IsClock text d rest → behind comma rest ≡ None → front_at text ≡ Some (record { duration = d; has_fraction = false; rest = rest })
 front-clock text d rest v none = rw (clock-at text d rest v, none) refl
 
 empty_not : (cs : List ℕ) → 0 < length cs → is_empty cs ≡ false
@@ -36,7 +37,7 @@ empty-nil (c ∷ cs) h = cc
 
 pub front-fraction : (text : List ℕ) (d : Duration) (rest : List ℕ) → IsFraction text d rest → front_at text ≡ Some (record { duration = d; has_fraction = true; rest = rest })
 front-fraction text d rest v =
-    rw (clock-at text v.seconds v.behind_seconds v.values, sign-at comma v.behind_seconds v.tail refl v.sign, number-at v.tail v.fraction rest v.last, empty_not v.fraction v.last.some, v.value) refl
+    rw (clock-at text v.seconds v.behind_seconds v.values, begins-behind comma v.behind_seconds v.tail refl v.sign, number-at v.tail v.fraction rest v.last, empty_not v.fraction v.last.some, v.value) refl
 
 pub record HasFraction (text : List ℕ) (f : Front) : Type 0 where
   pub has : f.has_fraction ≡ true
@@ -45,31 +46,28 @@ pub record HasFraction (text : List ℕ) (f : Front) : Type 0 where
 pub record HasNone (text : List ℕ) (f : Front) : Type 0 where
   pub hasnt : f.has_fraction ≡ false
   pub values : IsClock text f.duration f.rest
-  pub no_comma : sign_tail comma f.rest ≡ None
-
-some_same : {A : Type 0} (x y : A) → Some x ≡ Some y → x ≡ y
-some_same x y h = cc
+  pub no_comma : behind comma f.rest ≡ None
 
 fraction-of : (d : Duration) (p : List ℕ × List ℕ) (f : Front) → fraction_front d p ≡ Some f → (is_empty p.0 ≡ false) × (f ≡ record { duration = record d { milliseconds = milliseconds p.0 }; has_fraction = true; rest = p.1 })
 fraction-of d p f h = go (is_empty p.0) refl
   where
     go : (b : Bool) → is_empty p.0 ≡ b → (is_empty p.0 ≡ false) × (f ≡ record { duration = record d { milliseconds = milliseconds p.0 }; has_fraction = true; rest = p.1 })
     go true e = let none : fraction_front d p ≡ None = rw e refl in cc
-    go false e = (e, some_same _ _ (sym h ∙ rw e refl))
+    go false e = (e, some-same _ _ (sym h ∙ rw e refl))
 
 pub front-of : (text : List ℕ) (f : Front) → front_at text ≡ Some f → HasFraction text f ⊎ HasNone text f
-front-of text f h = go (sign_tail comma a.x.1) refl a.gives
+front-of text f h = go (behind comma a.x.1) refl a.gives
   where
-    a : Through (λ p. with_fraction p.0 p.1 (sign_tail comma p.1)) (clock_at text) f
-    a = through (λ p. with_fraction p.0 p.1 (sign_tail comma p.1)) (clock_at text) f h
+    a : Through (λ p. with_fraction p.0 p.1 (behind comma p.1)) (clock_at text) f
+    a = through (λ p. with_fraction p.0 p.1 (behind comma p.1)) (clock_at text) f h
 
     values : IsClock text a.x.0 a.x.1
     values = clock-of text a.x a.was
 
-    go : (o : Option (List ℕ)) → sign_tail comma a.x.1 ≡ o → with_fraction a.x.0 a.x.1 o ≡ Some f → HasFraction text f ⊎ HasNone text f
+    go : (o : Option (List ℕ)) → behind comma a.x.1 ≡ o → with_fraction a.x.0 a.x.1 o ≡ Some f → HasFraction text f ⊎ HasNone text f
     go None e g =
         let plain : Front = record { duration = a.x.0; has_fraction = false; rest = a.x.1 } in
-        let same : plain ≡ f = some_same plain f g in
+        let same : plain ≡ f = some-same plain f g in
         let none : HasNone text plain = record { hasnt = refl; values = values; no_comma = e } in
         inr (rw same at none)
     go (Some tail) e g =
@@ -84,7 +82,7 @@ front-of text f h = go (sign_tail comma a.x.1) refl a.gives
             fraction = b.x.0;
             tail = tail;
             values = values;
-            sign = sign-of comma a.x.1 tail e;
+            sign = behind-begins comma a.x.1 tail e;
             last = number-of tail b.x.0 b.x.1 b.was (some_first b.x.0 p.0);
             value = refl;
           };
@@ -94,17 +92,9 @@ front-of text f h = go (sign_tail comma a.x.1) refl a.gives
 
 -- a whole duration
 
-skip_all : (gap : List ℕ) → list_all is_whitespace gap ≡ true → skip_leading_whitespace gap ≡ []
-skip_all gap h = ap skip_leading_whitespace (sym (append-nil gap)) ∙ skip-gap gap [] h refl
-
-all_space : (text : List ℕ) → skip_leading_whitespace text ≡ [] → list_all is_whitespace text ≡ true
-all_space text e =
-    let cut : text ≡ run is_whitespace text = space-cut text ∙ ap (λ x. run is_whitespace text ++ x) e ∙ append-nil (run is_whitespace text) in
-    ap (list_all is_whitespace) cut ∙ all-run is_whitespace text
-
 pub duration-bounded : (text : List ℕ) (d : Duration) → IsDuration text d → duration_read text ≡ check_bounds d
 duration-bounded text d (inl v) = rw (front-clock text d [] v refl) refl
-duration-bounded text d (inr v) = rw (front-fraction text d v.gap v.parts, skip_all v.gap v.space) refl
+duration-bounded text d (inr v) = rw (front-fraction text d v.gap v.parts, v.space) refl
 
 pub record Found (text : List ℕ) : Type 0 where
   pub duration : Duration
@@ -112,8 +102,7 @@ pub record Found (text : List ℕ) : Type 0 where
 
 ended : (text : List ℕ) (f : Front) → is_ended f ≡ true → HasFraction text f ⊎ HasNone text f → Found text
 ended text f e (inl v) =
-    let left : skip_leading_whitespace f.rest ≡ [] = empty-nil (skip_leading_whitespace f.rest) (rw v.has at e) in
-    record { duration = f.duration; parts = inr (record { gap = f.rest; parts = v.parts; space = all_space f.rest left }) }
+    record { duration = f.duration; parts = inr (record { gap = f.rest; parts = v.parts; space = rw v.has at e }) }
 ended text f e (inr v) =
     let nothing : f.rest ≡ [] = empty-nil f.rest (rw v.hasnt at e) in
     let values : IsClock text f.duration [] = rw nothing at v.values in
@@ -188,9 +177,6 @@ reads-malformed text h = go (decide text)
 
 -- a range
 
-is_some_at : {A : Type 0} (o : Option A) (x : A) → o ≡ Some x → is_some o ≡ true
-is_some_at o x e = rw e refl
-
 -- a start is read as such
 pub record StartAt (text : List ℕ) (d : Duration) (rest : List ℕ) : Type 0 where
   pub front : Front
@@ -203,15 +189,15 @@ or_true : (a : Bool) → (a || true) ≡ true
 or_true true = refl
 or_true false = refl
 
-no_comma : (rest tail : List ℕ) → skip_leading_whitespace rest ≡ hyphen ∷ tail → sign_tail comma rest ≡ None
+no_comma : (rest tail : List ℕ) → skip_leading_whitespace rest ≡ hyphen ∷ tail → behind comma rest ≡ None
 no_comma rest tail e = rw e refl
 
-hyphen-first : (rest tail : List ℕ) → IsSign hyphen rest tail → skip_leading_whitespace rest ≡ hyphen ∷ tail
-hyphen-first rest tail s = ap skip_leading_whitespace s.cut ∙ skip-gap s.gap (hyphen ∷ tail) s.space refl
+hyphen-first : (rest tail : List ℕ) → BeginsWith (hyphen ∷ []) rest tail → skip_leading_whitespace rest ≡ hyphen ∷ tail
+hyphen-first rest tail s = begins-skip (hyphen ∷ []) rest tail refl s
 
 start-at : (text : List ℕ) (d : Duration) (rest : List ℕ) → IsStart text d rest → StartAt text d rest
 start-at text d rest (inl v) =
-    let none : sign_tail comma rest ≡ None = rw v.1 refl in
+    let none : behind comma rest ≡ None = rw v.1 refl in
     record {
       front = record { duration = d; has_fraction = false; rest = rest };
       was = front-clock text d rest v.0 none;
@@ -221,7 +207,7 @@ start-at text d rest (inl v) =
     }
 start-at text d rest (inr (inl v)) =
     let first = hyphen-first rest v.tail v.sign in
-    let some : is_some (sign_tail hyphen rest) ≡ true = rw first refl in
+    let some : is_some (behind hyphen rest) ≡ true = rw first refl in
     record {
       front = record { duration = d; has_fraction = false; rest = rest };
       was = front-clock text d rest v.values (no_comma rest v.tail first);
@@ -247,9 +233,9 @@ start-of text f h s = go (front-of text f h)
     plain : (v : HasNone text f) → (b : Bool) → is_empty f.rest ≡ b → IsStart text f.duration f.rest
     plain v true e = inl (v.values, empty-nil f.rest e)
     plain v false e =
-        let some : is_some (sign_tail hyphen f.rest) ≡ true = rw (v.hasnt, e) at s in
-        let p = some_from (sign_tail hyphen f.rest) some in
-        inr (inl (record { values = v.values; tail = p.0; sign = sign-of hyphen f.rest p.0 p.1 }))
+        let some : is_some (behind hyphen f.rest) ≡ true = rw (v.hasnt, e) at s in
+        let p = some_from (behind hyphen f.rest) some in
+        inr (inl (record { values = v.values; tail = p.0; sign = behind-begins hyphen f.rest p.0 p.1 }))
 
     go : HasFraction text f ⊎ HasNone text f → IsStart text f.duration f.rest
     go (inl v) = inr (inr v.parts)
@@ -265,9 +251,9 @@ range-start text d rest v =
 pub range-large : (text : List ℕ) → HasLargeStart text → range_read text ≡ Err TooLarge
 range-large text (d, rest, v, large) = range-start text d rest v ∙ ap (λ b. range_from b rest) (bounded-large d large)
 
-whole-start : (text : List ℕ) (d : Duration) → IsDuration text d → (rest : List ℕ) × IsStart text d rest × (skip_leading_whitespace rest ≡ [])
+whole-start : (text : List ℕ) (d : Duration) → IsDuration text d → (rest : List ℕ) × IsStart text d rest × IsBlank rest
 whole-start text d (inl v) = ([], inl (v, refl), refl)
-whole-start text d (inr v) = (v.gap, inr (inr v.parts), skip_all v.gap v.space)
+whole-start text d (inr v) = (v.gap, inr (inr v.parts), v.space)
 
 pub range-one : (text : List ℕ) (r : DurationRange) → IsOneDuration text r → range_read text ≡ Ok r
 range-one text r v =
@@ -281,7 +267,8 @@ pub range-two : (text : List ℕ) (start : Duration) (end_text : List ℕ) → H
 range-two text start end_text v bounds =
     let first = hyphen-first v.rest v.tail v.sign in
     let tail : behind_run (λ c. c == hyphen) v.tail ≡ end_text = ap (behind_run (λ c. c == hyphen)) v.cut ∙ behind_run-of (λ c. c == hyphen) v.hyphens end_text v.more v.all_hyphens in
-    let longer : range_from (Ok start) v.rest ≡ range_to start (duration_read (behind_run (λ c. c == hyphen) v.tail)) = rw first refl in
+    let more = blank_by_rest v.rest ∙ ap is_empty first in
+    let longer : range_from (Ok start) v.rest ≡ range_to start (duration_read (behind_run (λ c. c == hyphen) v.tail)) = rw (more, first) refl in
     range-start text start v.rest v.front ∙ ap (λ b. range_from b v.rest) (bounded-ok start bounds) ∙ longer ∙ ap (λ t. range_to start (duration_read t)) tail
 
 -- what a range's text is
@@ -300,8 +287,8 @@ abbrev pub RangeFound : List ℕ → Type 0
 RangeFound text = HasLargeStart text ⊎ OneFound text ⊎ TwoFound text
 
 -- a start with nothing but white space behind it, and without any where it has no fraction
-whole-of : (text : List ℕ) (f : Front) → front_at text ≡ Some f → is_start f ≡ true → skip_leading_whitespace f.rest ≡ [] → IsDuration text f.duration
-whole-of text f h s left = go (front-of text f h)
+whole-of : (text : List ℕ) (f : Front) → front_at text ≡ Some f → is_start f ≡ true → IsBlank f.rest → IsDuration text f.duration
+whole-of text f h s blank = go (front-of text f h)
   where
     plain : (v : HasNone text f) → (b : Bool) → is_empty f.rest ≡ b → IsDuration text f.duration
     plain v true e =
@@ -309,18 +296,18 @@ whole-of text f h s left = go (front-of text f h)
         let values : IsClock text f.duration [] = rw nothing at v.values in
         inl values
     plain v false e =
-        let some : is_some (sign_tail hyphen f.rest) ≡ true = rw (v.hasnt, e) at s in
-        let none : is_some (sign_tail hyphen f.rest) ≡ false = rw left refl in
+        let some : is_some (behind hyphen f.rest) ≡ true = rw (v.hasnt, e) at s in
+        let none : is_some (behind hyphen f.rest) ≡ false = rw (blank-skipped f.rest blank) refl in
         cc
 
     go : HasFraction text f ⊎ HasNone text f → IsDuration text f.duration
-    go (inl v) = inr (record { gap = f.rest; parts = v.parts; space = all_space f.rest left })
+    go (inl v) = inr (record { gap = f.rest; parts = v.parts; space = blank })
     go (inr v) = plain v (is_empty f.rest) refl
 
 pub range-decide : (text : List ℕ) → RangeFound text ⊎ (range_read text ≡ Err Malformed)
 range-decide text = go (front_at text) refl
   where
-    two : (f : Front) → front_at text ≡ Some f → is_start f ≡ true → is_too_large f.duration ≡ false → is_empty (skip_leading_whitespace f.rest) ≡ false → (o : Option (List ℕ)) → sign_tail hyphen f.rest ≡ o → RangeFound text ⊎ (range_read text ≡ Err Malformed)
+    two : (f : Front) → front_at text ≡ Some f → is_start f ≡ true → is_too_large f.duration ≡ false → list_all is_whitespace f.rest ≡ false → (o : Option (List ℕ)) → behind hyphen f.rest ≡ o → RangeFound text ⊎ (range_read text ≡ Err Malformed)
     two f e s b n None g =
         let v = start-of text f e s in
         inr (range-start text f.duration f.rest v ∙ ap (λ x. range_from x f.rest) (bounded-ok f.duration b) ∙ rw (n, g) refl)
@@ -332,7 +319,7 @@ range-decide text = go (front_at text) refl
         tail = tail;
         hyphens = run (λ c. c == hyphen) tail;
         front = start-of text f e s;
-        sign = sign-of hyphen f.rest tail g;
+        sign = behind-begins hyphen f.rest tail g;
         cut = run-behind_run (λ c. c == hyphen) tail;
         more = all-run (λ c. c == hyphen) tail;
         all_hyphens = behind_run-stops (λ c. c == hyphen) tail;
@@ -340,15 +327,13 @@ range-decide text = go (front_at text) refl
       bounds = b;
     })))
 
-    fits : (f : Front) → front_at text ≡ Some f → is_start f ≡ true → is_too_large f.duration ≡ false → (n : Bool) → is_empty (skip_leading_whitespace f.rest) ≡ n → RangeFound text ⊎ (range_read text ≡ Err Malformed)
-    fits f e s b true n =
-        let left = empty-nil (skip_leading_whitespace f.rest) n in
-        inl (inr (inl (record { duration = f.duration; reads = (whole-of text f e s left, b) })))
-    fits f e s b false n = two f e s b n (sign_tail hyphen f.rest) refl
+    fits : (f : Front) → front_at text ≡ Some f → is_start f ≡ true → is_too_large f.duration ≡ false → (n : Bool) → list_all is_whitespace f.rest ≡ n → RangeFound text ⊎ (range_read text ≡ Err Malformed)
+    fits f e s b true n = inl (inr (inl (record { duration = f.duration; reads = (whole-of text f e s n, b) })))
+    fits f e s b false n = two f e s b n (behind hyphen f.rest) refl
 
     starts : (f : Front) → front_at text ≡ Some f → is_start f ≡ true → (b : Bool) → is_too_large f.duration ≡ b → RangeFound text ⊎ (range_read text ≡ Err Malformed)
     starts f e s true b = inl (inl (f.duration, f.rest, start-of text f e s, b))
-    starts f e s false b = fits f e s b (is_empty (skip_leading_whitespace f.rest)) refl
+    starts f e s false b = fits f e s b (list_all is_whitespace f.rest) refl
 
     by : (f : Front) → front_at text ≡ Some f → (s : Bool) → is_start f ≡ s → RangeFound text ⊎ (range_read text ≡ Err Malformed)
     by f e true s = starts f e s (is_too_large f.duration) refl

@@ -1,5 +1,5 @@
 -- Numbers by their digits, and the rounding of a fraction.
-use Rattle.std.proofs.Common.{◌≡◌, ◌≢◌, ℕ, ◌+◌, ◌*◌, ◌/◌, ◌^◌, ◌<◌, ◌≤◌, nat_lt, Bool, true, false, ◌&&◌, cond, List, [], ◌∷◌, length, get_or, refl, ap, sym, ◌∙◌, zero, suc, arith, Some, None, Result, Ok, Err}
+use Rattle.std.proofs.Common.{◌≡◌, ◌≢◌, ℕ, ◌+◌, ◌*◌, ◌/◌, ◌^◌, ◌<◌, ◌≤◌, nat_lt, true, false, cond, List, [], ◌∷◌, length, get_or, refl, ap, sym, ◌∙◌, zero, suc, arith, Some, None, Result, Ok, Err}
 use Rattle.std.proofs.Math.Nat.{mul-le-mul_left, mul-le-mul_right, pow-succ'}
 use Rattle.std.proofs.lemmas.Bool.Decides.{nat_tests}
 use Rattle.std.proofs.lemmas.Int.Digits.{digits_value-lt}
@@ -8,9 +8,11 @@ use Rattle.std.proofs.lemmas.Str.Parse.{without_leading_plus_none}
 use Rattle.std.specs.Char.{is_ascii_digit, digit_value}
 use Rattle.std.specs.List.{list_all}
 use Rattle.std.specs.Result.{result_ok, OkIff}
-use Rattle.std.specs.Str.Parse.{AllDigits, IsNumeral, ParsesUnsigned, digits_value_after, without_leading_plus}
+use Rattle.std.specs.Str.Parse.{IsNumeral, ParsesUnsigned, digits_value_after, without_leading_plus}
 use Rattle.haya_time.specs.DurationText.{number}
 use Rattle.haya_time.specs.DurationValues.{milliseconds}
+use Rattle.haya_text.proofs.Tells.{and-both}
+use Rattle.haya_time.proofs.PrintedParts.{digits_model}
 
 pub digit_small : (c : ℕ) → is_ascii_digit c ≡ true → digit_value c < 10
 digit_small c h = grind (arith, nat_tests)
@@ -18,24 +20,14 @@ digit_small c h = grind (arith, nat_tests)
 pub digit_is : (c : ℕ) → is_ascii_digit c ≡ true → digit_value c + 48 ≡ c
 digit_is c h = grind (arith, nat_tests)
 
-pub both : (a b : Bool) → (a && b) ≡ true → (a ≡ true) × (b ≡ true)
-both true b h = (refl, h)
-both false b h = cc
-
-pub AllDigits-list_all : (ds : List ℕ) → list_all is_ascii_digit ds ≡ true → AllDigits 10 ds
-AllDigits-list_all [] h = tt
-AllDigits-list_all (c ∷ cs) h =
-    let p = both (is_ascii_digit c) (list_all is_ascii_digit cs) h in
-    (digit_small c p.0, AllDigits-list_all cs p.1)
-
 -- digits are a number below a power of ten
 pub number-lt : (ds : List ℕ) → list_all is_ascii_digit ds ≡ true → number ds < 10 ^ length ds
-number-lt ds h = digits_value-lt 10 ds (AllDigits-list_all ds h)
+number-lt ds h = digits_value-lt 10 ds (digits_model.to ds h)
 
 no_plus : (ds : List ℕ) → list_all is_ascii_digit ds ≡ true → without_leading_plus ds ≡ ds
 no_plus [] h = refl
 no_plus (c ∷ cs) h =
-    let p = both (is_ascii_digit c) (list_all is_ascii_digit cs) h in
+    let p = and-both (is_ascii_digit c) (list_all is_ascii_digit cs) h in
     let other : get_or (c ∷ cs) 0 0 ≢ 43 = grind (arith, nat_tests) in
     without_leading_plus_none (c ∷ cs) other
 
@@ -51,7 +43,7 @@ parsed {E} k ds r h some p = go r (rw (no_plus ds h) at p)
 
     go : (r : Result ℕ E) → OkIff r (IsNumeral 10 ds × (number ds < 2 ^ k)) (number ds) → result_ok r ≡ cond (nat_lt (number ds) (2 ^ k)) (Some (number ds)) None
     go (Ok x) p = small x p.0.1 p.1
-    go (Err e) p = sym (large (λ l. p ((some, AllDigits-list_all ds h), l)))
+    go (Err e) p = sym (large (λ l. p ((some, digits_model.to ds h), l)))
 
 -- a number goes on with digits
 goes_on : (n d P v w : ℕ) → v ≡ (n * 10 + d) * P + w → v ≡ n * (10 * P) + (d * P + w)
@@ -108,10 +100,10 @@ rounded (a ∷ b ∷ c ∷ []) h = omega arith
 rounded (a ∷ b ∷ c ∷ d ∷ rest) h =
     let P : ℕ = 10 ^ length rest in
     let n : ℕ = (((0 * 10 + digit_value a) * 10 + digit_value b) * 10 + digit_value c) * 10 + digit_value d in
-    let pb = both (is_ascii_digit a) (list_all is_ascii_digit (b ∷ c ∷ d ∷ rest)) h in
-    let pc = both (is_ascii_digit b) (list_all is_ascii_digit (c ∷ d ∷ rest)) pb.1 in
-    let pd = both (is_ascii_digit c) (list_all is_ascii_digit (d ∷ rest)) pc.1 in
-    let pr = both (is_ascii_digit d) (list_all is_ascii_digit rest) pd.1 in
+    let pb = and-both (is_ascii_digit a) (list_all is_ascii_digit (b ∷ c ∷ d ∷ rest)) h in
+    let pc = and-both (is_ascii_digit b) (list_all is_ascii_digit (c ∷ d ∷ rest)) pb.1 in
+    let pd = and-both (is_ascii_digit c) (list_all is_ascii_digit (d ∷ rest)) pc.1 in
+    let pr = and-both (is_ascii_digit d) (list_all is_ascii_digit rest) pd.1 in
     let first : tenths 1000 (a ∷ b ∷ c ∷ d ∷ rest) ≡ n = omega (arith, tenths_zero rest) in
     let whole : number (a ∷ b ∷ c ∷ d ∷ rest) ≡ n * P + number rest = value_after n rest in
     let power : 10 ^ length (a ∷ b ∷ c ∷ d ∷ rest) ≡ 10000 * P = four_more (length rest) in
@@ -138,5 +130,5 @@ two-parsed ds h e =
 pub none-some : (x : ℕ) → None ≡ Some x → ⊥
 none-some x h = cc
 
-pub some-same : (x y : ℕ) → Some x ≡ Some y → x ≡ y
+pub some-same : {A : Type 0} (x y : A) → Some x ≡ Some y → x ≡ y
 some-same x y h = cc

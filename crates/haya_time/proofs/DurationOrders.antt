@@ -1,5 +1,5 @@
 -- Equality and order of durations go by all their values.
-use Rattle.std.proofs.Common.{◌≡◌, ℕ, ◌==◌, nat_lt, Bool, true, false, refl, ap, sym, ◌∙◌, arith}
+use Rattle.std.proofs.Common.{◌≡◌, ℕ, ◌==◌, nat_lt, Bool, true, false, refl, ap, sym, ◌∙◌, arith, eqb-true, eq-eqb}
 use Rattle.std.proofs.lemmas.Bool.Decides.{nat_tests}
 use Rattle.std.specs.declared.cmp.Ordering.{Ordering}
 use Rattle.std.specs.declared.cmp.Ordering.TheVariants.{Less, Equal, Greater}
@@ -9,34 +9,28 @@ use Rattle.haya_time.specs.declared.duration.range.DurationRange.{DurationRange}
 use Rattle.haya_time.specs.contracts.duration.DurationPartialEq.TheImpl as duration
 use Rattle.haya_time.specs.contracts.duration.range.DurationRangePartialEq.TheImpl as range
 use Rattle.haya_time.specs.DurationOrder.{duration_cmp, total_milliseconds}
-use Rattle.haya_time.proofs.DurationNumbers.{both}
+use Rattle.haya_text.proofs.Tells.{and-both}
 
 from_values : (a b : Duration) → a.days ≡ b.days → a.hours ≡ b.hours → a.minutes ≡ b.minutes → a.seconds ≡ b.seconds → a.milliseconds ≡ b.milliseconds → a ≡ b
 from_values a b d h m s ms i = record { days = d i; hours = h i; minutes = m i; seconds = s i; milliseconds = ms i }
 
-numbers_same : (x y : ℕ) → (x == y) ≡ true → x ≡ y
-numbers_same x y h = grind (arith, nat_tests)
-
-number_same : (x : ℕ) → (x == x) ≡ true
-number_same x = grind (arith, nat_tests)
-
 pub eq-same : (a b : Duration) → duration.ghosts.eq a b ≡ true → a ≡ b
 eq-same a b h =
-    let p = both (a.days == b.days) _ h in
-    let q = both (a.hours == b.hours) _ p.1 in
-    let r = both (a.minutes == b.minutes) _ q.1 in
-    let s = both (a.seconds == b.seconds) _ r.1 in
-    from_values a b (numbers_same _ _ p.0) (numbers_same _ _ q.0) (numbers_same _ _ r.0) (numbers_same _ _ s.0) (numbers_same _ _ s.1)
+    let p = and-both (a.days == b.days) _ h in
+    let q = and-both (a.hours == b.hours) _ p.1 in
+    let r = and-both (a.minutes == b.minutes) _ q.1 in
+    let s = and-both (a.seconds == b.seconds) _ r.1 in
+    from_values a b (eqb-true _ _ p.0) (eqb-true _ _ q.0) (eqb-true _ _ r.0) (eqb-true _ _ s.0) (eqb-true _ _ s.1)
 
 eq-itself : (a : Duration) → duration.ghosts.eq a a ≡ true
-eq-itself a = rw (number_same a.days, number_same a.hours, number_same a.minutes, number_same a.seconds, number_same a.milliseconds) refl
+eq-itself a = rw (eq-eqb a.days a.days refl, eq-eqb a.hours a.hours refl, eq-eqb a.minutes a.minutes refl, eq-eqb a.seconds a.seconds refl, eq-eqb a.milliseconds a.milliseconds refl) refl
 
 pub same-eq : (a b : Duration) → a ≡ b → duration.ghosts.eq a b ≡ true
 same-eq a b e = ap (duration.ghosts.eq a) (sym e) ∙ eq-itself a
 
 pub range_eq-same : (a b : DurationRange) → range.ghosts.eq a b ≡ true → a ≡ b
 range_eq-same a b h =
-    let p = both (duration.ghosts.eq a.start b.start) (duration.ghosts.eq a.end b.end) h in
+    let p = and-both (duration.ghosts.eq a.start b.start) (duration.ghosts.eq a.end b.end) h in
     let s = eq-same a.start b.start p.0 in
     let e = eq-same a.end b.end p.1 in
     λ i. record { start = s i; end = e i }
@@ -63,7 +57,7 @@ nat_cmp-equal x y h = go (nat_lt x y) refl (x == y) refl
 nat_cmp-itself : (x : ℕ) → nat_cmp x x ≡ Equal
 nat_cmp-itself x =
     let l : nat_lt x x ≡ false = grind (arith, nat_tests) in
-    rw (l, number_same x) refl
+    rw (l, eq-eqb x x refl) refl
 
 pub equal-same : (a b : Duration) → duration_cmp a b ≡ Equal → a ≡ b
 equal-same a b h =

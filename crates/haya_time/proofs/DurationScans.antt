@@ -1,10 +1,10 @@
 -- Runs at the front of a text, by its characters and by its bytes.
 use Rattle.std.proofs.Common.{◌≡◌, ℕ, ◌-◌, ◌<◌, Bool, true, false, List, [], ◌∷◌, ◌++◌, Some, None, length, get_or, zero, suc, refl, ap, sym, ◌∙◌, arith, take, drop, length-append}
 use Rattle.std.proofs.lemmas.Bool.Decides.{nat_tests}
-use Rattle.std.proofs.lemmas.Str.{encodes-chars, encodes-append, encodes-IsAscii, chars_from_encodes, IsCharBoundary-at_seam}
+use Rattle.std.proofs.lemmas.Str.{encodes-chars, encodes-append, encodes-IsAscii, IsCharBoundary-at_seam}
 use Rattle.std.proofs.Math.Seq.{take-append_seam, drop-append_seam}
 use Rattle.std.specs.Char.{is_ascii_digit}
-use Rattle.std.specs.Str.{IsUtf8, IsAscii, IsCharBoundary, chars, encode_utf8_all, skip_leading_whitespace, trim_start}
+use Rattle.std.specs.Str.{IsUtf8, IsAscii, IsCharBoundary, chars, encode_utf8_all, skip_leading_whitespace}
 use Rattle.haya_text.specs.Characters.{is_numeric, begins_with, run, behind_run}
 use Rattle.haya_text.proofs.Numerics.{run-behind_run}
 use Rattle.haya_time.specs.DurationReading.{digits_at}
@@ -17,11 +17,6 @@ IsAscii-run (c ∷ cs) i = go (is_ascii_digit c) refl (IsAscii-run cs) i
     go true h rest zero = rw h (grind (arith, nat_tests))
     go true h rest (suc i) = rw h (rest i)
     go false h rest i = rw h (omega arith)
-
--- the characters of a trimmed text
-pub chars-trim_start : (text left : List ℕ) → IsUtf8 left → left ≡ trim_start text → chars left ≡ skip_leading_whitespace (chars text)
-unfolding trim_start
-chars-trim_start text left u e = sym (chars_from_encodes (skip_leading_whitespace (chars text)) left u (sym e))
 
 -- the bytes of the digits at the front of a text are their characters
 pub digits-cut : (text rest : List ℕ) → IsUtf8 text → IsUtf8 rest → chars rest ≡ behind_run is_ascii_digit (chars text) → text ≡ run is_ascii_digit (chars text) ++ rest

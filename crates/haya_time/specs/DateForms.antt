@@ -1,25 +1,14 @@
 -- The forms of a date's text, and its faults.
-use Rattle.std.specs.Prelude.{◌≡◌, ℕ, ◌-◌, ◌≤◌, Bool, true, false, ◌==◌, if◌then◌else◌, List, [], ◌∷◌, ◌++◌, length, Option, Some, None, ℤ, pos, neg_ℤ, ◌+ℤ◌, int_lt}
-use Rattle.std.specs.Char.{is_whitespace}
-use Rattle.std.specs.List.{list_all}
+use Rattle.std.specs.Prelude.{◌≡◌, ℕ, ◌-◌, ◌≤◌, Bool, true, false, ◌==◌, if◌then◌else◌, List, [], ◌∷◌, length, Option, Some, None, ℤ, pos, neg_ℤ, ◌+ℤ◌, int_lt}
 use Rattle.std.specs.Str.{all_ascii_digits}
 use Rattle.std.specs.Str.Parse.{digits_value}
 use Rattle.haya_time.specs.declared.date.Date.{Date}
 use Rattle.haya_time.specs.declared.date.DateError.{DateError}
 use Rattle.haya_time.specs.declared.date.DateError.TheVariants.{UnknownFormat, MonthOutOfBounds, DayOutOfBounds}
 use Rattle.haya_time.specs.DateCalendar.{is_month, has_day}
-use Rattle.haya_text.specs.Characters.{is_numeric, hyphen, run}
+use Rattle.haya_text.specs.Characters.{begins_with, is_numeric, hyphen}
 use Rattle.haya_time.specs.DateText.{plus_sign, tilde}
-
--- white space and nothing else
-abbrev pub IsBlank : List ℕ → Type 0
-IsBlank cs = list_all is_whitespace cs ≡ true
-
--- the text begins with this part, perhaps behind white space, and goes on with the rest
-pub record BeginsWith (part text rest : List ℕ) : Type 0 where
-  pub blank : List ℕ
-  pub white : IsBlank blank
-  pub joined : text ≡ blank ++ (part ++ rest)
+use Rattle.haya_time.specs.TextFront.{BeginsWith, IsBlank}
 
 -- whether the text begins with that character, and what follows
 pub data HasMark : ℕ → List ℕ → Bool → List ℕ → Type 0 where
@@ -38,7 +27,7 @@ pub record BeginsWithNumber (text : List ℕ) (count value : ℕ) (rest : List �
   pub digits : List ℕ
   pub stands : BeginsWith digits text rest
   pub ascii : all_ascii_digits digits ≡ true
-  pub longest : run is_numeric rest ≡ []
+  pub whole : begins_with is_numeric rest ≡ false
   pub counted : length digits ≡ count
   pub valued : digits_value 10 digits ≡ value
 

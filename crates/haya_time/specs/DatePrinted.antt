@@ -1,18 +1,15 @@
 -- The texts of dates and of their years.
-use Rattle.std.specs.Prelude.{◌≡◌, String, string_bytes, ℕ, ◌+◌, ◌-◌, Bool, true, false, List, [], ◌∷◌, ◌++◌, length, replicate, if◌then◌else◌, Option, Some, None, ℤ, pos, ◌-ℤ◌, int_le, unsigned_abs, codes}
-use Rattle.std.specs.Fmt.{decimal, signed_decimal}
+use Rattle.std.specs.Prelude.{◌≡◌, String, string_bytes, ℕ, ◌+◌, Bool, true, false, List, [], ◌∷◌, ◌++◌, if◌then◌else◌, Option, Some, None, ℤ, pos, ◌-ℤ◌, int_le, unsigned_abs, codes}
+use Rattle.std.specs.Fmt.{signed_decimal}
 use Rattle.std.specs.Int.{is_negative}
 use Rattle.haya_time.specs.declared.date.Date.{Date}
 use Rattle.haya_text.specs.Characters.{hyphen}
-use Rattle.haya_time.specs.DateText.{digit_zero, tilde}
+use Rattle.haya_time.specs.DateText.{tilde}
+use Rattle.haya_time.specs.Padded.{padded_decimal}
 
 -- the text has these bytes
 abbrev pub HasText : {A : Type 0} → List ℕ → String A → Type 0
 HasText bytes text = string_bytes text ≡ bytes
-
--- the decimal digits of a number, with zeros before them up to this width
-abbrev pub padded_decimal : ℕ → ℕ → List ℕ
-padded_decimal width n = replicate (width - length (decimal n)) digit_zero ++ decimal n
 
 -- the sign or mark, if it is wanted
 abbrev pub mark_text : Bool → ℕ → List ℕ

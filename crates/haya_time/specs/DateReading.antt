@@ -1,5 +1,5 @@
 -- What a date's text reads as, computed.
-use Rattle.std.specs.Prelude.{ℕ, ◌-◌, Bool, true, false, ◌&&◌, ◌==◌, nat_le, if◌then◌else◌, List, [], ◌∷◌, length, Option, Some, None, Result, Ok, Err}
+use Rattle.std.specs.Prelude.{ℕ, ◌-◌, Bool, true, false, ◌&&◌, ◌==◌, nat_le, if◌then◌else◌, List, length, Option, Some, None, Result, Ok, Err}
 use Rattle.std.specs.Char.{is_whitespace}
 use Rattle.std.specs.List.{list_all}
 use Rattle.std.specs.Str.{all_ascii_digits, skip_leading_whitespace}
@@ -11,16 +11,8 @@ use Rattle.haya_time.specs.DateCalendar.{is_month, has_day}
 use Rattle.haya_time.specs.DateForms.{Opening, calendar_year, with_sign, date_with}
 use Rattle.haya_text.specs.Characters.{is_numeric, hyphen, run, behind_run}
 use Rattle.haya_time.specs.DateText.{plus_sign, tilde}
+use Rattle.haya_time.specs.TextFront.{behind}
 use Rattle.std.specs.Prelude.{ℤ}
-
--- what follows the character, if the text begins with it
-abbrev pub behind_first : ℕ → List ℕ → Option (List ℕ)
-behind_first c [] = None
-behind_first c (x ∷ xs) = if x == c then Some xs else None
-
--- the same behind white space
-abbrev pub behind : ℕ → List ℕ → Option (List ℕ)
-behind c text = behind_first c (skip_leading_whitespace text)
 
 -- how many digits a run has, at most four, and their value
 abbrev pub number_of : List ℕ → Option (ℕ × ℕ)

@@ -4,8 +4,5 @@ use Rattle.std.specs.Prelude.{ℕ}
 abbrev pub plus_sign : ℕ
 plus_sign = 43
 
-abbrev pub digit_zero : ℕ
-digit_zero = 48
-
 abbrev pub tilde : ℕ
 tilde = 126

@@ -1,33 +1,26 @@
 -- The texts of durations and of ranges, by their parts.
 use Rattle.std.specs.Prelude.{◌≡◌, ℕ, ◌^◌, ◌<◌, ◌≤◌, ◌==◌, ◌⊎◌, true, false, List, [], ◌∷◌, ◌++◌, length}
-use Rattle.std.specs.Char.{is_ascii_digit, is_whitespace}
+use Rattle.std.specs.Char.{is_ascii_digit}
 use Rattle.std.specs.List.{list_all}
 use Rattle.haya_time.specs.declared.duration.Duration.{Duration}
 use Rattle.haya_time.specs.declared.duration.range.DurationRange.{DurationRange}
 use Rattle.haya_text.specs.Characters.{comma, hyphen, is_numeric, begins_with}
 use Rattle.haya_time.specs.DurationText.{colon, number, colons}
+use Rattle.haya_time.specs.TextFront.{BeginsWith, IsBlank}
 use Rattle.haya_time.specs.DurationValues.{clock, from_hours, from_minutes, milliseconds, is_too_large}
 
 -- the text is white space, these digits, and the rest, which begins with no numeric character
 pub record IsNumber (text digits rest : List ℕ) : Type 0 where
-  pub gap : List ℕ
-  pub cut : text ≡ gap ++ (digits ++ rest)
-  pub space : list_all is_whitespace gap ≡ true
+  pub stands : BeginsWith digits text rest
   pub some : 0 < length digits
   pub ascii : list_all is_ascii_digit digits ≡ true
   pub whole : begins_with is_numeric rest ≡ false
-
--- the text is white space, the sign, and the tail
-pub record IsSign (sign : ℕ) (text tail : List ℕ) : Type 0 where
-  pub gap : List ℕ
-  pub cut : text ≡ gap ++ sign ∷ tail
-  pub space : list_all is_whitespace gap ≡ true
 
 -- the text is a number, a colon, and the tail
 pub record IsValue (text digits tail : List ℕ) : Type 0 where
   pub rest : List ℕ
   pub number : IsNumber text digits rest
-  pub sign : IsSign colon rest tail
+  pub sign : BeginsWith (colon ∷ []) rest tail
 
 -- minutes and seconds, and the rest of the text
 pub record AreMinutes (text : List ℕ) (d : Duration) (rest : List ℕ) : Type 0 where
@@ -87,7 +80,7 @@ pub record IsFraction (text : List ℕ) (d : Duration) (rest : List ℕ) : Type 
   pub fraction : List ℕ
   pub tail : List ℕ
   pub values : IsClock text seconds behind_seconds
-  pub sign : IsSign comma behind_seconds tail
+  pub sign : BeginsWith (comma ∷ []) behind_seconds tail
   pub last : IsNumber tail fraction rest
   pub value : d ≡ record seconds { milliseconds = milliseconds fraction }
 
@@ -95,7 +88,7 @@ pub record IsFraction (text : List ℕ) (d : Duration) (rest : List ℕ) : Type 
 pub record EndsInFraction (text : List ℕ) (d : Duration) : Type 0 where
   pub gap : List ℕ
   pub parts : IsFraction text d gap
-  pub space : list_all is_whitespace gap ≡ true
+  pub space : IsBlank gap
 
 abbrev pub IsDuration : List ℕ → Duration → Type 0
 IsDuration text d = IsClock text d [] ⊎ EndsInFraction text d
@@ -112,7 +105,7 @@ ReadsTooLarge text = (d : Duration) × IsDuration text d × (is_too_large d ≡ 
 pub record EndsBeforeHyphen (text : List ℕ) (d : Duration) (rest : List ℕ) : Type 0 where
   pub values : IsClock text d rest
   pub tail : List ℕ
-  pub sign : IsSign hyphen rest tail
+  pub sign : BeginsWith (hyphen ∷ []) rest tail
 
 abbrev pub IsStart : List ℕ → Duration → List ℕ → Type 0
 IsStart text d rest =
@@ -124,7 +117,7 @@ pub record HasTwoTexts (text : List ℕ) (start : Duration) (end_text : List ℕ
   pub tail : List ℕ
   pub hyphens : List ℕ
   pub front : IsStart text start rest
-  pub sign : IsSign hyphen rest tail
+  pub sign : BeginsWith (hyphen ∷ []) rest tail
   pub cut : tail ≡ hyphens ++ end_text
   pub more : list_all (λ c. c == hyphen) hyphens ≡ true
   pub all_hyphens : begins_with (λ c. c == hyphen) end_text ≡ false

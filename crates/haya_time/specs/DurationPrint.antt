@@ -1,14 +1,11 @@
 -- Durations and ranges as they are printed.
-use Rattle.std.specs.Prelude.{ℕ, ◌-◌, nat_lt, Bool, ◌||◌, ◌&&◌, ◌==◌, List, [], ◌∷◌, ◌++◌, length, replicate, if◌then◌else◌}
+use Rattle.std.specs.Prelude.{ℕ, nat_lt, Bool, ◌||◌, ◌&&◌, ◌==◌, List, [], ◌∷◌, ◌++◌, if◌then◌else◌}
 use Rattle.std.specs.Fmt.{decimal}
 use Rattle.haya_time.specs.declared.duration.Duration.{Duration}
 use Rattle.haya_time.specs.declared.duration.range.DurationRange.{DurationRange}
 use Rattle.haya_text.specs.Characters.{comma, hyphen}
 use Rattle.haya_time.specs.DurationText.{colon}
-
--- the number in at least so many digits
-abbrev pub padded_number : ℕ → ℕ → List ℕ
-padded_number width n = replicate (width - length (decimal n)) 48 ++ decimal n
+use Rattle.haya_time.specs.Padded.{padded_decimal}
 
 -- days with their colon, where there are some
 abbrev pub days_text : ℕ → List ℕ
@@ -17,18 +14,18 @@ days_text days = if nat_lt 0 days then decimal days ++ colon ∷ [] else []
 -- hours with their colon, where there are some, or days before them
 abbrev pub hours_text : Bool → ℕ → List ℕ
 hours_text has_days hours =
-    if has_days || nat_lt 0 hours then padded_number 2 hours ++ colon ∷ [] else []
+    if has_days || nat_lt 0 hours then padded_decimal 2 hours ++ colon ∷ [] else []
 
 -- milliseconds behind their comma, where there are some
 abbrev pub fraction_text : ℕ → List ℕ
 fraction_text milliseconds =
-    if nat_lt 0 milliseconds then comma ∷ padded_number 3 milliseconds else []
+    if nat_lt 0 milliseconds then comma ∷ padded_decimal 3 milliseconds else []
 
 -- days and hours with their colons, minutes, a colon, seconds, milliseconds with their comma
 abbrev pub duration_text : Duration → List ℕ
 duration_text d = days_text d.days ++ (hours_text (nat_lt 0 d.days) d.hours
-    ++ (padded_number 2 d.minutes
-    ++ colon ∷ (padded_number 2 d.seconds ++ fraction_text d.milliseconds)))
+    ++ (padded_decimal 2 d.minutes
+    ++ colon ∷ (padded_decimal 2 d.seconds ++ fraction_text d.milliseconds)))
 
 abbrev pub same_duration : Duration → Duration → Bool
 same_duration d e =

@@ -1,6 +1,7 @@
 -- What a text reads as, computed by longest runs.
 use Rattle.std.specs.Prelude.{ℕ, ◌^◌, ◌==◌, nat_lt, nat_le, Bool, true, false, ◌&&◌, ◌||◌, List, length, if◌then◌else◌, Option, Some, None, is_some, option_map, option_and_then, Result, Ok, Err}
-use Rattle.std.specs.Char.{is_ascii_digit}
+use Rattle.std.specs.Char.{is_ascii_digit, is_whitespace}
+use Rattle.std.specs.List.{list_all}
 use Rattle.std.specs.Str.{skip_leading_whitespace}
 use Rattle.haya_time.specs.declared.duration.Duration.{Duration}
 use Rattle.haya_time.specs.declared.duration.range.DurationRange.{DurationRange}
@@ -8,7 +9,8 @@ use Rattle.haya_time.specs.declared.duration.reading.DurationError.{DurationErro
 use Rattle.haya_time.specs.declared.duration.reading.DurationError.TheVariants.{Malformed, TooLarge}
 use Rattle.haya_time.specs.DurationValues.{clock, from_hours, from_minutes, milliseconds, is_too_large}
 use Rattle.haya_text.specs.Characters.{comma, hyphen, is_numeric, begins_with, run, behind_run}
-use Rattle.haya_time.specs.DurationText.{colon, is_empty, number, strip_sign, colons}
+use Rattle.haya_time.specs.DurationText.{colon, number, colons}
+use Rattle.haya_time.specs.TextFront.{behind, is_empty}
 
 -- what is read at the front of a text, and what follows it
 abbrev pub ReadAt : Type 0 → Type 0
@@ -21,13 +23,9 @@ digits_at text = let front = skip_leading_whitespace text in
     if begins_with is_numeric (behind_run is_ascii_digit front) then None
     else Some (run is_ascii_digit front, behind_run is_ascii_digit front)
 
--- what stands behind the sign at the front, which white space may precede
-abbrev pub sign_tail : ℕ → List ℕ → Option (List ℕ)
-sign_tail sign text = strip_sign sign (skip_leading_whitespace text)
-
 -- the same value, and what stands behind the colon that follows it
 abbrev pub with_colon : {A : Type 0} → A × List ℕ → ReadAt A
-with_colon p = option_map (λ rest. (p.0, rest)) (sign_tail colon p.1)
+with_colon p = option_map (λ rest. (p.0, rest)) (behind colon p.1)
 
 -- the number of digits that are at least so many and fit 32 bits
 abbrev pub long_number : ℕ → List ℕ × List ℕ → ReadAt ℕ
@@ -100,11 +98,11 @@ with_fraction d rest (Some tail) = option_and_then (fraction_front d) (digits_at
 
 -- the duration at the front
 abbrev pub front_at : List ℕ → Option Front
-front_at text = option_and_then (λ p. with_fraction p.0 p.1 (sign_tail comma p.1)) (clock_at text)
+front_at text = option_and_then (λ p. with_fraction p.0 p.1 (behind comma p.1)) (clock_at text)
 
 -- a duration ends with its seconds, or with white space behind the fraction
 abbrev pub is_ended : Front → Bool
-is_ended f = is_empty (if f.has_fraction then skip_leading_whitespace f.rest else f.rest)
+is_ended f = if f.has_fraction then list_all is_whitespace f.rest else is_empty f.rest
 
 -- the duration, if none of its values is
 abbrev pub check_bounds : Duration → Result Duration DurationError
@@ -121,7 +119,7 @@ duration_read text = whole_duration (front_at text)
 -- the seconds of a range's start are followed by the end or a hyphen; what follows a
 -- fraction is looked at later
 abbrev pub is_start : Front → Bool
-is_start f = f.has_fraction || is_empty f.rest || is_some (sign_tail hyphen f.rest)
+is_start f = f.has_fraction || is_empty f.rest || is_some (behind hyphen f.rest)
 
 -- the range from a start, with the end read behind the hyphens
 abbrev pub range_to : Duration → Result Duration DurationError → Result DurationRange DurationError
@@ -137,8 +135,8 @@ longer_range start (Some tail) = range_to start (duration_read (behind_run (λ c
 abbrev pub range_from : Result Duration DurationError → List ℕ → Result DurationRange DurationError
 range_from (Err fault) rest = Err fault
 range_from (Ok start) rest =
-    if is_empty (skip_leading_whitespace rest) then Ok (record { start = start; end = start })
-    else longer_range start (sign_tail hyphen rest)
+    if list_all is_whitespace rest then Ok (record { start = start; end = start })
+    else longer_range start (behind hyphen rest)
 
 abbrev pub whole_range : Option Front → Result DurationRange DurationError
 whole_range None = Err Malformed

@@ -16,3 +16,5 @@ pub mod DurationGrammar
 pub mod DurationReading
 pub mod DurationOrder
 pub mod DurationPrint
+pub mod Padded
+pub mod TextFront

@@ -6,7 +6,6 @@ mod number;
 mod order;
 mod print;
 mod read;
-mod text;
 
 use thiserror::Error;
 

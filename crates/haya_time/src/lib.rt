@@ -4,6 +4,7 @@
 mod date;
 mod duration;
 pub mod laws;
+mod text;
 
 pub use date::{Date, DateError, Season};
 pub use duration::{Duration, DurationError, DurationRange};

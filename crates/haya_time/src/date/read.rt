@@ -14,8 +14,8 @@ ghost use Rattle.haya_text.specs.Characters.{is_numeric, run, behind_run};
 
 use super::calendar::{has_day, is_month, is_on_calendar};
 use super::number::Number;
-use super::text::{behind, is_blank, skip_whitespace};
 use super::{Date, DateError};
+use crate::text::{behind, is_blank, skip_whitespace};
 use haya_text::chars::{is_numeric, split_char};
 use std::str::FromStr;
 

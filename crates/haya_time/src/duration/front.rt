@@ -11,8 +11,9 @@ ghost use Rattle.haya_time.specs.DurationReading.{is_start, long_at, minutes_at,
 ghost use Rattle.haya_time.specs.DurationReading.{two_colon_at, check_bounds};
 ghost use Rattle.haya_time.specs.DurationValues.{is_too_large, milliseconds};
 
-use super::scan::{count_colons, is_at_end, skip_space, take_digits, take_sign};
+use super::scan::{count_colons, take_digits};
 use super::{Duration, DurationError};
+use crate::text::{behind, is_at_end, is_blank};
 
 // A duration at the front of a text: its values, carried, whether it has a fraction of a
 // second, and what follows it.
@@ -44,7 +45,7 @@ fn take_long(text: &str, least: usize) -> Option<(u32, &str)>
         return None;
     }
     let value = parse_digits(digits)?;
-    let rest = take_sign(rest, ':')?;
+    let rest = behind(rest, ':')?;
     Some((value, rest))
 }
 
@@ -65,7 +66,7 @@ fn take_two_colon(text: &str) -> Option<(u32, &str)>
     ensures { Takes result (two_colon_at (chars text.now)) }
 {
     let (value, rest) = take_two(text)?;
-    let rest = take_sign(rest, ':')?;
+    let rest = behind(rest, ':')?;
     Some((u32::from(value), rest))
 }
 
@@ -156,7 +157,7 @@ impl<'a> Front<'a> {
         ensures { option_map front_view result ≡ front_at (chars text.now) }
     {
         let (duration, rest) = take_clock(text)?;
-        let Some(fraction) = take_sign(rest, ',') else {
+        let Some(fraction) = behind(rest, ',') else {
             return Some(Front {
                 duration,
                 has_fraction: false,
@@ -183,7 +184,7 @@ impl<'a> Front<'a> {
         ensures { result ≡ is_ended (front_view self.now) }
     {
         if self.has_fraction {
-            is_at_end(skip_space(self.rest))
+            is_blank(self.rest)
         } else {
             is_at_end(self.rest)
         }
@@ -193,7 +194,7 @@ impl<'a> Front<'a> {
     pub(crate) fn is_start(&self) -> bool
         ensures { result ≡ is_start (front_view self.now) }
     {
-        self.has_fraction || is_at_end(self.rest) || take_sign(self.rest, '-').is_some()
+        self.has_fraction || is_at_end(self.rest) || behind(self.rest, '-').is_some()
     }
 }
 

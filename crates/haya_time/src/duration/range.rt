@@ -3,11 +3,13 @@ ghost use Rattle.std.specs.Prelude.{◌≡◌, unwrap_or};
 ghost use Rattle.std.specs.Str.{chars};
 ghost use Rattle.haya_time.specs.DurationBack.{range_reads_back};
 ghost use Rattle.haya_text.specs.Characters.{hyphen};
-ghost use Rattle.haya_time.specs.DurationReading.{sign_tail, longer_range, range_read};
+ghost use Rattle.haya_time.specs.DurationReading.{longer_range, range_read};
+ghost use Rattle.haya_time.specs.TextFront.{behind};
 
 use super::front::Front;
-use super::scan::{is_at_end, skip_hyphens, skip_space, take_sign};
+use super::scan::skip_hyphens;
 use super::{Duration, DurationError};
+use crate::text::{behind, is_blank};
 use haya_text::{OutOfMemory, ReadText, TryClone};
 use std::alloc::Global;
 use std::str::FromStr;
@@ -41,9 +43,9 @@ impl DurationRange {
 
     // The range from a start to the end that stands behind a hyphen or more.
     fn to_end(start: Duration, rest: &str) -> Result<DurationRange, DurationError>
-        ensures { result ≡ longer_range start (sign_tail hyphen (chars rest.now)) }
+        ensures { result ≡ longer_range start (behind hyphen (chars rest.now)) }
     {
-        let Some(tail) = take_sign(rest, '-') else {
+        let Some(tail) = behind(rest, '-') else {
             return Err(DurationError::Malformed);
         };
         let end = skip_hyphens(tail).parse::<Duration>()?;
@@ -72,7 +74,7 @@ impl FromStr for DurationRange {
             return Err(DurationError::Malformed);
         }
         let start = front.duration.check_bounds()?;
-        if is_at_end(skip_space(front.rest)) {
+        if is_blank(front.rest) {
             return Ok(DurationRange::new(start, None));
         }
         DurationRange::to_end(start, front.rest)

@@ -1,29 +1,16 @@
-//! Numbers and signs at the front of a text.
+//! Numbers and runs of signs at the front of a text.
 ghost use Rattle.std.specs.Prelude.{◌≡◌, ◌+◌, ◌≤◌, ◌==◌, ◌++◌, ◌∷◌, [], List, ℕ, Some, None, true};
 ghost use Rattle.std.specs.Prelude.{IfNone, IfSome, MatchOption, length};
 ghost use Rattle.std.specs.Char.{encode_utf8, is_ascii_digit};
 ghost use Rattle.std.specs.List.{list_all};
 ghost use Rattle.std.specs.Str.{chars, skip_leading_whitespace};
 ghost use Rattle.haya_text.specs.Characters.{behind_run, hyphen, is_numeric};
-ghost use Rattle.haya_time.specs.DurationText.{colons, is_empty};
+ghost use Rattle.haya_time.specs.DurationText.{colons};
 ghost use Rattle.haya_text.specs.Characters.{run, begins_with};
-ghost use Rattle.haya_time.specs.DurationReading.{sign_tail, digits_at};
+ghost use Rattle.haya_time.specs.DurationReading.{digits_at};
 
+use crate::text::skip_whitespace;
 use haya_text::chars::{is_numeric, split_char};
-
-// Whether a text has no characters.
-pub(crate) fn is_at_end(text: &str) -> bool
-    ensures { result ≡ is_empty (chars text.now) }
-{
-    split_char(text).is_none()
-}
-
-// The text behind the white space at its front.
-pub(crate) fn skip_space(text: &str) -> &str
-    ensures { chars result.now ≡ skip_leading_whitespace (chars text.now) }
-{
-    text.trim_start()
-}
 
 // The text behind the digits at its front.
 fn skip_digits(text: &str) -> &str
@@ -57,23 +44,13 @@ pub(crate) fn take_digits(text: &str) -> Option<(&str, &str)>
         MatchOption result (read ≡ None) (λ p. read ≡ Some (p.0.now, chars p.1.now)) }
     ensures digits { IfSome result (λ p. list_all is_ascii_digit p.0.now ≡ true) }
 {
-    let text = skip_space(text);
+    let text = skip_whitespace(text);
     let rest = skip_digits(text);
     if starts_numeric(rest) {
         return None;
     }
     let (digits, rest) = text.split_at(text.len() - rest.len());
     Some((digits, rest))
-}
-
-// What stands behind the sign at the front, which white space may precede.
-pub(crate) fn take_sign(text: &str, sign: char) -> Option<&str>
-    ensures { let read = sign_tail sign (chars text.now) in
-        MatchOption result (read ≡ None) (λ rest. read ≡ Some (chars rest.now)) }
-{
-    let text = skip_space(text);
-    let (first, rest) = split_char(text)?;
-    if first == sign { Some(rest) } else { None }
 }
 
 // The text behind the hyphens at its front.

@@ -2,7 +2,8 @@ use Rattle.std.proofs.Common.{◌≡◌, ◌+◌, ◌-◌, ◌*◌, ◌/◌, ◌
 use Rattle.std.proofs.lemmas.List.{drop_all}
 use Rattle.std.specs.Char.{is_ascii_digit, digit_value}
 use Rattle.std.specs.List.{list_all}
-use Rattle.haya_time.proofs.DurationNumbers.{rounded, tenths, tenths_step, both, digit_is, digit_small}
+use Rattle.haya_text.proofs.Tells.{and-both}
+use Rattle.haya_time.proofs.DurationNumbers.{rounded, tenths, tenths_step, digit_is, digit_small}
 use Rattle.haya_time.proofs.duration.front.milliseconds.Goals as goal
 
 -- the next digit of those that are left
@@ -16,7 +17,7 @@ next : (items : List ℕ) (i w : ℕ) → i < length items → list_all is_ascii
 next items i w l h =
     let e : drop i items ≡ get_or items i 0 ∷ drop (i + 1) items =
     let more : suc i ≡ i + 1 = omega arith in drop-cons items i 0 l ∙ ap (λ k. get_or items i 0 ∷ drop k items) more in
-    let p = both (is_ascii_digit (get_or items i 0)) (list_all is_ascii_digit (drop (i + 1) items)) (sym (ap (list_all is_ascii_digit) e) ∙ h) in
+    let p = and-both (is_ascii_digit (get_or items i 0)) (list_all is_ascii_digit (drop (i + 1) items)) (sym (ap (list_all is_ascii_digit) e) ∙ h) in
     let d = digit_is (get_or items i 0) p.0 in
     let v : get_or items i 0 - 48 ≡ digit_value (get_or items i 0) = omega arith in
     record {

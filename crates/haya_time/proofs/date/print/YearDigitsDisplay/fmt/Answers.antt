@@ -1,5 +1,5 @@
 use Rattle.std.proofs.Common.{rules}
-use Rattle.haya_time.proofs.DateDigits.{written_as, padded}
+use Rattle.haya_time.proofs.PrintedParts.{written_as, padded}
 use Rattle.haya_time.proofs.date.print.YearDigitsDisplay.fmt.Goals as goal
 
 pub returns-clause-writes : goal.returns-clause-writes

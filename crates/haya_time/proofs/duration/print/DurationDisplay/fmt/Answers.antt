@@ -1,5 +1,5 @@
 use Rattle.std.proofs.Common.{rules}
-use Rattle.haya_time.proofs.DurationPrints.{styled-two}
+use Rattle.haya_time.proofs.PrintedParts.{styled-two}
 use Rattle.haya_time.proofs.duration.print.DurationDisplay.fmt.Goals as goal
 
 pub returns-clause-writes : goal.returns-clause-writes

@@ -1,5 +1,0 @@
-use Rattle.haya_time.proofs.DurationScans.{chars-trim_start}
-use Rattle.haya_time.proofs.duration.scan.skip_space.Goals as goal
-
-pub returns : goal.returns
-returns c = chars-trim_start _ _ c.trim_start.utf8 c.trim_start.ensures.trim
