@@ -13,8 +13,8 @@ const EXAMPLES: &str = "Examples:
   haya -t lines '!*[date]' < refs.json       what has no date, with all its fields
   haya -s -f lines 'article' works.tsv       the articles of a library larger than memory
 
-With --stream the entries that the input lists, in lines or as json-lines, are asked as they come. A
-key that comes again isn't replaced (`cut -f1 | sort | uniq -d` over the keys printed shows such),
+With --stream the entries that the input lists are asked as they come; without --from it is in lines.
+A key that comes again isn't replaced (`cut -f1 | sort | uniq -d` over the keys printed shows such),
 and at a fault what was printed before stays.";
 
 const FORMATS: [&str; 4] = ["hayagriva", "csl-json", "json-lines", "lines"];

@@ -5,9 +5,6 @@ use thiserror::Error;
 /// Why there is nothing to ask.
 #[derive(Debug, Drop, Error)]
 pub enum StartFault {
-    /// The input is to be read as it comes, and is in a format that is read whole.
-    #[error("--stream reads lines: --from lines or json-lines")]
-    NotStreamed,
     /// An argument isn't UTF-8, or the arguments can't be had.
     #[error("an argument is not text")]
     NoWords,

@@ -10,7 +10,7 @@ mod streaming;
 use arguments::{Arguments, arguments_of};
 use fault::StartFault;
 use files::read_files;
-use haya_command::{Fault, Format, Options, complain, run};
+use haya_command::{Fault, Options, complain, run};
 use hayagriva::{HashKeys, Selector};
 use progress::Progress;
 use std::alloc::Global;
@@ -45,7 +45,7 @@ fn main(rt: HostRuntime) -> ExitCode {
         return ended(tell_of(&options, &StartFault::NoKeys, &mut err));
     };
     ended(if streams {
-        stream_list(alloc, &rt, keys, &options, &mut stdin, &mut out, &mut err)
+        stream(alloc, &rt, keys, &options, &mut stdin, &mut out, &mut err)
     } else {
         run_files(alloc, &rt, keys, &options, &mut stdin, &mut out, &mut err)
     })
@@ -68,24 +68,6 @@ fn run_files<F: Files, R: Read, W: Write, E: Write + IsTerminal>(
     match read {
         Ok(inputs) => run(alloc, keys, options, inputs.as_slice(), out, err),
         Err(fault) => complain(alloc, options, &fault, err),
-    }
-}
-
-// Asks the entries of the input as they are read, where its format lists them one after another.
-fn stream_list<F: Files, R: Read, W: Write, E: Write>(
-    alloc: Global,
-    rt: &F,
-    keys: HashKeys,
-    options: &Options,
-    stdin: &mut R,
-    out: &mut W,
-    err: &mut E,
-) -> u8 {
-    match options.from {
-        None | Some(Format::Lines | Format::JsonLines) => {
-            stream(alloc, rt, keys, options, stdin, out, err)
-        }
-        Some(_) => tell_of(options, &StartFault::NotStreamed, err),
     }
 }
 

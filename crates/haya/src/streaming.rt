@@ -1,7 +1,7 @@
 //! Asks the entries of files one after another, as they are read.
 use haya_command::{
-    Asker, Fault, Format, Options, ask_json_lines, ask_lines, complain, end_asking, tell_notes,
-    warn,
+    Asker, Fault, Format, Options, ask_csl_json, ask_hayagriva, ask_json_lines, ask_lines, complain,
+    end_asking, tell_notes, warn,
 };
 use hayagriva::HashKeys;
 use std::alloc::Global;
@@ -73,7 +73,8 @@ fn ask_file<'o, F: Files, R: Read, W: Write, E: Write>(
     }
 }
 
-// Asks the entries of an input that is called so, and tells what is passed over of it.
+// Asks the entries of an input that is called so, in lines where no format is given, and tells what
+// is passed over of it.
 fn ask_input<'o, R: Read, W: Write, E: Write>(
     alloc: Global,
     asker: Asker<'o>,
@@ -82,11 +83,13 @@ fn ask_input<'o, R: Read, W: Write, E: Write>(
     out: &mut W,
     err: &mut E,
 ) -> Result<Asker<'o>, Fault> {
-    if asker.options.from != Some(Format::JsonLines) {
-        return ask_lines(asker, name, input, out);
-    }
     let mut notes = String::new(alloc);
-    let asked = ask_json_lines(asker, name, &mut notes, input, out)?;
+    let asked = match asker.options.from {
+        None | Some(Format::Lines) => ask_lines(asker, name, input, out)?,
+        Some(Format::JsonLines) => ask_json_lines(asker, name, &mut notes, input, out)?,
+        Some(Format::CslJson) => ask_csl_json(asker, name, &mut notes, input, out)?,
+        Some(Format::Hayagriva) => ask_hayagriva(asker, name, &mut notes, input, out)?,
+    };
     tell_notes(asked.options, notes.as_str(), err);
     Ok(asked)
 }

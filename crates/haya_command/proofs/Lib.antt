@@ -1,5 +1,8 @@
-mod JsonLists
+mod ElementLists
+mod EntryLists
+mod JsonParts
 mod Lines
+mod PrintedLines
 mod Streams
 mod Together
 mod Written

@@ -24,8 +24,9 @@ use Rattle.haya_stream.proofs.Taken.{flat_map-append}
 use Rattle.haya_stream.specs.declared.fault.StreamFault.{StreamFault}
 use Rattle.haya_stream.specs.declared.fault.StreamFault.TheVariants as stream
 use Rattle.haya_command.specs.Printed.{IsJsonLineOf, IsTextOf}
-use Rattle.haya_command.specs.Reading.{Describes, IsErrorOf, IsReadAs, IsWhole, format_in}
-use Rattle.haya_command.specs.Streamed.{AsksEntry, AsksFirst, AsksInput, AsksPart, BeginsListIn, IsAccepted, IsListIn, IsStreamFault, IsTold, Why}
+use Rattle.haya_command.specs.AskedLines.{BeginsListIn, IsAccepted, IsErrorIn, IsListIn}
+use Rattle.haya_command.specs.Reading.{Describes, IsReadAs, IsWhole, format_in}
+use Rattle.haya_command.specs.Streamed.{AsksEntry, AsksFirst, AsksInput, AsksPart, IsStreamFault, IsTold, Why}
 use Rattle.haya_command.specs.declared.fault.Fault.{Fault}
 use Rattle.haya_command.specs.declared.fault.Fault.TheVariants as fault
 use Rattle.haya_command.specs.declared.fault.InputError.{InputError}
@@ -227,7 +228,7 @@ module _ {S : Type 0} (options : S → Options) (selector : S → Syntax) (hits 
 -- ---- faults
 
 module _ {L : Type 0} (options : Options) (format : Format) (name : List ℕ) (IsFault : List ℕ → L → Type 0) (IsRefusal : LinesError → Type 0) (converts : L → InputError → Type 0)
-    (is_error : (text : List ℕ) (l : L) (e : InputError) → converts l e → IsFault text l → IsErrorOf format text e) where
+    (is_error : (text : List ℕ) (l : L) (e : InputError) → converts l e → IsFault text l → IsErrorIn format text e) where
   -- what the fault of a stream says of the text, the fault of its input does
   pub stream_why : (text unwritten : List ℕ) (sf : StreamFault (ListRefusal L LinesError)) (e : Fault) → (e ≡ fault.OutOfMemory) ⊎ IsStreamFault converts name sf e
       → list.Why IsFault IsRefusal text unwritten sf → Why options format name text unwritten e

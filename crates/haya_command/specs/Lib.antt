@@ -1,4 +1,5 @@
 pub mod Answer
+pub mod AskedLines
 pub mod Formats
 pub mod Picks
 pub mod Printed

@@ -1,5 +1,5 @@
 -- What is printed of hits.
-use Rattle.std.specs.Prelude.{◌≡◌, ℕ, List, [], ◌∷◌, ◌++◌, codes, map, None}
+use Rattle.std.specs.Prelude.{◌≡◌, ◌<◌, ℕ, List, [], ◌∷◌, ◌++◌, codes, map, None}
 use Rattle.std.specs.Cmp.Lexicographic.{slice_cmp}
 use Rattle.std.specs.List.{flat_map}
 use Rattle.std.specs.List.Sorted.{IsStrictlySortedBy}
@@ -7,10 +7,10 @@ use Rattle.std.specs.Map.{keys_of, lookup}
 use Rattle.std.specs.Ordering.{nat_cmp}
 use Rattle.std.specs.Str.{bytes_eq}
 use Rattle.json.specs.Json as json
-use Rattle.json.specs.Json.{Json, Members}
+use Rattle.json.specs.Json.{Json, Members, max_depth}
 use Rattle.json.specs.Layout.{pretty}
 use Rattle.json.specs.Print.{print}
-use Rattle.json.specs.Tree.{json_tokens}
+use Rattle.json.specs.Tree.{depth as nesting, json_tokens}
 use Rattle.hayagriva.specs.Library.{key_of}
 use Rattle.hayagriva.specs.Query.{hit_entry}
 use Rattle.hayagriva.specs.Tree.{Tree}
@@ -39,6 +39,10 @@ hit_json key names t =
     (json.member (codes "key") (json.string key)
     (json.member (codes "bindings") (names_json names)
     (json.member (codes "entry") (json_of None t) json.no_members)))
+
+-- the entry's JSON, inside the object of its line, nests no deeper than a reader takes
+abbrev pub FitsLine : Tree → Type 0
+FitsLine t = nesting (json_of None t) < max_depth
 
 -- the line of a hit: an object of its key, of each name that it binds, in byte order, and of its
 -- entry, and a line feed

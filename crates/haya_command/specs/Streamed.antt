@@ -1,5 +1,5 @@
 -- Entries asked one after another, as they are read.
-use Rattle.std.specs.Prelude.{◌≡◌, ◌≢◌, ◌⊎◌, ◌<◌, ◌+◌, ◌-◌, ◌^◌, ℕ, Any, IfSome, IsTrue, MatchBool, List, [], ◌∷◌, ◌++◌, Option, String, decimal, length, string_bytes, true, if◌then◌else◌}
+use Rattle.std.specs.Prelude.{◌≡◌, ◌≢◌, ◌⊎◌, ◌<◌, ◌+◌, ◌-◌, ◌^◌, ℕ, Any, IfSome, IsTrue, MatchBool, List, [], ◌∷◌, ◌++◌, Option, Some, String, decimal, length, string_bytes, true, if◌then◌else◌}
 use Rattle.std.specs.Io.KnownBytes.{Appends, Consumes, IsAtEnd}
 use Rattle.std.specs.Str.{IsUtf8, chars}
 use Rattle.std.specs.Str.Lines.{lines}
@@ -10,30 +10,19 @@ use Rattle.hayagriva.specs.Reading.{TextFails}
 use Rattle.hayagriva.specs.Syntax.{Syntax}
 use Rattle.hayagriva.specs.Tree.{Tree}
 use Rattle.hayagriva.specs.declared.query.Hit.{Hit}
-use Rattle.haya_json.specs.Ignored.{counts_of}
-use Rattle.haya_json.specs.JsonLines as json_lines
-use Rattle.haya_json.specs.Tally.{all_counted}
-use Rattle.haya_json.specs.declared.error.ReadError.{ReadError}
-use Rattle.haya_json.specs.declared.error.ReadError.TheVariants as read_error
-use Rattle.haya_json.specs.declared.ignored.Ignored.{Ignored}
 use Rattle.haya_lines.specs.Signs.{line_feed}
-use Rattle.haya_list.specs.Lines as lines_list
-use Rattle.haya_list.specs.declared.fault.EntryFault.{EntryFault}
-use Rattle.haya_list.specs.declared.fault.EntryFault.TheVariants as entry_fault
 use Rattle.haya_list.specs.declared.fault.ListRefusal.{ListRefusal}
 use Rattle.haya_list.specs.declared.fault.ListRefusal.TheVariants.{Entry, Line}
 use Rattle.haya_printing.specs.declared.error.LinesError.{LinesError}
 use Rattle.haya_stream.specs.declared.fault.StreamFault.{StreamFault}
 use Rattle.haya_stream.specs.declared.fault.StreamFault.TheVariants as stream
+use Rattle.haya_command.specs.AskedLines.{BeginsListIn, IsAccepted, IsErrorIn, IsListIn, PassesOverFirst, asked_lines}
 use Rattle.haya_command.specs.Printed.{IsTextOf}
-use Rattle.haya_command.specs.Reading.{IsErrorOf, IsWhole}
 use Rattle.haya_command.specs.declared.fault.Fault.{Fault}
 use Rattle.haya_command.specs.declared.fault.Fault.TheVariants as fault
 use Rattle.haya_command.specs.declared.fault.InputError.{InputError}
-use Rattle.haya_command.specs.declared.fault.InputError.TheVariants as input_error
 use Rattle.haya_command.specs.declared.form.Form.TheVariants.{Hayagriva}
 use Rattle.haya_command.specs.declared.format.Format.{Format}
-use Rattle.haya_command.specs.declared.format.Format.TheVariants.{JsonLines, Lines}
 use Rattle.haya_command.specs.declared.options.Options.{Options}
 
 -- ---- what is asked
@@ -67,47 +56,6 @@ pub record AsksEntry (options : Options) (selector : Syntax) (before : ℕ) (ent
   pub count : after ≡ before + length hits
   pub same_options : next_options ≡ options
   pub same_selector : next_selector ≡ selector
-
--- ---- the list of an input
-
--- the entries that a text lists in a format in which they come one after another, in order,
--- repeated keys and all
-abbrev pub IsListIn : Format → List ℕ → List Tree → Type 0
-IsListIn Lines text entries = lines_list.IsListOf text entries
-IsListIn JsonLines text entries = json_lines.IsListOf text entries
-IsListIn _ text entries = ⊥
-
--- these are the first of them, or all
-abbrev pub BeginsListIn : Format → List ℕ → List Tree → Type 0
-BeginsListIn Lines text entries = lines_list.BeginsList text entries
-BeginsListIn JsonLines text entries = json_lines.BeginsList text entries
-BeginsListIn _ text entries = ⊥
-
--- where the run is strict, nothing of a text is passed over; of lines nothing ever is
-abbrev pub IsAccepted : Options → Format → List ℕ → Type 0
-IsAccepted options JsonLines text = IsTrue options.strict → IsWhole JsonLines text
-IsAccepted options _ text = Unit {0}
-
--- something is passed over of a first part of the lines of a text, or of all
-abbrev pub PassesOverFirst : Format → List ℕ → Type 0
-PassesOverFirst JsonLines text =
-    (first : List (List ℕ)) × (more : List (List ℕ)) × (lines text ≡ first ++ more)
-    × (json_lines.lines_passed_over first ≢ [])
-PassesOverFirst _ text = ⊥
-
--- what one who reads a line of JSON says of it, and counts of what is passed over
-pub record ReadsJsonLine (before : Ignored) (line : List ℕ) (entry : Tree) (after : Ignored)
-    : Type 0 where
-  pub says : json_lines.IsLineOf line entry
-  pub counts : counts_of after
-      ≡ all_counted (json_lines.line_passed_over line) (counts_of before)
-
--- the error that is told of a line of JSON that says no entry
-abbrev pub IsLineErrorFor : EntryFault ReadError → InputError → Type 0
-IsLineErrorFor (entry_fault.Line number error) e =
-    e ≡ input_error.JsonLines (record { line = number; error = error })
-IsLineErrorFor entry_fault.TooMany e =
-    e ≡ input_error.JsonLines (record { line = 2 ^ 64 - 1; error = read_error.OutOfMemory })
 
 -- ---- an input
 
@@ -146,7 +94,7 @@ pub record AsksFirst (format : Format) (options : Options) (selector : Syntax) (
 -- is said where memory is out, and nothing of the text where what is printed can't be written.
 abbrev pub Why : Options → Format → List ℕ → List ℕ → List ℕ → Fault → Type 0
 Why options format name text unwritten (fault.Input called e) =
-    (string_bytes called ≡ name) × IsErrorOf format text e × (unwritten ≡ [])
+    (string_bytes called ≡ name) × IsErrorIn format text e × (unwritten ≡ [])
 Why options format name text unwritten (fault.Unknown called members) =
     (string_bytes called ≡ name) × IsTrue options.strict × PassesOverFirst format text
     × (unwritten ≡ [])
@@ -175,6 +123,30 @@ pub record AsksPart (format : Format) (name : List ℕ) (options : Options) (sel
   pub told : IsTold options hits (written ++ unwritten)
   pub why : Why options format name text unwritten e
   pub prints : Appends out_before out_after written
+
+-- ---- elements of JSON
+
+-- The elements of an input whose bytes are known are asked: all, or, of their lines, as many as a
+-- quiet run needs. Nothing is said of an input whose bytes aren't known.
+abbrev pub AsksElements : Format → Options → Options → Syntax → Syntax → ℕ → ℕ
+    → Option (List ℕ) → Option (List ℕ) → Option (List ℕ) → Option (List ℕ) → Type 0
+AsksElements format options next_options selector next_selector before after unread left out_before
+    out_after =
+    (text : List ℕ) → unread ≡ Some text →
+    (next_options ≡ options) × (next_selector ≡ selector)
+    × (AsksInput format options selector before after unread left out_before out_after
+    ⊎ (behind : Option (List ℕ)) × AsksFirst format options selector before after
+    (Some (asked_lines format text)) behind out_before out_after)
+
+-- the same where it stops at a fault: the first of their lines are asked
+abbrev pub AsksElementsPart : Format → List ℕ → Options → Syntax → Option (List ℕ)
+    → Option (List ℕ) → Option (List ℕ) → Fault → Type 0
+AsksElementsPart format name options selector unread out_before out_after e =
+    (text : List ℕ) → unread ≡ Some text →
+    (behind : Option (List ℕ)) × AsksPart format name options selector
+    (Some (asked_lines format text)) behind out_before out_after e
+
+-- ---- faults of a stream
 
 -- the fault of the input that is called so, where a stream of its entries has this one
 abbrev pub IsStreamFault : {L : Type 0} → (L → InputError → Type 0) → List ℕ

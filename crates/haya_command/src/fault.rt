@@ -1,6 +1,6 @@
 //! Why a run of the command ends with status 2.
 use haya_input::InputFault;
-use haya_json::{LineError, ReadError};
+use haya_json::{ElementError, LineError, ReadError};
 use haya_list::EntryFault;
 use haya_printing::LinesError;
 use haya_stream::WriteFault;
@@ -19,6 +19,9 @@ pub enum InputError {
     /// Of a text in lines of JSON.
     #[error("{0}")]
     JsonLines(LineError),
+    /// Of an item or a member of a text in JSON, which are asked one after another.
+    #[error("{0}")]
+    Element(ElementError),
     /// Of a text in lines.
     #[error("{0}")]
     Lines(InputFault),
@@ -37,7 +40,7 @@ impl From<InputFault> for InputError {
 
 // More lines than can be counted are told as out of memory.
 impl From<EntryFault<ReadError>> for InputError {
-    ghost use Rattle.haya_command.specs.Streamed.{IsLineErrorFor};
+    ghost use Rattle.haya_command.specs.AskedLines.{IsLineErrorFor};
 
     ghost from_gives = { IsLineErrorFor };
 
@@ -46,6 +49,23 @@ impl From<EntryFault<ReadError>> for InputError {
             EntryFault::Line(line, error) => LineError { line, error },
             EntryFault::TooMany => LineError {
                 line: usize::MAX,
+                error: ReadError::OutOfMemory,
+            },
+        })
+    }
+}
+
+// The same of an element, which has a number of its own.
+impl From<EntryFault<ElementError>> for InputError {
+    ghost use Rattle.haya_command.specs.AskedLines.{IsElementErrorFor};
+
+    ghost from_gives = { IsElementErrorFor };
+
+    fn from(fault: EntryFault<ElementError>) -> InputError {
+        InputError::Element(match fault {
+            EntryFault::Line(_, error) => error,
+            EntryFault::TooMany => ElementError {
+                number: usize::MAX,
                 error: ReadError::OutOfMemory,
             },
         })

@@ -29,11 +29,12 @@ impl JsonReader {
 
 impl EntryReader for JsonReader {
     ghost use Rattle.haya_json.specs.JsonLines.{IsLineErrorOf};
-    ghost use Rattle.haya_command.specs.Streamed.{ReadsJsonLine};
+    ghost use Rattle.haya_command.specs.AskedLines.{ReadsLine};
+    ghost use Rattle.haya_command.specs.declared.format.Format.TheVariants.{JsonLines};
 
     type Error = ReadError;
 
-    ghost says = { λ r line entry t. ReadsJsonLine r.ignored line entry t.ignored };
+    ghost says = { λ r line entry t. ReadsLine JsonLines r.ignored line entry t.ignored };
 
     ghost refuses = { IsLineErrorOf };
 

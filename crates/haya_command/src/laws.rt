@@ -1,20 +1,31 @@
 //! Laws of the definitions. A call of one, as `lists_stand();`, gives its statement to the caller's
 //! proof.
-ghost use Rattle.std.specs.Prelude.{◌≡◌, ◌<◌, ◌↔◌, ◌++◌, ◌∷◌, [], ℕ, Bool, IsTrue, List, Option};
-ghost use Rattle.std.specs.Prelude.{length, string_bytes};
-ghost use Rattle.std.specs.Str.{chars};
+ghost use Rattle.std.specs.Prelude.{◌≡◌, ◌<◌, ◌↔◌, ◌⊎◌, ◌++◌, ◌∷◌, [], ℕ, All, Bool, IsTrue, List};
+ghost use Rattle.std.specs.Prelude.{Option, filter, length, map, string_bytes};
+ghost use Rattle.std.specs.List.{AllPairs, AllZip, concat, flat_map};
+ghost use Rattle.std.specs.Str.{IsUtf8, chars};
 ghost use Rattle.std.specs.Io.KnownBytes.{Appends};
+ghost use Rattle.hayagriva.specs.Holds.{holds};
 ghost use Rattle.hayagriva.specs.Library.{AreDistinct, from_entries, push};
-ghost use Rattle.hayagriva.specs.Query.{AreHits};
+ghost use Rattle.hayagriva.specs.Parts.{AreApart};
+ghost use Rattle.hayagriva.specs.Query.{AreHits, hit_entry};
 ghost use Rattle.hayagriva.specs.Reading.{TextReads};
 ghost use Rattle.hayagriva.specs.Syntax.{Syntax};
 ghost use Rattle.hayagriva.specs.Tree.{Tree};
 ghost use Rattle.hayagriva.specs.declared.query.Hit.{Hit as HitData};
+ghost use Rattle.haya_input.specs.Parts.{AreWholeLines};
+ghost use Rattle.haya_json.specs.JsonLines as json_lines;
+ghost use Rattle.haya_json.specs.JsonLines.{IsListOf};
+ghost use Rattle.haya_json.specs.Libraries as json;
+ghost use Rattle.haya_json.specs.Readable.{EntriesAreReadable};
 ghost use Rattle.haya_command.specs.Answer.{IsAnswer};
 ghost use Rattle.haya_command.specs.Picks.{wanted};
+ghost use Rattle.haya_command.specs.Printed.{FitsLine, IsTextOf};
 ghost use Rattle.haya_command.specs.Reading.{IsWhole, format_in};
 ghost use Rattle.haya_command.specs.Run.{Prints};
-ghost use Rattle.haya_command.specs.Streamed.{IsListIn, IsTold, end_text};
+ghost use Rattle.haya_command.specs.AskedLines.{IsListIn};
+ghost use Rattle.haya_command.specs.Streamed.{IsTold, end_text};
+ghost use Rattle.haya_command.specs.declared.form.Form.TheVariants as form;
 ghost use Rattle.haya_command.specs.declared.options.Options.{Options as OptionsData};
 
 /// What is printed of the hits of a list as they come, and their number at the end, is the answer
@@ -45,3 +56,38 @@ pub fn last_entry_replaces()
     ensures { (entries : List Tree) (t : Tree) →
         from_entries (entries ++ t ∷ []) ≡ push t (from_entries entries) }
 {}
+
+/// Whole lines of JSON and a text behind them list the entries of both, and where no key is in
+/// both they describe the libraries of both.
+pub fn json_lines_in_parts()
+    ensures list { (first second : List ℕ) (a b : List Tree) → AreWholeLines first →
+        IsListOf first a → IsListOf second b → IsListOf (first ++ second) (a ++ b) }
+    ensures lists { (texts : List (List ℕ)) (parts : List (List Tree)) →
+        All AreWholeLines texts → AllZip IsListOf texts parts →
+        IsListOf (concat texts) (flat_map (λ a. a) parts) }
+    ensures two { (first second : List ℕ) (a b : List Tree) → AreWholeLines first → AreApart a b →
+        json_lines.Describes first a → json_lines.Describes second b →
+        json_lines.Describes (first ++ second) (a ++ b) }
+    ensures many { (texts : List (List ℕ)) (parts : List (List Tree)) →
+        All AreWholeLines texts → AllPairs AreApart parts →
+        AllZip json_lines.Describes texts parts →
+        json_lines.Describes (concat texts) (flat_map (λ a. a) parts) }
+{}
+
+/// What is printed of hits as lines of JSON lists their entries again, where the values of each
+/// are as `TreeIsReadable` says and its line nests no deeper than 128. So it does where they are
+/// hits of entries that were read of JSON: of a library in either format, or of a list of lines.
+pub fn printed_lines_read_back()
+    ensures hits { (hits : List HitData) (text : List ℕ) →
+        EntriesAreReadable (map hit_entry hits) → All FitsLine (map hit_entry hits) →
+        IsTextOf form.JsonLines hits text → IsListOf text (map hit_entry hits) }
+    ensures read { (s : Syntax) (text printed : List ℕ) (entries : List Tree)
+        (hits : List HitData) → IsUtf8 text →
+        json.Describes text entries ⊎ (json_lines.Describes text entries ⊎ IsListOf text entries) →
+        AreHits s entries hits → All FitsLine (filter (holds s) entries) →
+        IsTextOf form.JsonLines hits printed → IsListOf printed (filter (holds s) entries) }
+{
+    haya_json::laws::printed_json_is_one_line();
+    haya_json::laws::read_entries_are_readable();
+    haya_json::laws::readable_entries_say_themselves();
+}

@@ -1,13 +1,17 @@
 //! The entries of inputs asked one after another, as they are read.
 ghost use Rattle.std.specs.Prelude.{◌≡◌, ◌⊎◌, IfErr, IfOk};
-ghost use Rattle.haya_command.specs.Streamed.{AsksFirst, AsksInput, AsksPart, IsStreamFault};
+ghost use Rattle.haya_command.specs.Streamed.{AsksElements, AsksElementsPart, AsksFirst, AsksInput};
+ghost use Rattle.haya_command.specs.Streamed.{AsksPart, IsStreamFault};
+ghost use Rattle.haya_command.specs.declared.format.Format.TheVariants.{CslJson, Hayagriva};
 ghost use Rattle.haya_command.specs.declared.format.Format.TheVariants.{JsonLines, Lines};
 
 use crate::asker::Asker;
+use crate::element_readers::{ItemReader, MemberReader};
 use crate::fault::{Fault, InputError};
 use crate::json_reader::JsonReader;
 use crate::reading::note_passed_over;
-use haya_list::{ListRefusal, answer_entry_lines, answer_lines};
+use haya_elements::Brackets;
+use haya_list::{ListRefusal, answer_elements, answer_entry_lines, answer_lines};
 use haya_printing::LinesError;
 use haya_stream::StreamFault;
 use std::alloc::Global;
@@ -70,6 +74,69 @@ pub fn ask_json_lines<'o, R: Read, W: Write>(
     let (asked, reader) = match answer_entry_lines(
         alloc,
         JsonReader::new(alloc, asker.keys),
+        asker,
+        input,
+        out,
+    ) {
+        Ok(done) => done,
+        Err(fault) => return Err(list_fault(alloc, name, fault)),
+    };
+    note_passed_over(alloc, asked.options, name, &reader.ignored, notes)?;
+    Ok(asked)
+}
+
+/// The same of an input in CSL-JSON that is a list of items: each item is asked as it is read. What
+/// is printed is a contract where the bytes of the input are known.
+pub fn ask_csl_json<'o, R: Read, W: Write>(
+    asker: Asker<'o>,
+    name: &str,
+    notes: &mut String,
+    input: &mut R,
+    out: &mut W,
+) -> Result<Asker<'o>, Fault>
+    ensures asks { IfOk result (λ asked. AsksElements CslJson asker.entry.options.now
+        asked.options.now asker.entry.selector asked.selector asker.entry.hits asked.hits
+        (R.remaining input.old) (R.remaining input.new) (W.contents out.old)
+        (W.contents out.new)) }
+    ensures part { IfErr result (AsksElementsPart CslJson name.now asker.entry.options.now
+        asker.entry.selector (R.remaining input.old) (W.contents out.old) (W.contents out.new)) }
+{
+    let alloc = asker.alloc;
+    let (asked, reader) = match answer_elements(
+        alloc,
+        Brackets::Square,
+        ItemReader::new(alloc, asker.keys),
+        asker,
+        input,
+        out,
+    ) {
+        Ok(done) => done,
+        Err(fault) => return Err(list_fault(alloc, name, fault)),
+    };
+    note_passed_over(alloc, asked.options, name, &reader.ignored, notes)?;
+    Ok(asked)
+}
+
+/// The same of an input in hayagriva's format: each member of its object is asked as it is read.
+pub fn ask_hayagriva<'o, R: Read, W: Write>(
+    asker: Asker<'o>,
+    name: &str,
+    notes: &mut String,
+    input: &mut R,
+    out: &mut W,
+) -> Result<Asker<'o>, Fault>
+    ensures asks { IfOk result (λ asked. AsksElements Hayagriva asker.entry.options.now
+        asked.options.now asker.entry.selector asked.selector asker.entry.hits asked.hits
+        (R.remaining input.old) (R.remaining input.new) (W.contents out.old)
+        (W.contents out.new)) }
+    ensures part { IfErr result (AsksElementsPart Hayagriva name.now asker.entry.options.now
+        asker.entry.selector (R.remaining input.old) (W.contents out.old) (W.contents out.new)) }
+{
+    let alloc = asker.alloc;
+    let (asked, reader) = match answer_elements(
+        alloc,
+        Brackets::Curly,
+        MemberReader::new(alloc, asker.keys),
         asker,
         input,
         out,

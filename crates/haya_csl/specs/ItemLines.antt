@@ -1,5 +1,5 @@
 -- The items of a text, an item a line.
-use Rattle.std.specs.Prelude.{◌≡◌, ℕ, List, [], ◌++◌, Option, flat_map, Ok}
+use Rattle.std.specs.Prelude.{◌≡◌, ℕ, List, [], ◌++◌, Option, flat_map, Ok, Result}
 use Rattle.std.specs.List.{AllZip}
 use Rattle.std.specs.Option.{option_map_or}
 use Rattle.json.specs.Json.{Json}
@@ -11,6 +11,7 @@ use Rattle.haya_entry.specs.Tree.{Tree}
 use Rattle.haya_json.specs.Alone.{value_alone}
 use Rattle.haya_json.specs.Ignored.{counts_of}
 use Rattle.haya_json.specs.Libraries.{IsErrorOfJson}
+use Rattle.haya_json.specs.Refusal.{Refusal, to_item, within}
 use Rattle.haya_json.specs.Tally.{tally}
 use Rattle.haya_json.specs.declared.error.ReadError.{ReadError}
 use Rattle.haya_json.specs.declared.ignored.Ignored.{Ignored}
@@ -31,9 +32,13 @@ pub record IsItemLineOf (line : List ℕ) (entry : Tree) : Type 0 where
   pub unique : HasUniqueKeys value
   pub read : item_of [] value ≡ Ok entry
 
--- what an error says of a line
-abbrev pub IsItemLineErrorOf : List ℕ → ReadError → Type 0
-IsItemLineErrorOf line error = IsErrorOfJson (item_of []) (item_in line) error
+-- the entry of the item at this place
+abbrev pub item_at : ℕ → Json → Result Tree Refusal
+item_at place j = within (to_item place) (item_of [] j)
+
+-- what an error says of a line, whose item is at this place
+abbrev pub IsItemLineErrorOf : ℕ → List ℕ → ReadError → Type 0
+IsItemLineErrorOf place line error = IsErrorOfJson (item_at place) (item_in line) error
 
 -- the names of the members of a line's item that are passed over
 abbrev pub line_passed_over : List ℕ → List (List ℕ)

@@ -2,6 +2,16 @@
 use Rattle.std.specs.Prelude.{ℕ, List, Option, option_map}
 use Rattle.haya_elements.specs.Elements.{lines_from}
 use Rattle.haya_elements.specs.declared.lines.ElementLines.{ElementLines}
+use Rattle.haya_elements.specs.declared.place.Brackets.{Brackets}
+use Rattle.haya_elements.specs.declared.place.Place.TheVariants.{Front}
+
+-- the lines of all that a reader has left, of which nothing is read yet
+abbrev pub all_lines : {R : Type 0} → R → Brackets → ElementLines R
+all_lines reader brackets = record { reader = reader; brackets = brackets; place = Front }
+
+-- what they are read from
+abbrev pub reader_of : {R : Type 0} → ElementLines R → R
+reader_of lines = lines.reader
 
 -- the lines of what the reader has left, where that is known
 abbrev pub lines_remaining : {R : Type 0} → (R → Option (List ℕ)) → ElementLines R

@@ -19,11 +19,12 @@ pub struct ElementLines<R> {
 }
 
 impl<R: Read> ElementLines<R> {
-    ghost use Rattle.haya_elements.specs.Remaining.{lines_remaining};
+    ghost use Rattle.haya_elements.specs.Remaining.{all_lines, lines_remaining};
 
     /// The elements in brackets of this kind.
     pub fn new(reader: R, brackets: Brackets) -> ElementLines<R>
-        ensures { lines_remaining R.remaining result
+        ensures fresh { result ≡ all_lines reader brackets }
+        ensures remaining { lines_remaining R.remaining result
             ≡ option_map (element_lines brackets) (R.remaining reader) }
     {
         ElementLines {

@@ -2,8 +2,9 @@
 ghost use Rattle.std.specs.Prelude.{◌≡◌, [], ◌∷◌, if◌then◌else◌};
 ghost use Rattle.json.specs.Lex.{class};
 ghost use Rattle.haya_elements.specs.Elements.{end_of};
-ghost use Rattle.haya_elements.specs.Steps.{open_of, close_of, opened, closed, behind_comma, at_operator};
-ghost use Rattle.haya_elements.specs.Steps.{in_element, begins, only_space, blank, in_text, mark, step};
+ghost use Rattle.haya_elements.specs.Steps.{at_operator, begins, behind_comma, blank, close_of};
+ghost use Rattle.haya_elements.specs.Steps.{closed, in_element, in_text, mark, only_space, open_of};
+ghost use Rattle.haya_elements.specs.Steps.{opened, step};
 
 /// The brackets that the elements of a text stand in.
 #[derive(Clone, Copy, Debug, Drop, PartialEq, Eq)]

@@ -380,7 +380,8 @@ mutual
   items_back key default n (one_more t ts) back =
       first_item key default n t ts (parent_back key default t back.0) (items_back key default (n + 1) ts back.1)
 
-entry_back : (t : Tree) → TreeIsBack t → entry_of (fields t).key None (json_of None t) ≡ Ok t
+-- what is printed of an entry of a library is read as the entry
+pub entry_back : (t : Tree) → TreeIsBack t → entry_of (fields t).key None (json_of None t) ≡ Ok t
 entry_back (node f ps) back =
     from_members f.key None f ps None refl (fields_back f.key None f.entry_type f _ back.0 ∙ parents_back f.key None f.entry_type ps f back.1)
 

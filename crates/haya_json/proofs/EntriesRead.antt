@@ -84,7 +84,7 @@ module _ (again : ReadAgain) where
       by false false false false g = kept_tree t u r (field_read again k j t u texts (fields_of_read t r) g)
 
   mutual
-    entry_read : (key : List ℕ) (default : Default) (j : Json) (t : Tree) → HasTexts j → entry_of key default j ≡ Ok t → TreeWasRead t
+    pub entry_read : (key : List ℕ) (default : Default) (j : Json) (t : Tree) → HasTexts j → entry_of key default j ≡ Ok t → TreeWasRead t
     entry_read key default (json.object ms) t texts h =
         let kind = both_ok (type_among default (json.object ms)) _ t h in
         let own : List ℕ = key_among key default (json.object ms) in

@@ -66,7 +66,7 @@ fields_back f r = record {
 }
 
 mutual
-  tree_back : (t : Tree) → TreeIsReadable t → TreeIsBack t
+  pub tree_back : (t : Tree) → TreeIsReadable t → TreeIsBack t
   tree_back (node f ps) r = (fields_back f r.0, trees_back ps r.1)
 
   trees_back : (ts : Trees) → TreesAreReadable ts → TreesAreBack ts

@@ -17,7 +17,7 @@ mod TextsBack
 mod NumbersBack
 mod SerialsBack
 mod FieldsBack
-mod Sounds
+pub mod Sounds
 mod SoundEntries
 mod NoBad
 pub mod TextsRead
@@ -26,8 +26,13 @@ mod SerialsRead
 mod FieldsRead
 mod EntriesRead
 mod LibraryRead
+mod Utf8Parts
 mod TextsParsed
+mod NumberBytes
 mod TokensParsed
+mod OneLine
+mod TextLines
+mod LinesRead
 mod NamedRead
 mod Positions
 pub mod LinesTaken

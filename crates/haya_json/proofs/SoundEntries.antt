@@ -12,10 +12,10 @@ use Rattle.haya_entry.specs.Tree.{Tree, Trees, Fields, node, no_trees, one_more}
 use Rattle.haya_entry.specs.declared.types.EntryType.{EntryType}
 use Rattle.hayagriva.specs.Library.{key_of, AreDistinct}
 use Rattle.haya_json.specs.Printed.{one_or_many_json, format_json, person_json, roles_json, date_json, publisher_json, url_json, pages_json, typed_json, number_json, number_or_text_json, serial_json, type_json, key_of_its_own, field_members, json_of, parent_members, item_list, library_members, library_json}
-use Rattle.haya_json.specs.ReadBack.{SaysItself}
+use Rattle.haya_json.specs.ReadBack.{EntrySaysItself, SaysItself}
 use Rattle.haya_json.specs.Readable.{FieldsAreReadable, TreeIsReadable, TreesAreReadable, EntriesAreReadable}
-use Rattle.haya_json.proofs.EntriesBack.{library_back}
-use Rattle.haya_json.proofs.FieldsBack.{weaken, always, entries_back}
+use Rattle.haya_json.proofs.EntriesBack.{entry_back, library_back}
+use Rattle.haya_json.proofs.FieldsBack.{weaken, always, entries_back, tree_back}
 use Rattle.haya_json.proofs.Sounds.{IsSound, MembersAreSound, ItemsAreSound, among_none, among_gone, Built, built_none, built_one, built_also, object_sound, text_sound, format_sound, persons_sound, affiliated_sound, date_sound, publisher_sound, url_sound, number_sound, number_or_text_sound, pages_sound, typed_sound, serial_sound}
 
 -- the names of the fields, and then these
@@ -85,6 +85,10 @@ mutual
       let one = tree_sound (Some key) t r.0 in
       let rest = list_sound key ts r.1 in
       ((one.0, rest.0), (one.1, rest.1))
+
+-- an entry whose values are as their types say
+pub entry_says_itself : (t : Tree) → TreeIsReadable t → EntrySaysItself t
+entry_says_itself t r = let sound = tree_sound None t r in record { numbers = sound.0; unique = sound.1; read = entry_back t (tree_back t r) }
 
 entries_sound : (ts : List Tree) → EntriesAreReadable ts → MembersAreSound (library_members ts)
 entries_sound [] r = (tt, tt)

@@ -1,15 +1,12 @@
 -- Values that are parsed of UTF-8 have texts that are UTF-8.
-use Rattle.std.proofs.Common.{◌≡◌, ℕ, zero, suc, ◌+◌, ◌<◌, Bool, true, false, cond, ◌||◌, ◌==◌, List, [], ◌∷◌, ◌++◌, length, drop, get_or, Option, Some, None, option_and_then, refl, sym, ap, ◌∙◌, subst, arith, IsUtf8, append_assoc}
+use Rattle.std.proofs.Common.{◌≡◌, ℕ, zero, suc, Bool, true, false, cond, ◌==◌, List, [], ◌∷◌, ◌++◌, length, Option, Some, None, option_and_then, refl, sym, subst, arith, IsUtf8, append_assoc}
 use Rattle.std.proofs.lemmas.Bool.Decides.{nat_tests}
-use Rattle.std.proofs.lemmas.List.{append-nil, length-append}
-use Rattle.std.proofs.Math.Seq.{drop-append_seam}
-use Rattle.std.proofs.lemmas.Str.{IsUtf8-append, IsUtf8-nil, IsCharBoundary-after_ascii, IsUtf8-drop}
-use Rattle.std.specs.Prelude.{⊤}
-use Rattle.std.specs.Char.{is_ascii_digit}
-use Rattle.std.specs.List.{prefix_len}
+use Rattle.std.proofs.lemmas.List.Elements.{All-head, All-tail}
+use Rattle.std.proofs.lemmas.Str.{IsUtf8-append, IsUtf8-nil}
+use Rattle.std.specs.Prelude.{⊤, All}
 use Rattle.json.specs.Token.{Token, begin_object, end_object, begin_array, end_array, key, string, number, boolean, null, bad}
 use Rattle.json.specs.Text.{content, plain}
-use Rattle.json.specs.Word.{is_operator, is_space, head, ends_word, after_digits, after_minus, after_sign, after_fraction, after_exponent, after_number, number_before, word}
+use Rattle.json.specs.Word.{is_operator, is_space, head, ends_word, after_number, number_before, word}
 use Rattle.json.specs.Lex.{Lexeme, token, comma, colon, Class, quote, backslash, operator, space, other, class, operator_lexeme, string_token, Mode, between, in_word, in_string, in_escape, lex_byte, lex}
 use Rattle.json.specs.Lex.{Place, fresh, after_value, after_comma, after_key, begins_colon, may_begin, may_close, if_allowed, place_token, punctuate, tokens}
 use Rattle.json.specs.Json as json
@@ -17,8 +14,10 @@ use Rattle.json.specs.Json.{Json, array, object, Items, no_items, item, Members,
 use Rattle.json.specs.Print.{IsNumber}
 use Rattle.json.specs.Tree.{HasNumbers, ItemsHaveNumbers, MembersHaveNumbers}
 use Rattle.json.proofs.Numbered.{document-HasNumbers}
+use Rattle.haya_json.proofs.NumberBytes.{IsNumberByte, number_bytes}
 use Rattle.haya_json.proofs.TextsParsed.{content_utf8, one_utf8}
 use Rattle.haya_json.proofs.TextsRead.{HasTexts, ItemsHaveTexts, MembersHaveTexts}
+use Rattle.haya_json.proofs.Utf8Parts.{behind_utf8}
 
 -- the text of a string is UTF-8; numbers are looked at apart
 abbrev TextToken : Token → Type 0
@@ -119,21 +118,6 @@ is_quote x h = by (x == 34) refl (x == 92) (is_operator x) (is_space x) h
     by false e false true d k = cc
     by false e false false true k = cc
     by false e false false false k = cc
-
-at_seam : (front xs : List ℕ) (x : ℕ) → get_or (front ++ x ∷ xs) (length front) 0 ≡ x
-at_seam [] xs x = refl
-at_seam (f ∷ front) xs x = at_seam front xs x
-
--- what is behind an ASCII byte of a text
-behind_utf8 : (front xs : List ℕ) (x : ℕ) → x < 128 → IsUtf8 (front ++ x ∷ xs) → IsUtf8 xs
-behind_utf8 front xs x small u =
-    let len = length-append front (x ∷ xs) in
-    let one = length-append front (x ∷ []) in
-    let low : get_or (front ++ x ∷ xs) (length front) 0 < 128 = omega (arith, at_seam front xs x) in
-    let boundary = IsCharBoundary-after_ascii (front ++ x ∷ xs) (length front) u (omega (arith, len)) low in
-    let there : length front + 1 ≡ length (front ++ x ∷ []) = omega (arith, one) in
-    let cut : drop (length front + 1) (front ++ x ∷ xs) ≡ xs = ap (λ n. drop n (front ++ x ∷ xs)) there ∙ ap (drop (length (front ++ x ∷ []))) (sym (append_assoc front (x ∷ []) xs)) ∙ drop-append_seam (front ++ x ∷ []) xs in
-    subst IsUtf8 cut (IsUtf8-drop (front ++ x ∷ xs) (length front + 1) u boundary)
 
 Lexemes-lex : (front xs : List ℕ) (m : Mode) → IsUtf8 (front ++ xs) → Lexemes (lex m xs)
 unfolding lex
@@ -278,78 +262,14 @@ document_strings d j u e = subst IfFound e (last _ (Keeps-value max_depth (token
 
 -- ---- the texts of numbers
 
-record Eaten (t r : List ℕ) : Type 0 where
-  front : List ℕ
-  joined : t ≡ front ++ r
-  ascii : IsUtf8 front
-
-abbrev Eats : List ℕ → Option (List ℕ) → Type 0
-Eats t None = ⊤
-Eats t (Some r) = Eaten t r
-
-none_eaten : (t : List ℕ) → Eaten t t
-none_eaten t = record { front = []; joined = refl; ascii = IsUtf8-nil }
-
-further : (t u : List ℕ) (o : Option (List ℕ)) → Eaten t u → Eats u o → Eats t o
-further t u None e h = tt
-further t u (Some r) e h = record { front = e.front ++ h.front; joined = e.joined ∙ ap (λ l. e.front ++ l) h.joined ∙ sym (append_assoc e.front h.front r); ascii = IsUtf8-append e.front h.front e.ascii h.ascii }
-
-either : (t : List ℕ) (b : Bool) (x y : Option (List ℕ)) → (b ≡ true → Eats t x) → Eats t y → Eats t (cond b x y)
-either t true x y p q = p refl
-either t false x y p q = q
-
-one_eaten : (t : List ℕ) → get_or t 0 32 < 128 → Eaten t (drop 1 t)
-one_eaten [] h = none_eaten []
-one_eaten (x ∷ xs) h = record { front = x ∷ []; joined = refl; ascii = one_utf8 x h }
-
-optional : (t : List ℕ) (b : Bool) → (b ≡ true → get_or t 0 32 < 128) → Eaten t (cond b (drop 1 t) t)
-optional t true h = one_eaten t (h refl)
-optional t false h = none_eaten t
-
-digits_eaten : (t : List ℕ) → Eaten t (drop (prefix_len is_ascii_digit t) t)
-digits_eaten [] = none_eaten []
-digits_eaten (x ∷ xs) = by (is_ascii_digit x) refl (digits_eaten xs)
-  where
-    by : (b : Bool) → is_ascii_digit x ≡ b → Eaten xs (drop (prefix_len is_ascii_digit xs) xs) → Eaten (x ∷ xs) (drop (cond b (1 + prefix_len is_ascii_digit xs) 0) (x ∷ xs))
-    by true e more =
-        let small : x < 128 = grind (arith, nat_tests) in
-        let next : 1 + prefix_len is_ascii_digit xs ≡ suc (prefix_len is_ascii_digit xs) = omega arith in
-        rw next (record { front = x ∷ more.front; joined = ap (λ l. x ∷ l) more.joined; ascii = IsUtf8-append (x ∷ []) more.front (one_utf8 x small) more.ascii })
-    by false e more = none_eaten (x ∷ xs)
-
-digits : (t : List ℕ) → Eats t (after_digits t)
-digits t = either t (prefix_len is_ascii_digit t == 0) None _ (λ e. tt) (digits_eaten t)
-
-then : (t : List ℕ) (f : List ℕ → Option (List ℕ)) → ((u : List ℕ) → Eats u (f u)) → (o : Option (List ℕ)) → Eats t o → Eats t (option_and_then f o)
-then t f g None h = tt
-then t f g (Some r) h = further t r (f r) h (g r)
-
-is_small : (x y : ℕ) → (x == y) ≡ true → y < 128 → x < 128
-is_small x y e h = grind (arith, nat_tests)
-
-either_small : (x y z : ℕ) → ((x == y) || (x == z)) ≡ true → y < 128 → z < 128 → x < 128
-either_small x y z e h k = grind (arith, nat_tests)
-
-fraction : (t : List ℕ) → Eats t (after_fraction t)
-fraction t = either t (head t == 46) _ (Some t) (λ e. further t (drop 1 t) _ (one_eaten t (is_small (head t) 46 e (omega arith))) (digits (drop 1 t))) (none_eaten t)
-
-exponent : (t : List ℕ) → Eats t (after_exponent t)
-exponent t =
-    let u : List ℕ = drop 1 t in
-    either t ((head t == 101) || (head t == 69)) _ (Some t)
-    (λ e. further t u _ (one_eaten t (either_small (head t) 101 69 e (omega arith) (omega arith))) (further u (after_sign u) _ (optional u _ (λ f. either_small (head u) 45 43 f (omega arith) (omega arith))) (digits (after_sign u)))) (none_eaten t)
-
-number_eaten : (t : List ℕ) → Eats t (after_number t)
-unfolding after_number
-number_eaten t =
-    let u : List ℕ = after_minus t in
-    then t after_exponent exponent _
-    (then t after_fraction fraction _ (further t u _ (optional t _ (λ e. is_small (head t) 45 e (omega arith))) (either u (head u == 48) (Some (drop 1 u)) _ (λ e. one_eaten u (is_small (head u) 48 e (omega arith))) (digits u))))
+ascii_utf8 : (s : List ℕ) → All IsNumberByte s → IsUtf8 s
+ascii_utf8 [] h = IsUtf8-nil
+ascii_utf8 (x ∷ s) h =
+    let first = All-head IsNumberByte x s h in
+    IsUtf8-append (x ∷ []) s (one_utf8 x (omega arith)) (ascii_utf8 s (All-tail IsNumberByte x s h))
 
 number_utf8 : (s : List ℕ) → IsNumber s → IsUtf8 s
-number_utf8 s e =
-    let eaten : Eaten s [] = subst (Eats s) e (number_eaten s) in
-    subst IsUtf8 (sym (eaten.joined ∙ append-nil eaten.front)) eaten.ascii
+number_utf8 s is = ascii_utf8 s (number_bytes s is)
 
 mutual
   texts_of : (j : Json) → HasStrings j → HasNumbers j → HasTexts j

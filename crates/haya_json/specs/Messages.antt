@@ -4,6 +4,7 @@ use Rattle.std.specs.Char.{encode_utf8}
 use Rattle.std.specs.Fmt.{decimal}
 use Rattle.std.specs.Str.{chars}
 use Rattle.haya_json.specs.Refusal.{StepView, to_member, to_item, step_view}
+use Rattle.haya_json.specs.declared.error.ElementError.{ElementError}
 use Rattle.haya_json.specs.declared.error.LineError.{LineError}
 use Rattle.haya_json.specs.declared.error.ReadError.{ReadError}
 use Rattle.haya_json.specs.declared.error.ReadError.TheVariants.{NotJson, NameTwice, Refused, OutOfMemory}
@@ -67,3 +68,14 @@ text_in_line n OutOfMemory =
 
 abbrev pub line_error_text : LineError → List ℕ
 line_error_text e = text_in_line e.line e.error
+
+-- an error of the element with this number: a position is one in the element, a path one in the text
+abbrev pub text_in_element : ℕ → ReadError → List ℕ
+text_in_element n (NotJson p) =
+    codes "element " ++ (decimal n ++ (codes ", " ++ error_text (NotJson p)))
+text_in_element n (NameTwice p) =
+    codes "element " ++ (decimal n ++ (codes ", " ++ error_text (NameTwice p)))
+text_in_element n e = error_text e
+
+abbrev pub element_error_text : ElementError → List ℕ
+element_error_text e = text_in_element e.number e.error

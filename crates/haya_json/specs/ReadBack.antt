@@ -1,5 +1,5 @@
 -- Libraries that are read back from what is printed of them.
-use Rattle.std.specs.Prelude.{◌≡◌, ◌≤◌, List, [], ◌∷◌, Option, IfSome, Result, Ok}
+use Rattle.std.specs.Prelude.{◌≡◌, ◌≤◌, List, [], ◌∷◌, None, Option, IfSome, Result, Ok}
 use Rattle.json.specs.Json as json
 use Rattle.json.specs.Json.{Json, max_depth}
 use Rattle.json.specs.Strict.{HasUniqueKeys}
@@ -7,11 +7,13 @@ use Rattle.json.specs.Print.{print}
 use Rattle.json.specs.Tree.{HasNumbers, depth as nesting, json_tokens}
 use Rattle.haya_time.specs.DurationPrint.{duration_text, range_text}
 use Rattle.haya_entry.specs.Tree.{Tree, Trees, Fields, node, no_trees, one_more}
+use Rattle.hayagriva.specs.Library.{key_of}
+use Rattle.haya_json.specs.Entries.{entry_of}
 use Rattle.haya_json.specs.Refusal.{Refusal}
 use Rattle.haya_json.specs.Parts.{plain_of}
 use Rattle.haya_json.specs.Values.{format_of, persons_of, affiliated_of, date_of, publisher_of, url_of, number_of, number_or_text_of, pages_or_text_of, range_or_text_of, duration_or_text_of, serials_of}
 use Rattle.haya_json.specs.Libraries.{Describes, library_of}
-use Rattle.haya_json.specs.Printed.{one_or_many_json, format_json, person_json, roles_json, date_json, publisher_json, url_json, pages_json, typed_json, number_json, number_or_text_json, serial_json, library_json}
+use Rattle.haya_json.specs.Printed.{one_or_many_json, format_json, person_json, roles_json, date_json, publisher_json, url_json, pages_json, typed_json, number_json, number_or_text_json, serial_json, json_of, library_json}
 
 -- The JSON of the library can be read, since it nests no deeper than 128, its numbers are numbers
 -- and no object in it has a member twice; and it says the library.
@@ -20,6 +22,12 @@ pub record SaysItself (library : List Tree) : Type 0 where
   pub numbers : HasNumbers (library_json library)
   pub unique : HasUniqueKeys (library_json library)
   pub read : library_of (library_json library) ≡ Ok library
+
+-- The same of one entry, but for how deep its JSON nests: under the entry's key it says the entry.
+pub record EntrySaysItself (t : Tree) : Type 0 where
+  pub numbers : HasNumbers (json_of None t)
+  pub unique : HasUniqueKeys (json_of None t)
+  pub read : entry_of (key_of t) None (json_of None t) ≡ Ok t
 
 -- the bytes that are printed of the library describe it
 abbrev pub ReadsBack : List Tree → Type 0

@@ -1,6 +1,7 @@
 //! Why a text is no library, or a line no entry, and how that is shown.
 ghost use Rattle.std.specs.Prelude.{Some, map, string_bytes};
-ghost use Rattle.haya_json.specs.Messages.{error_text, line_error_text, pointer, pointer_char};
+ghost use Rattle.haya_json.specs.Messages.{element_error_text, error_text, line_error_text};
+ghost use Rattle.haya_json.specs.Messages.{pointer, pointer_char};
 ghost use Rattle.haya_json.specs.Messages.{pointer_name, pointer_step, why_text};
 ghost use Rattle.haya_json.specs.Refusal.{step_view};
 
@@ -73,6 +74,32 @@ impl fmt::Display for LineError {
 }
 
 impl std::error::Error for LineError {}
+
+/// Why an element of a text, an item or a member, is no entry.
+#[derive(Debug, Drop)]
+pub struct ElementError {
+    /// The number of the element, from 1 on.
+    pub number: usize,
+    /// What is wrong with it. A position is one in the element alone.
+    pub error: ReadError,
+}
+
+impl fmt::Display for ElementError {
+    ghost output = { λ e. Some (element_error_text e) };
+
+    /// What is wrong, behind its place in the text: `element 3, line 1, column 7: no JSON`, or
+    /// `/klein2009/date: not read as a date`.
+    fn fmt<W: fmt::Write>(&self, f: &mut fmt::Formatter<W>) -> fmt::Result {
+        match &self.error {
+            ReadError::NotJson(_) | ReadError::NameTwice(_) => {
+                write!(f, "element {}, {}", self.number, self.error)
+            }
+            error => write!(f, "{error}"),
+        }
+    }
+}
+
+impl std::error::Error for ElementError {}
 
 impl fmt::Display for Why {
     ghost output = { λ why. Some (why_text why) };

@@ -1,9 +1,10 @@
 //! Laws of the definitions. A call of one, as `one_library();`, gives its statement to the caller's
 //! proof.
-ghost use Rattle.std.specs.Prelude.{◌≡◌, ◌≤◌, ℕ, List, Ok};
+ghost use Rattle.std.specs.Prelude.{◌≡◌, ◌≤◌, ℕ, All, List, Ok};
 ghost use Rattle.std.specs.Str.{IsUtf8};
-ghost use Rattle.json.specs.Json.{max_depth};
-ghost use Rattle.json.specs.Tree.{depth as nesting};
+ghost use Rattle.json.specs.Json.{Json, max_depth};
+ghost use Rattle.json.specs.Print.{print};
+ghost use Rattle.json.specs.Tree.{HasNumbers, depth as nesting, json_tokens};
 ghost use Rattle.haya_text.specs.Chunks.{chunks};
 ghost use Rattle.haya_text.specs.Normal.{IsNormal};
 ghost use Rattle.haya_text.specs.declared.strings.chunked.ChunkedString.{ChunkedString as Text};
@@ -12,11 +13,13 @@ ghost use Rattle.haya_time.specs.declared.date.Date.{Date};
 ghost use Rattle.haya_entry.specs.Tree.{Tree};
 ghost use Rattle.hayagriva.specs.Library.{AreDistinct};
 ghost use Rattle.haya_json.specs.Ignored.{IsPassedOver};
+ghost use Rattle.haya_json.specs.JsonLines as json_lines;
 ghost use Rattle.haya_json.specs.Libraries.{Describes, library_of};
 ghost use Rattle.haya_json.specs.MemberLines as member_lines;
 ghost use Rattle.haya_json.specs.Printed.{date_json, library_json, person_json};
-ghost use Rattle.haya_json.specs.ReadBack.{EntriesAreBack, ReadsBack, SaysItself};
+ghost use Rattle.haya_json.specs.ReadBack.{EntriesAreBack, EntrySaysItself, ReadsBack, SaysItself};
 ghost use Rattle.haya_json.specs.Readable.{AreReadable, EntriesAreReadable, IsReadableDate};
+ghost use Rattle.haya_json.specs.Readable.{TreeIsReadable};
 ghost use Rattle.haya_json.specs.Values.{date_of, person_of};
 ghost use Rattle.haya_json.specs.declared.ignored.Ignored.{Ignored};
 
@@ -52,12 +55,7 @@ pub fn read_libraries_read_back()
     ensures { (text : List ℕ) (library : List Tree) → IsUtf8 text → Describes text library
         → nesting (library_json library) ≤ max_depth → ReadsBack library }
 {
-    haya_text::laws::read_texts_read_back();
-    haya_numbers::laws::read_numbers_read_back();
-    haya_numbers::laws::read_numbers_round_trip();
-    haya_numbers::laws::pages::read_pages_round_trip();
-    haya_time::laws::durations::read_durations_read_back();
-    haya_time::laws::dates::reads_the_forms_of_dates();
+    read_entries_are_readable();
 }
 
 /// Persons are always read from what is printed of them, and chunks of a text where they are in
@@ -94,3 +92,32 @@ pub fn libraries_are_member_lines()
 {
     haya_elements::laws::elements_of_documents();
 }
+
+/// Entries that were read have values as `EntriesAreReadable` says: those of a library, those that
+/// lines of JSON list, and those of the library of such lines.
+pub fn read_entries_are_readable()
+    ensures library { (text : List ℕ) (library : List Tree) → IsUtf8 text → Describes text library
+        → EntriesAreReadable library }
+    ensures list { (text : List ℕ) (entries : List Tree) → IsUtf8 text
+        → json_lines.IsListOf text entries → EntriesAreReadable entries }
+    ensures of_lines { (text : List ℕ) (library : List Tree) → IsUtf8 text
+        → json_lines.Describes text library → EntriesAreReadable library }
+{
+    haya_text::laws::read_texts_read_back();
+    haya_numbers::laws::read_numbers_read_back();
+    haya_numbers::laws::read_numbers_round_trip();
+    haya_numbers::laws::pages::read_pages_round_trip();
+    haya_time::laws::durations::read_durations_read_back();
+    haya_time::laws::dates::reads_the_forms_of_dates();
+}
+
+/// What is printed of an entry whose values are as `TreeIsReadable` says can be read, where it
+/// isn't too deep, and says the entry.
+pub fn readable_entries_say_themselves()
+    ensures { (t : Tree) → TreeIsReadable t → EntrySaysItself t }
+{}
+
+/// What is printed of JSON whose numbers are numbers has no byte below 32, and so it is one line.
+pub fn printed_json_is_one_line()
+    ensures { (j : Json) → HasNumbers j → All (λ b. 32 ≤ b) (print (json_tokens j)) }
+{}

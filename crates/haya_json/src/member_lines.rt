@@ -16,7 +16,7 @@ use crate::entries::read_entry;
 use crate::error::ReadError;
 use crate::fault::Fault;
 use crate::ignored::Ignored;
-use crate::parse_errors::{name_twice, no_member};
+use crate::parse_errors::{name_twice_in_line, no_member};
 use crate::passed_over::note_entry;
 use haya_entry::Entry;
 use json::{Reader, Scratch, Token, Value};
@@ -71,7 +71,7 @@ fn member_in<'a>(
     match read_alone(alloc, &mut reader) {
         Ok(json) => Ok((name, json)),
         Err(json::Error::Invalid) => Err(no_member(alloc, line)),
-        Err(json::Error::DuplicateKey) => Err(name_twice(alloc, line)),
+        Err(json::Error::DuplicateKey) => Err(name_twice_in_line(alloc, line)),
         Err(_) => Err(ReadError::OutOfMemory),
     }
 }

@@ -5,6 +5,6 @@ pub use crate::fault::Fault;
 pub use crate::from_json::{
     FromJson, member, needed, optional, read_by, read_items, read_text, text_in,
 };
-pub use crate::parse_errors::{name_twice, no_item, not_json};
+pub use crate::parse_errors::{name_twice, name_twice_in_line, no_item, not_json};
 pub use crate::unique::has_unique_names;
 pub use crate::values::{read_typed, whole_read};

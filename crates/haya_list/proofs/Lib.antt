@@ -1,3 +1,4 @@
+pub mod ElementLists
 pub mod EntryLineLists
 pub mod Inputs
 pub mod LineLists

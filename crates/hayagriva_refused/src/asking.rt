@@ -6,10 +6,11 @@ use crate::marks::Row;
 use crate::printing::prints;
 use crate::works::string;
 use haya_command::{
-    Asker, Form, InputError, Options, ask_json_lines, ask_lines, end_asking, tell_notes, warn,
+    Asker, Form, Format, InputError, Options, ask_csl_json, ask_hayagriva, ask_json_lines, ask_lines,
+    end_asking, tell_notes, warn,
 };
 use haya_input::read_library;
-use haya_json::{LineError, ReadError};
+use haya_json::{ElementError, LineError, ReadError};
 use haya_list::{EntryAnswerer, EntryFault};
 use haya_printing::LinesError;
 use haya_text::OutOfMemory;
@@ -133,14 +134,31 @@ fn two_works(rt: HostRuntime) {
     drop(options);
 }
 
-// The keys of the works are asked for.
-const JSON_LINES: &str = "{\"key\":\"a\",\"entry\":{\"type\":\"article\",\"title\":\"T\"}}\n\n\
-    {\"key\":\"b\",\"entry\":{\"type\":\"web\",\"x\":1}}\n";
+// Two works in each format that is JSON, of which `n:*[title]` picks the first.
+const FORMATS: &[(Format, &str, &str)] = &[
+    (
+        Format::JsonLines,
+        "{\"key\":\"a\",\"entry\":{\"type\":\"article\",\"title\":\"T\"}}\n\n\
+        {\"key\":\"b\",\"entry\":{\"type\":\"web\",\"x\":1}}\n",
+        "two lines of JSON",
+    ),
+    (
+        Format::CslJson,
+        "[{\"id\":\"a\",\"type\":\"book\",\"title\":\"T\"},\n{\"id\":\"b\",\"type\":\"webpage\",\"x\":1}]",
+        "two items",
+    ),
+    (
+        Format::Hayagriva,
+        "{\"a\":{\"type\":\"article\",\"title\":\"T\"},\n\"b\":{\"type\":\"web\",\"x\":1}}",
+        "two members",
+    ),
+];
 
-// Whether the entries of lines of JSON are asked, there is a hit, and these are the notes.
-fn are_json_lines_asked(
+// Whether the entries of a text in a format that is JSON are asked, there is a hit, and these are
+// the notes.
+fn is_json_asked(
     alloc: Global,
-    (options, text, wanted): (&Options, &str, &str),
+    (options, format, text, wanted): (&Options, Format, &str, &str),
     out: &mut Vec<u8>,
 ) -> Result<bool, OutOfMemory> {
     let asker = match Asker::new(alloc, keys(), options) {
@@ -149,26 +167,28 @@ fn are_json_lines_asked(
     };
     let mut notes = String::new(alloc);
     let mut input = text.as_bytes();
-    match ask_json_lines(asker, "a file", &mut notes, &mut input, out) {
+    let asked = match format {
+        Format::CslJson => ask_csl_json(asker, "a file", &mut notes, &mut input, out),
+        Format::Hayagriva => ask_hayagriva(asker, "a file", &mut notes, &mut input, out),
+        _ => ask_json_lines(asker, "a file", &mut notes, &mut input, out),
+    };
+    match asked {
         Ok(asked) => Ok(is_ended(asked, out)? && notes.as_str() == wanted),
         Err(fault) => told(fault),
     }
 }
 
-const ASKS_JSON: &str = "answer_entry_lines ask_json_lines";
+const ASKS_JSON: &str = "answer_entry_lines answer_elements ask_json_lines ask_csl_json ask_hayagriva";
 
 #[test]
-fn json_lines(rt: HostRuntime) {
+fn json(rt: HostRuntime) {
     let options = options(&rt, Form::Keys);
-    let row = Row(ASKS_JSON, "two works", Optional);
     let note = "haya: a file: passed over: x (1)\n";
-    prints(
-        &rt,
-        row,
-        (&options, JSON_LINES, note),
-        "a\tn=a\n",
-        are_json_lines_asked,
-    );
+    for (format, text, about) in FORMATS {
+        let row = Row(ASKS_JSON, *about, Optional);
+        let given = (&options, *format, *text, note);
+        prints(&rt, row, given, "a\tn=a\n", is_json_asked);
+    }
     drop(options);
 }
 
@@ -182,13 +202,30 @@ fn many_json_lines(rt: HostRuntime) {
         let line = "\"entry\":{\"type\":\"article\",\"title\":\"T\"}";
         write!(lines, "{{\"key\":\"k{number}\",{line}}}\n").expect(&rt, "memory");
     }
-    let row = Row(ASKS_JSON, "2,000 works", Often);
-    let given = (&options, lines.as_str(), "");
-    prints(&rt, row, given, "2000\n", are_json_lines_asked);
+    let row = Row(ASKS_JSON, "2,000 lines of JSON", Often);
+    let given = (&options, Format::JsonLines, lines.as_str(), "");
+    prints(&rt, row, given, "2000\n", is_json_asked);
     drop(options);
 }
 
-fn is_from(_given: ()) -> bool {
+// Several blocks of a list.
+#[test]
+fn many_items(rt: HostRuntime) {
+    let mut options = options(&rt, Form::Keys);
+    options.count = true;
+    let mut list = string(&rt, "[");
+    for number in 0..2_000 {
+        let rest = "\"type\":\"book\",\"title\":\"T\"";
+        write!(list, "{{\"id\":\"k{number}\",{rest}}},\n").expect(&rt, "memory");
+    }
+    write!(list, "{{\"id\":\"last\",\"type\":\"book\"}}]").expect(&rt, "memory");
+    let row = Row(ASKS_JSON, "2,001 items", Often);
+    let given = (&options, Format::CslJson, list.as_str(), "");
+    prints(&rt, row, given, "2000\n", is_json_asked);
+    drop(options);
+}
+
+fn is_from_line(_given: ()) -> bool {
     let fault = EntryFault::Line(3, ReadError::OutOfMemory);
     matches!(
         InputError::from(fault),
@@ -199,9 +236,24 @@ fn is_from(_given: ()) -> bool {
     )
 }
 
+fn is_from_element(_given: ()) -> bool {
+    let error = ElementError {
+        number: 2,
+        error: ReadError::OutOfMemory,
+    };
+    matches!(
+        InputError::from(EntryFault::Line(3, error)),
+        InputError::Element(ElementError {
+            number: 2,
+            error: ReadError::OutOfMemory
+        }),
+    )
+}
+
 #[test]
 fn errors_of_lines(rt: HostRuntime) {
-    takes_none(&rt, "InputError::from", (), is_from);
+    takes_none(&rt, "InputError::from", (), is_from_line);
+    takes_none(&rt, "InputError::from", (), is_from_element);
 }
 
 // Several blocks of input.

@@ -22,8 +22,9 @@ const ENTRIES: &[(&str, &str)] = &[
 const REFUSED: &[(&str, &str)] = &[
     ("", "line 1, column 1: no JSON"),
     (r#"{"id":"a""#, "line 1, column 10: no JSON"),
-    // nothing may stand behind the item
-    (r#"{"id":"a"},"#, "line 1, column 12: no JSON"),
+    // nothing may stand behind the item, and a comma at the end marks the place of a fault
+    (r#"{"id":"a"},"#, "line 1, column 11: no JSON"),
+    (",", "line 1, column 1: no JSON"),
     (r#"{"id":"a"}]"#, "line 1, column 11: no JSON"),
     (r#"{"id":"a"},{"id":"b"}"#, "line 1, column 12: no JSON"),
     (r#""a":{"id":"a"}"#, "line 1, column 1: no JSON"),
@@ -31,20 +32,26 @@ const REFUSED: &[(&str, &str)] = &[
         r#"{"id":"a","id":"b"}"#,
         "line 1, column 11: an object has a member twice",
     ),
+    // a tab in a line takes the place of a line feed in the text
+    (
+        "{\"id\":\"a\",\t\t \"id\":\"b\"}",
+        "line 3, column 2: an object has a member twice",
+    ),
+    ("{\"id\":\t\"a\"", "line 2, column 4: no JSON"),
     (
         r#"{"é":"a","x":{"y":1,"\u0079":2}}"#,
         "line 1, column 21: an object has a member twice",
     ),
-    (r#"["a"]"#, ": expected an object"),
-    ("{}", "/id: missing"),
-    (r#"{"id":"a","type":"novel"}"#, "/type: unknown type"),
+    (r#"["a"]"#, "/2: expected an object"),
+    ("{}", "/2/id: missing"),
+    (r#"{"id":"a","type":"novel"}"#, "/2/type: unknown type"),
 ];
 
 // The library of a line's entry, and behind it each name that is passed over, with how often it
 // came.
 fn shown(rt: &(impl Abort + AllocGlobal), line: &str) -> String {
     let mut ignored = Ignored::new(rt.alloc());
-    let entry = read_item_line(rt.alloc(), line, &mut ignored).expect(rt, "an entry");
+    let entry = read_item_line(rt.alloc(), 2, line, &mut ignored).expect(rt, "an entry");
     let mut library = Library::new(rt.alloc());
     library.insert(entry).expect(rt, "memory");
     let json = to_json(rt.alloc(), &library).expect(rt, "memory");
@@ -59,7 +66,7 @@ fn shown(rt: &(impl Abort + AllocGlobal), line: &str) -> String {
 // What the error of a line shows, or nothing where it has none.
 fn message(rt: &(impl Abort + AllocGlobal), line: &str) -> String {
     let mut ignored = Ignored::new(rt.alloc());
-    match read_item_line(rt.alloc(), line, &mut ignored) {
+    match read_item_line(rt.alloc(), 2, line, &mut ignored) {
         Ok(entry) => {
             drop(entry);
             String::new(rt.alloc())
@@ -100,7 +107,7 @@ fn refuses_what_is_no_item_of_a_list(rt: HostRuntime) {
 #[test]
 fn an_item_nests_127_deep(rt: HostRuntime) {
     let shown = message(&rt, nested(&rt, 127).as_str());
-    assert!(rt; shown.as_str() == ": expected an object");
+    assert!(rt; shown.as_str() == "/2: expected an object");
     let shown = message(&rt, nested(&rt, 128).as_str());
     assert!(rt; shown.as_str() == "line 1, column 128: no JSON");
 }

@@ -26,8 +26,9 @@ const REFUSED: &[(&str, &str)] = &[
     (r#""a":"#, "line 1, column 5: no JSON"),
     (r#"{"a":{"type":"misc"}}"#, "line 1, column 1: no JSON"),
     (r#"{"type":"misc"}"#, "line 1, column 1: no JSON"),
-    // nothing may stand behind the member
-    (r#""a":{"type":"misc"},"#, "line 1, column 21: no JSON"),
+    // nothing may stand behind the member, and a comma at the end marks the place of a fault
+    (r#""a":{"type":"misc"},"#, "line 1, column 20: no JSON"),
+    (",", "line 1, column 1: no JSON"),
     (r#""a":{"type":"misc"}}"#, "line 1, column 20: no JSON"),
     (
         r#""a":{"type":"misc"},"b":{"type":"misc"}"#,

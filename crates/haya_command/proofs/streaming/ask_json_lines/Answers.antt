@@ -3,7 +3,7 @@ use Rattle.std.specs.Prelude.{nat_lt}
 use Rattle.haya_list.specs.Listed.{entries_of, printed_of}
 use Rattle.haya_command.specs.declared.format.Format.TheVariants.{JsonLines}
 use Rattle.std.proofs.lemmas.Result.{err_from_is_err_and}
-use Rattle.haya_command.proofs.JsonLists.{begins_list, first_of_all, line_error, reads_list, unknown_why}
+use Rattle.haya_command.proofs.EntryLists.{begins_list, first_of_all, line_error, reads_list, unknown_why}
 use Rattle.haya_command.proofs.Streams.{asks_enough, asks_input, asks_part, options_kept, selector_kept, stream_why}
 use Rattle.haya_command.proofs.streaming.ask_json_lines.Goals as goal
 
@@ -11,7 +11,7 @@ pub returns-in-Err-clause-part : goal.returns-in-Err-clause-part
 returns-in-Err-clause-part g c =
     let a = c.in-Err.ensures.part in
     asks_part (λ s. s.options.now) (λ s. s.selector) (λ s. s.hits) (λ s. s.options.now.quiet && nat_lt 0 s.hits) c.args.asker a.last c.args.asker.streams _ _ _ _ JsonLines c.args.name.now _ a.text a.replies
-    a.written a.unwritten a.read (begins_list (λ r. r.ignored) c.new.result c.new.ensures a.text (entries_of a.replies) a.list.0 a.list.1) a.run a.parts
+    a.written a.unwritten a.read (begins_list JsonLines (λ r. r.ignored) c.new.result c.new.ensures a.text (entries_of a.replies) a.list.0 a.list.1) a.run a.parts
     (stream_why c.args.asker.options.now JsonLines c.args.name.now _ _ _ (λ text fault e is at. line_error (λ r. r.ignored) c.new.result c.new.ensures text fault e is at) a.text a.unwritten c.in-Err.fault _ c.list_fault.ensures a.why) a.prints
 
 -- a strict run, or out of memory: all that was read is asked, and what is printed of it written
@@ -22,15 +22,15 @@ returns-in_err-note_passed_over-clause-part g c =
     rw (p.1, p.2)
     (elim c.in-Ok.ensures.all [
       | inl a ↦
-          let begins = first_of_all (λ r. r.ignored) a.text (entries_of a.replies) _ _ a.list in
+          let begins = first_of_all JsonLines (λ r. r.ignored) a.text (entries_of a.replies) _ _ a.list in
           asks_part (λ s. s.options.now) (λ s. s.selector) (λ s. s.hits) (λ s. s.options.now.quiet && nat_lt 0 s.hits) c.args.asker _ c.args.asker.streams _ _ _ _ JsonLines c.args.name.now _ a.text a.replies (printed_of a.replies) [] a.read
-          (begins_list (λ r. r.ignored) c.new.result c.new.ensures a.text (entries_of a.replies) _ begins) a.run (sym (append-nil (printed_of a.replies)))
-          (unknown_why (λ r. r.ignored) c.new.result c.new.ensures c.args.asker.options.now _ c.args.name.now a.text (entries_of a.replies) _ _
+          (begins_list JsonLines (λ r. r.ignored) c.new.result c.new.ensures a.text (entries_of a.replies) _ begins) a.run (sym (append-nil (printed_of a.replies)))
+          (unknown_why JsonLines (λ r. r.ignored) c.new.result c.new.ensures c.args.asker.options.now _ c.args.name.now a.text (entries_of a.replies) _ _
           (options_kept (λ s. s.options.now) (λ s. s.selector) (λ s. s.hits) (λ s. s.options.now.quiet && nat_lt 0 s.hits) _ _ a.replies c.args.asker.streams a.run) begins why) a.prints
       | inr a ↦
           asks_part (λ s. s.options.now) (λ s. s.selector) (λ s. s.hits) (λ s. s.options.now.quiet && nat_lt 0 s.hits) c.args.asker _ c.args.asker.streams _ _ _ _ JsonLines c.args.name.now _ a.text a.replies (printed_of a.replies) [] a.read
-          (begins_list (λ r. r.ignored) c.new.result c.new.ensures a.text (entries_of a.replies) _ a.list) a.run (sym (append-nil (printed_of a.replies)))
-          (unknown_why (λ r. r.ignored) c.new.result c.new.ensures c.args.asker.options.now _ c.args.name.now a.text (entries_of a.replies) _ _
+          (begins_list JsonLines (λ r. r.ignored) c.new.result c.new.ensures a.text (entries_of a.replies) _ a.list) a.run (sym (append-nil (printed_of a.replies)))
+          (unknown_why JsonLines (λ r. r.ignored) c.new.result c.new.ensures c.args.asker.options.now _ c.args.name.now a.text (entries_of a.replies) _ _
           (options_kept (λ s. s.options.now) (λ s. s.selector) (λ s. s.hits) (λ s. s.options.now.quiet && nat_lt 0 s.hits) _ _ a.replies c.args.asker.streams a.run) a.list why) a.prints
     ])
 
@@ -53,8 +53,8 @@ returns-clause-asks g c =
     elim c.in-Ok.ensures.all [
       | inl a ↦
           inl (asks_input (λ s. s.options.now) (λ s. s.selector) (λ s. s.hits) (λ s. s.options.now.quiet && nat_lt 0 s.hits) _ _ c.args.asker.streams _ _ _ _ JsonLines _
-          (λ text entries reads. let all = reads_list (λ r. r.ignored) c.new.result c.new.ensures _ entries _ reads in
+          (λ text entries reads. let all = reads_list JsonLines (λ r. r.ignored) c.new.result c.new.ensures _ entries _ reads in
           (all.listed, (λ strict. (c.in-Ok.done.1.ignored, all.counts, c.in_ok-note_passed_over.ensures.none (rw (options_kept (λ s. s.options.now) (λ s. s.selector) (λ s. s.hits) (λ s. s.options.now.quiet && nat_lt 0 s.hits) _ _ a.replies c.args.asker.streams a.run) strict))))) a)
       | inr a ↦
-          inr (asks_enough (λ s. s.options.now) (λ s. s.selector) (λ s. s.hits) (λ s. s.options.now.quiet && nat_lt 0 s.hits) _ _ c.args.asker.streams _ _ _ _ JsonLines _ (λ text entries begins. begins_list (λ r. r.ignored) c.new.result c.new.ensures text entries _ begins) refl a)
+          inr (asks_enough (λ s. s.options.now) (λ s. s.selector) (λ s. s.hits) (λ s. s.options.now.quiet && nat_lt 0 s.hits) _ _ c.args.asker.streams _ _ _ _ JsonLines _ (λ text entries begins. begins_list JsonLines (λ r. r.ignored) c.new.result c.new.ensures text entries _ begins) refl a)
     ]

@@ -1,18 +1,5 @@
-use Rattle.haya_json.proofs.LawsBelow.{laws_below}
 use Rattle.haya_json.proofs.LibraryRead.{read_again}
 use Rattle.haya_json.proofs.laws.read_libraries_read_back.Goals as goal
 
 pub returns : goal.returns
-returns c = read_again (laws_below (record {
-  texts = c.read_texts_read_back.ensures.read;
-  chunk = c.read_texts_read_back.ensures.chunk;
-  numbers = c.read_numbers_round_trip.ensures;
-  bounds = c.read_numbers_read_back.ensures.bounds;
-  pages = c.read_pages_round_trip.ensures.read;
-  page = c.read_pages_round_trip.ensures.page;
-  page_alone = c.read_pages_round_trip.ensures.from_zero;
-  durations = c.read_durations_read_back.ensures.duration;
-  ranges = c.read_durations_read_back.ensures.range;
-  ends = c.read_durations_read_back.ensures.ends;
-  dates = c.reads_the_forms_of_dates.ensures.value;
-}))
+returns c = λ text library utf8 d shallow. read_again text library d (c.read_entries_are_readable.ensures.library text library utf8 d) shallow

@@ -1,0 +1,137 @@
+-- The lines of an input that are asked, an entry after another.
+use Rattle.std.specs.Prelude.{◌≡◌, ◌≢◌, ◌⊎◌, ◌-◌, ◌^◌, ℕ, IsTrue, List, [], ◌∷◌, ◌++◌, flat_map, length}
+use Rattle.std.specs.List.{AllZip}
+use Rattle.std.specs.Str.Lines.{lines}
+use Rattle.hayagriva.specs.Tree.{Tree}
+use Rattle.haya_csl.specs.ItemLines as item_lines
+use Rattle.haya_elements.specs.Elements.{element_lines}
+use Rattle.haya_elements.specs.declared.place.Brackets.TheVariants.{Curly, Square}
+use Rattle.haya_json.specs.Ignored.{counts_of}
+use Rattle.haya_json.specs.JsonLines as json_lines
+use Rattle.haya_json.specs.MemberLines as member_lines
+use Rattle.haya_json.specs.Tally.{all_counted, tally}
+use Rattle.haya_json.specs.declared.error.ElementError.{ElementError}
+use Rattle.haya_json.specs.declared.error.ReadError.{ReadError}
+use Rattle.haya_json.specs.declared.error.ReadError.TheVariants as read_error
+use Rattle.haya_json.specs.declared.ignored.Ignored.{Ignored}
+use Rattle.haya_list.specs.EntryLines.{filled}
+use Rattle.haya_list.specs.Lines as lines_list
+use Rattle.haya_list.specs.declared.fault.EntryFault.{EntryFault}
+use Rattle.haya_list.specs.declared.fault.EntryFault.TheVariants as entry_fault
+use Rattle.haya_command.specs.Reading.{IsErrorOf}
+use Rattle.haya_command.specs.declared.fault.InputError.{InputError}
+use Rattle.haya_command.specs.declared.fault.InputError.TheVariants as input_error
+use Rattle.haya_command.specs.declared.format.Format.{Format}
+use Rattle.haya_command.specs.declared.format.Format.TheVariants.{CslJson, Hayagriva, JsonLines, Lines}
+use Rattle.haya_command.specs.declared.options.Options.{Options}
+
+-- ---- the list of an input
+
+-- The lines that a text is asked by: an item or a member of JSON a line, or its own.
+abbrev pub asked_lines : Format → List ℕ → List ℕ
+asked_lines CslJson text = element_lines Square text
+asked_lines Hayagriva text = element_lines Curly text
+asked_lines _ text = text
+
+-- the entry that a line says, in a format in which each line has one
+abbrev pub IsLineIn : Format → List ℕ → Tree → Type 0
+IsLineIn JsonLines line entry = json_lines.IsLineOf line entry
+IsLineIn CslJson line entry = item_lines.IsItemLineOf line entry
+IsLineIn Hayagriva line entry = member_lines.IsMemberLineOf line entry
+IsLineIn Lines line entry = ⊥
+
+-- the entries that a text lists, in order, repeated keys and all
+abbrev pub IsListIn : Format → List ℕ → List Tree → Type 0
+IsListIn Lines text entries = lines_list.IsListOf text entries
+IsListIn format text entries =
+    AllZip (IsLineIn format) (filled (lines (asked_lines format text))) entries
+
+-- a first part of lines, or all, lists these entries
+pub record BeginsLines (format : Format) (text : List ℕ) (entries : List Tree) : Type 0 where
+  pub first : List (List ℕ)
+  pub more : List (List ℕ)
+  pub parts : lines text ≡ first ++ more
+  pub listed : AllZip (IsLineIn format) (filled first) entries
+
+abbrev pub BeginsListIn : Format → List ℕ → List Tree → Type 0
+BeginsListIn Lines text entries = lines_list.BeginsList text entries
+BeginsListIn format text entries = BeginsLines format text entries
+
+-- ---- what is passed over
+
+-- of the entry of a line
+abbrev pub line_passed_over : Format → List ℕ → List (List ℕ)
+line_passed_over JsonLines line = json_lines.line_passed_over line
+line_passed_over CslJson line = item_lines.line_passed_over line
+line_passed_over Hayagriva line = member_lines.line_passed_over line
+line_passed_over Lines line = []
+
+-- of the entries of lines
+abbrev pub lines_passed_over : Format → List (List ℕ) → List (List ℕ)
+lines_passed_over format ls = flat_map (line_passed_over format) (filled ls)
+
+-- where the run is strict, nothing is passed over of a text; of lines that are no JSON nothing ever
+-- is
+abbrev pub IsAccepted : Options → Format → List ℕ → Type 0
+IsAccepted options format text =
+    IsTrue options.strict → (ignored : Ignored)
+    × (counts_of ignored ≡ tally (lines_passed_over format (lines (asked_lines format text))))
+    × (counts_of ignored ≡ [])
+
+-- something is passed over of a first part of the lines, or of all
+abbrev pub PassesOverFirst : Format → List ℕ → Type 0
+PassesOverFirst format text =
+    (first : List (List ℕ)) × (more : List (List ℕ)) × (lines text ≡ first ++ more)
+    × (lines_passed_over format first ≢ [])
+
+-- what one who reads a line says of it, and counts of what is passed over
+pub record ReadsLine (format : Format) (before : Ignored) (line : List ℕ) (entry : Tree)
+    (after : Ignored) : Type 0 where
+  pub says : IsLineIn format line entry
+  pub counts : counts_of after
+      ≡ all_counted (line_passed_over format line) (counts_of before)
+
+-- ---- faults of lines
+
+-- the error that is told of a line of JSON that says no entry
+abbrev pub IsLineErrorFor : EntryFault ReadError → InputError → Type 0
+IsLineErrorFor (entry_fault.Line number error) e =
+    e ≡ input_error.JsonLines (record { line = number; error = error })
+IsLineErrorFor entry_fault.TooMany e =
+    e ≡ input_error.JsonLines (record { line = 2 ^ 64 - 1; error = read_error.OutOfMemory })
+
+-- the same of an element's line: the error has the element's number
+abbrev pub IsElementErrorFor : EntryFault ElementError → InputError → Type 0
+IsElementErrorFor (entry_fault.Line number error) e = e ≡ input_error.Element error
+IsElementErrorFor entry_fault.TooMany e =
+    e ≡ input_error.Element (record { number = 2 ^ 64 - 1; error = read_error.OutOfMemory })
+
+-- what the error of an element says of its line; out of memory says nothing
+abbrev pub IsElementError : Format → List ℕ → ElementError → Type 0
+IsElementError CslJson line e =
+    (e.error ≡ read_error.OutOfMemory)
+    ⊎ ((place : ℕ) × item_lines.IsItemLineErrorOf place line e.error)
+IsElementError Hayagriva line e =
+    (e.error ≡ read_error.OutOfMemory) ⊎ member_lines.IsMemberLineErrorOf line e.error
+IsElementError _ line e = ⊥
+
+-- the first line that says no entry, and its error
+pub record FirstElementError (format : Format) (text : List ℕ) (e : ElementError) : Type 0 where
+  pub first : List (List ℕ)
+  pub line : List ℕ
+  pub more : List (List ℕ)
+  pub entries : List Tree
+  pub parts : lines text ≡ first ++ line ∷ more
+  pub listed : AllZip (IsLineIn format) (filled first) entries
+  pub some : length line ≢ 0
+  pub error : IsElementError format line e
+
+-- what an error says of the lines of a text
+abbrev pub IsErrorIn : Format → List ℕ → InputError → Type 0
+IsErrorIn CslJson text (input_error.Element e) =
+    (e.error ≡ read_error.OutOfMemory) ⊎ FirstElementError CslJson text e
+IsErrorIn Hayagriva text (input_error.Element e) =
+    (e.error ≡ read_error.OutOfMemory) ⊎ FirstElementError Hayagriva text e
+IsErrorIn JsonLines text e = IsErrorOf JsonLines text e
+IsErrorIn Lines text e = IsErrorOf Lines text e
+IsErrorIn _ text e = ⊥
