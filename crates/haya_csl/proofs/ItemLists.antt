@@ -1,5 +1,5 @@
 -- What a text whose items are on lines of their own says as a library.
-use Rattle.std.proofs.Common.{◌≡◌, ℕ, ◌+◌, Bool, true, false, ◌&&◌, cond, List, [], ◌∷◌, ◌++◌, None, Some, Ok, refl, sym, ap, ◌∙◌, subst, append_assoc}
+use Rattle.std.proofs.Common.{◌≡◌, ℕ, ◌+◌, Bool, true, false, ◌&&◌, cond, List, [], ◌∷◌, ◌++◌, None, Some, Ok, flat_map, refl, sym, ap, ◌∙◌, subst, append_assoc}
 use Rattle.std.specs.Prelude.{find}
 use Rattle.std.specs.List.{AllZip, list_any}
 use Rattle.std.proofs.lemmas.Bool.{or_parts}
@@ -20,7 +20,7 @@ use Rattle.haya_json.proofs.ValuesAlone.{one_item}
 use Rattle.haya_json.proofs.TextsRead.{both_ok, ok_same, within_ok}
 use Rattle.haya_csl.specs.Ignored as whole
 use Rattle.haya_csl.specs.Ignored.{items_passed_over}
-use Rattle.haya_csl.specs.ItemLines.{IsItemLineOf, IsListOf, IsPassedOver, lines_passed_over}
+use Rattle.haya_csl.specs.ItemLines.{IsItemLineOf, IsListOf, IsPassedOver, line_passed_over}
 use Rattle.haya_csl.specs.Items.{item_of}
 use Rattle.haya_csl.specs.Libraries.{DescribesAsCsl, csl_library_of, items_pushed}
 use Rattle.haya_csl.proofs.NewIds.{item_alone, item_was_new}
@@ -38,7 +38,7 @@ items_of_lines (l ∷ ls) (t ∷ ts) listed =
     (json.item first.value more.0, (first.parsed, more.1))
 
 -- what is passed over of lines is what is passed over of their items
-pub passed_over_of_lines : (ls : List (List ℕ)) (js : Items) → AreItems ls js → lines_passed_over ls ≡ items_passed_over js
+pub passed_over_of_lines : (ls : List (List ℕ)) (js : Items) → AreItems ls js → flat_map line_passed_over ls ≡ items_passed_over js
 passed_over_of_lines [] json.no_items are = refl
 passed_over_of_lines [] (json.item j js) are = absurd are
 passed_over_of_lines (l ∷ ls) json.no_items are = absurd are

@@ -1,5 +1,5 @@
 -- What a text whose members are on lines of their own says as a library.
-use Rattle.std.proofs.Common.{◌≡◌, ◌≢◌, ℕ, List, [], ◌∷◌, None, Some, Ok, refl, ap, ◌∙◌, subst, append-nil}
+use Rattle.std.proofs.Common.{◌≡◌, ◌≢◌, ℕ, List, [], ◌∷◌, None, Some, Ok, flat_map, refl, ap, ◌∙◌, subst, append-nil}
 use Rattle.std.specs.List.{AllPairs, AllZip}
 use Rattle.json.specs.Json as json
 use Rattle.json.specs.Json.{Json, Members, document, object}
@@ -12,7 +12,7 @@ use Rattle.haya_json.specs.Entries.{entry_of}
 use Rattle.haya_json.specs.Ignored as whole
 use Rattle.haya_json.specs.Ignored.{entries_passed_over}
 use Rattle.haya_json.specs.Libraries.{Describes, entries_of, library_of}
-use Rattle.haya_json.specs.MemberLines.{IsListOf, IsMemberLineOf, IsPassedOver, lines_passed_over}
+use Rattle.haya_json.specs.MemberLines.{IsListOf, IsMemberLineOf, IsPassedOver, line_passed_over}
 use Rattle.haya_json.specs.Refusal.{to_member, within}
 use Rattle.haya_json.specs.Tally.{tally}
 use Rattle.haya_json.specs.declared.ignored.Ignored.{Ignored}
@@ -60,7 +60,7 @@ lines_of_entries (l ∷ ls) (json.member k j ms) ts are unique read =
     subst (AllZip IsMemberLineOf (l ∷ ls)) (ok_same more.then) (here, lines_of_entries ls ms more.value are.1 unique.1 more.first)
 
 -- what is passed over of lines is what is passed over of their members
-pub passed_over_of_lines : (ls : List (List ℕ)) (ms : Members) → AreMembers ls ms → lines_passed_over ls ≡ entries_passed_over ms
+pub passed_over_of_lines : (ls : List (List ℕ)) (ms : Members) → AreMembers ls ms → flat_map line_passed_over ls ≡ entries_passed_over ms
 passed_over_of_lines [] json.no_members are = refl
 passed_over_of_lines [] (json.member k j ms) are = absurd are
 passed_over_of_lines (l ∷ ls) json.no_members are = absurd are
