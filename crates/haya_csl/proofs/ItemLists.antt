@@ -1,5 +1,5 @@
 -- What a text whose items are on lines of their own says as a library.
-use Rattle.std.proofs.Common.{◌≡◌, ℕ, ◌+◌, Bool, true, false, ◌&&◌, List, [], ◌∷◌, ◌++◌, None, Some, Ok, refl, sym, ap, ◌∙◌, append_assoc}
+use Rattle.std.proofs.Common.{◌≡◌, ℕ, ◌+◌, Bool, true, false, ◌&&◌, cond, List, [], ◌∷◌, ◌++◌, None, Some, Ok, flat_map, refl, sym, ap, ◌∙◌, subst, append_assoc}
 use Rattle.std.specs.Prelude.{find}
 use Rattle.std.specs.List.{AllZip, list_any}
 use Rattle.std.proofs.lemmas.Bool.{or_parts}
@@ -13,15 +13,17 @@ use Rattle.haya_elements.specs.declared.place.Brackets.TheVariants.{Square}
 use Rattle.haya_entry.specs.Tree.{Tree}
 use Rattle.hayagriva.specs.Library.{AreDistinct, get, has_key, key_of, push}
 use Rattle.hayagriva.proofs.Parts.{AreApart-distinct}
+use Rattle.haya_json.specs.Refusal.{to_item, within}
 use Rattle.haya_json.specs.Tally.{tally}
 use Rattle.haya_json.specs.declared.ignored.Ignored.{Ignored}
 use Rattle.haya_json.proofs.ValuesAlone.{one_item}
+use Rattle.haya_json.proofs.TextsRead.{both_ok, ok_same, within_ok}
 use Rattle.haya_csl.specs.Ignored as whole
 use Rattle.haya_csl.specs.Ignored.{items_passed_over}
-use Rattle.haya_csl.specs.ItemLines.{IsItemLineOf, IsListOf, IsPassedOver, lines_passed_over}
+use Rattle.haya_csl.specs.ItemLines.{IsItemLineOf, IsListOf, IsPassedOver, line_passed_over}
 use Rattle.haya_csl.specs.Items.{item_of}
-use Rattle.haya_csl.specs.Libraries.{DescribesAsCsl, items_pushed}
-use Rattle.haya_csl.proofs.NewIds.{item_alone}
+use Rattle.haya_csl.specs.Libraries.{DescribesAsCsl, csl_library_of, items_pushed}
+use Rattle.haya_csl.proofs.NewIds.{item_alone, item_was_new}
 
 -- ---- the items of lines
 
@@ -36,7 +38,7 @@ items_of_lines (l ∷ ls) (t ∷ ts) listed =
     (json.item first.value more.0, (first.parsed, more.1))
 
 -- what is passed over of lines is what is passed over of their items
-pub passed_over_of_lines : (ls : List (List ℕ)) (js : Items) → AreItems ls js → lines_passed_over ls ≡ items_passed_over js
+pub passed_over_of_lines : (ls : List (List ℕ)) (js : Items) → AreItems ls js → flat_map line_passed_over ls ≡ items_passed_over js
 passed_over_of_lines [] json.no_items are = refl
 passed_over_of_lines [] (json.item j js) are = absurd are
 passed_over_of_lines (l ∷ ls) json.no_items are = absurd are
@@ -47,6 +49,14 @@ passed_over_of_lines (l ∷ ls) (json.item j js) are = rw (are.0, passed_over_of
 none_found : (p : Tree → Bool) (ts : List Tree) → list_any p ts ≡ false → find p ts ≡ None
 none_found p [] h = refl
 none_found p (t ∷ ts) h = let parts = or_parts (p t) (list_any p ts) h in rw parts.0 (none_found p ts parts.1)
+
+none_has : (p : Tree → Bool) (ts : List Tree) → find p ts ≡ None → list_any p ts ≡ false
+none_has p [] h = refl
+none_has p (t ∷ ts) h = by (none_has p ts) (p t) refl h
+  where
+    by : (find p ts ≡ None → list_any p ts ≡ false) → (b : Bool) → p t ≡ b → cond b (Some t) (find p ts) ≡ None → list_any p (t ∷ ts) ≡ false
+    by rest true is g = cc
+    by rest false is g = rw is (rest g)
 
 -- an entry whose key no entry before it has
 record IsNew (library : List Tree) (t : Tree) : Type 0 where
@@ -86,6 +96,24 @@ items_pushed_of_lines (l ∷ ls) (json.item j js) library (t ∷ ts) place are l
     let more = items_pushed_of_lines ls js (push t library) ts (place + 1) are.1 listed.1 (rw behind d) in
     ((unique, more.0), rw read (more.1 ∙ ap Ok behind))
 
+-- the other way, an entry that is pushed comes last
+was_new : (library : List Tree) (t : Tree) → get (key_of t) library ≡ None → push t library ≡ library ++ t ∷ []
+was_new library t none = rw (none_has (has_key (key_of t)) library none) refl
+
+-- and lines that are items say the entries that are pushed
+lines_of_items_pushed : (ls : List (List ℕ)) (js : Items) (before library : List Tree) (place : ℕ) → AreItems ls js → ItemsHaveUniqueKeys js → items_pushed before place js ≡ Ok library
+    → (ts : List Tree) × (library ≡ before ++ ts) × AllZip IsItemLineOf ls ts
+lines_of_items_pushed [] json.no_items before library place are unique h = ([], sym (ok_same h) ∙ sym (append-nil before), tt)
+lines_of_items_pushed [] (json.item j js) before library place are unique h = absurd are
+lines_of_items_pushed (l ∷ ls) json.no_items before library place are unique h = absurd are
+lines_of_items_pushed (l ∷ ls) (json.item j js) before library place are unique h =
+    let first = both_ok (within (to_item place) (item_of before j)) _ library h in
+    let t = first.value in
+    let new = item_was_new before j t (within_ok (to_item place) (item_of before j) t first.first) in
+    let more = lines_of_items_pushed ls js (push t before) library (place + 1) are.1 unique.1 first.then in
+    let here : IsItemLineOf l t = record { value = j; parsed = are.0; unique = unique.0; read = new.alone } in
+    (t ∷ more.0, more.1 ∙ ap (λ l. l ++ more.0) (was_new before t new.unknown) ∙ append_assoc before (t ∷ []) more.0, (here, more.2))
+
 -- ---- a text
 
 module _ (sound : (text : List ℕ) (js : Items) → AreItems (elements Square text) js → document text ≡ Some (array js)) where
@@ -106,3 +134,16 @@ module _ (sound : (text : List ℕ) (js : Items) → AreItems (elements Square t
   passed_over_described text entries ignored listed counted =
       let js = items_of_lines (elements Square text) entries listed in
       rw (sound text js.0 js.1) (counted ∙ ap tally (passed_over_of_lines (elements Square text) js.0 js.1))
+
+-- the other way, a list that describes a library lists its entries
+pub described_listed : ((text : List ℕ) (js : Items) → document text ≡ Some (array js) → AreItems (elements Square text) js)
+    → (text : List ℕ) (js : Items) (library : List Tree) → document text ≡ Some (array js) → DescribesAsCsl text library → IsListOf text library
+described_listed complete text js library is_array d =
+    let same : d.value ≡ array js = some_same (sym d.parsed ∙ is_array) in
+    let unique : ItemsHaveUniqueKeys js = subst HasUniqueKeys same d.unique in
+    let read : items_pushed [] 0 js ≡ Ok library = subst (λ j. csl_library_of j ≡ Ok library) same d.read in
+    let listed = lines_of_items_pushed (elements Square text) js [] library 0 (complete text js is_array) unique read in
+    subst (λ ts. AllZip IsItemLineOf (elements Square text) ts) (sym listed.1) listed.2
+  where
+    some_same : {i j : Json} → Some i ≡ Some j → i ≡ j
+    some_same h = cc

@@ -1,5 +1,5 @@
 -- An item reads as it does alone where its id is new to a library.
-use Rattle.std.proofs.Common.{◌≡◌, ℕ, Bool, true, false, cond, List, [], Option, None, Some, Result, Ok, Err, refl, ap, ◌∙◌}
+use Rattle.std.proofs.Common.{◌≡◌, ℕ, Bool, true, false, cond, List, [], Option, None, Some, Result, Ok, Err, refl, sym, ap, ◌∙◌, subst}
 use Rattle.std.specs.Prelude.{⊤, codes, is_some, ok_or, if◌then◌else◌}
 use Rattle.std.specs.List.{AllByRecursion, IsDistinct}
 use Rattle.std.specs.Cmp.Lexicographic.{nat_list_eq_equiv}
@@ -16,6 +16,7 @@ use Rattle.hayagriva.specs.Library.{get, key_of}
 use Rattle.haya_json.specs.Parts.{member_of, text_in, unless_null}
 use Rattle.haya_json.specs.Refusal.{Refusal, and_then, here, refused, to_member, within}
 use Rattle.haya_json.specs.declared.fault.Why.TheVariants.{NotText, SameId}
+use Rattle.haya_json.proofs.TextsRead.{both_ok, ok_same, within_ok}
 use Rattle.haya_csl.specs.Items.{DraftView, entry_made, id_checked, item_of, item_under, key_in, members_set, new_draft, type_checked, with_field, with_member}
 use Rattle.haya_csl.specs.Kinds.{kind_of}
 use Rattle.haya_csl.specs.declared.kinds.Kind.{Kind}
@@ -144,3 +145,101 @@ item_alone library (json.boolean b) t unique is none = cc
 item_alone library (json.number s) t unique is none = cc
 item_alone library (json.string s) t unique is none = cc
 item_alone library (json.array js) t unique is none = cc
+
+-- ---- what was read in a library
+
+-- an id that passes is new to the library
+id_passed : (library : List Tree) (id : Json) (d e : DraftView) → id_checked library id d ≡ Ok e → (id_checked [] id d ≡ Ok e) × (get (key_in id) library ≡ None)
+id_passed library id d e h = by (text_in id) refl h
+  where
+    of_key : (key : List ℕ) (o : Option Tree) → get key library ≡ o → (if is_some o then refused SameId else Ok d) ≡ Ok e → (d ≡ e) × (get key library ≡ None)
+    of_key key None none g = (ok_same g, none)
+    of_key key (Some t) some g = cc
+
+    by : (o : Option (List ℕ)) → text_in id ≡ o → and_then (ok_or o (here NotText)) (λ key. if is_some (get key library) then refused SameId else Ok d) ≡ Ok e
+        → (id_checked [] id d ≡ Ok e) × (get (key_in id) library ≡ None)
+    by None none g = cc
+    by (Some key) some g =
+        let passed = of_key key (get key library) refl g in
+        (rw some (ap Ok passed.0), rw some passed.1)
+
+module _ (library : List Tree) (kind : Kind) (item : Json) (key : List ℕ) where
+  -- a member that is read in a library reads as it does alone
+  member_passed : (k : List ℕ) (j : Json) (d e : DraftView) → with_member library kind item key k j d ≡ Ok e → with_member [] kind item key k j d ≡ Ok e
+  member_passed k j d e h = by (is_null j) (bytes_eq k (codes "id")) h
+    where
+      by : (null is_id : Bool)
+          → (if null then Ok d else if is_id then id_checked library j d else if bytes_eq k (codes "type") then type_checked item j d else with_field kind item key k j d) ≡ Ok e
+          → (if null then Ok d else if is_id then id_checked [] j d else if bytes_eq k (codes "type") then type_checked item j d else with_field kind item key k j d) ≡ Ok e
+      by true is_id g = g
+      by false true g = (id_passed library j d e g).0
+      by false false g = g
+
+  members_passed : (ms : Members) (d e : DraftView) → members_set library kind item key ms d ≡ Ok e → members_set [] kind item key ms d ≡ Ok e
+  members_passed json.no_members d e h = h
+  members_passed (json.member k j ms) d e h =
+      let first = both_ok (within (to_member k) (with_member library kind item key k j d)) _ e h in
+      let alone = member_passed k j d first.value (within_ok (to_member k) (with_member library kind item key k j d) first.value first.first) in
+      rw alone (members_passed ms first.value e first.then)
+
+  -- and its id is new to the library
+  id_was_new : (id : Json) → is_null id ≡ false → (ms : Members) (d e : DraftView) → members_set library kind item key ms d ≡ Ok e → get_member (codes "id") ms ≡ Some id
+      → get (key_in id) library ≡ None
+  id_was_new id some json.no_members d e h found = cc
+  id_was_new id some (json.member k j ms) d e h found =
+      let first = both_ok (within (to_member k) (with_member library kind item key k j d)) _ e h in
+      by (id_was_new id some ms first.value e first.then) first.value (within_ok (to_member k) (with_member library kind item key k j d) first.value first.first)
+      (get_member (codes "id") ms) refl (bytes_eq k (codes "id")) refl found
+    where
+      by : (get_member (codes "id") ms ≡ Some id → get (key_in id) library ≡ None) → (more : DraftView) → with_member library kind item key k j d ≡ Ok more
+          → (o : Option Json) → get_member (codes "id") ms ≡ o → (b : Bool) → bytes_eq k (codes "id") ≡ b → later_or o (cond b (Some j) None) ≡ Some id
+          → get (key_in id) library ≡ None
+      by rest more set (Some w) later b is g = rest (later ∙ g)
+      by rest more set None none true is g =
+          let same : j ≡ id = cc in
+          let checked : id_checked library id d ≡ Ok more = rw (same, some, is) at set in
+          (id_passed library id d more checked).1
+      by rest more set None none false is g = cc
+
+-- an item that is read in a library reads as it does alone, and the library hasn't its key
+pub record WasNew (library : List Tree) (j : Json) (t : Tree) : Type 0 where
+  pub alone : item_of [] j ≡ Ok t
+  pub unknown : get (key_of t) library ≡ None
+
+pub item_was_new : (library : List Tree) (j : Json) (t : Tree) → item_of library j ≡ Ok t → WasNew library j t
+item_was_new library (json.object ms) t is = by (get_member (codes "id") ms) refl
+  where
+    item : Json
+    item = json.object ms
+
+    kind : Kind
+    kind = kind_of item
+
+    no_entry : item_under None library item ms ≡ Ok t → ⊥
+    no_entry h = cc
+
+    with_id : (id : Json) → get_member (codes "id") ms ≡ Some id → is_null id ≡ false → member_of (codes "id") item ≡ Some id → WasNew library item t
+    with_id id found some named =
+        let under : item_under (Some id) library item ms ≡ Ok t = subst (λ o. item_under o library item ms ≡ Ok t) named is in
+        let set = both_ok (members_set library kind item (key_in id) ms (new_draft (key_in id) kind.entry)) _ t under in
+        let alone : item_under (Some id) [] item ms ≡ Ok t = rw (members_passed library kind item (key_in id) ms (new_draft (key_in id) kind.entry) set.value set.first) set.then in
+        record {
+          alone = subst (λ o. item_under o [] item ms ≡ Ok t) (sym named) alone;
+          unknown = rw (key_of_item library ms id t named is) (id_was_new library kind item (key_in id) id some ms (new_draft (key_in id) kind.entry) set.value set.first found);
+        }
+
+    missing : member_of (codes "id") item ≡ None → WasNew library item t
+    missing none = absurd (no_entry (subst (λ o. item_under o library item ms ≡ Ok t) none is))
+
+    of_value : (id : Json) → get_member (codes "id") ms ≡ Some id → (b : Bool) → is_null id ≡ b → WasNew library item t
+    of_value id found true null = missing (rw found (rw null refl))
+    of_value id found false some = with_id id found some (rw found (rw some refl))
+
+    by : (o : Option Json) → get_member (codes "id") ms ≡ o → WasNew library item t
+    by None none = missing (ap unless_null none)
+    by (Some id) found = of_value id found (is_null id) refl
+item_was_new library json.null t is = cc
+item_was_new library (json.boolean b) t is = cc
+item_was_new library (json.number s) t is = cc
+item_was_new library (json.string s) t is = cc
+item_was_new library (json.array js) t is = cc

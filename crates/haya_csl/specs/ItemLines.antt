@@ -1,5 +1,5 @@
 -- The items of a text, an item a line.
-use Rattle.std.specs.Prelude.{◌≡◌, ℕ, List, [], ◌++◌, Option, flat_map, Ok, Result}
+use Rattle.std.specs.Prelude.{◌≡◌, ℕ, List, [], Option, flat_map, Ok, Result}
 use Rattle.std.specs.List.{AllZip}
 use Rattle.std.specs.Option.{option_map_or}
 use Rattle.json.specs.Json.{Json}
@@ -44,28 +44,13 @@ IsItemLineErrorOf place line error = IsErrorOfJson (item_at place) (item_in line
 abbrev pub line_passed_over : List ℕ → List (List ℕ)
 line_passed_over line = option_map_or item_passed_over (item_in line) []
 
--- ---- lines
-
--- the entries that lines list, in order, repeated keys and all: one for each line
-abbrev pub AreEntriesOf : List (List ℕ) → List Tree → Type 0
-AreEntriesOf ls entries = AllZip IsItemLineOf ls entries
-
-abbrev pub lines_passed_over : List (List ℕ) → List (List ℕ)
-lines_passed_over ls = flat_map line_passed_over ls
-
 -- ---- a text
 
--- the entries that a text lists: each item of its array says one
+-- the entries that a text lists, in order, repeated keys and all: each item of its array says one
 abbrev pub IsListOf : List ℕ → List Tree → Type 0
-IsListOf text entries = AreEntriesOf (elements Square text) entries
-
--- a first part of the items of a text, or all, lists these entries
-pub record BeginsList (text : List ℕ) (entries : List Tree) : Type 0 where
-  pub first : List (List ℕ)
-  pub more : List (List ℕ)
-  pub parts : elements Square text ≡ first ++ more
-  pub listed : AreEntriesOf first entries
+IsListOf text entries = AllZip IsItemLineOf (elements Square text) entries
 
 -- what is passed over of the items of a text
 abbrev pub IsPassedOver : List ℕ → Ignored → Type 0
-IsPassedOver text ignored = counts_of ignored ≡ tally (lines_passed_over (elements Square text))
+IsPassedOver text ignored =
+    counts_of ignored ≡ tally (flat_map line_passed_over (elements Square text))

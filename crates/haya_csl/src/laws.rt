@@ -1,6 +1,7 @@
 //! Laws of the definitions. A call of one, as `item_lines_are_a_library();`, gives its statement to
 //! the caller's proof.
-ghost use Rattle.std.specs.Prelude.{ℕ, List};
+ghost use Rattle.std.specs.Prelude.{◌≡◌, ℕ, List, Some};
+ghost use Rattle.json.specs.Json.{Items, array, document};
 ghost use Rattle.haya_entry.specs.Tree.{Tree};
 ghost use Rattle.hayagriva.specs.Library.{AreDistinct};
 ghost use Rattle.haya_json.specs.declared.ignored.Ignored.{Ignored};
@@ -19,4 +20,13 @@ pub fn item_lines_are_a_library()
         → IsPassedOver text ignored }
 {
     haya_elements::laws::documents();
+}
+
+/// The other way, so that no list is refused by its lines: a text that is an array and describes a
+/// library in CSL-JSON lists its entries in order.
+pub fn lists_are_item_lines()
+    ensures { (text : List ℕ) (js : Items) (library : List Tree) → document text ≡ Some (array js)
+        → DescribesAsCsl text library → item_lines.IsListOf text library }
+{
+    haya_elements::laws::elements_of_documents();
 }

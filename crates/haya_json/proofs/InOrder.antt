@@ -3,15 +3,16 @@ use Rattle.std.proofs.Common.{◌≡◌, inl, inr, List, [], ◌∷◌, None, Re
 use Rattle.std.specs.Prelude.{fold, ◌≢◌}
 use Rattle.std.specs.List.{AllPairs}
 use Rattle.json.specs.Json as json
-use Rattle.json.specs.Json.{Members}
-use Rattle.json.specs.Strict.{AreDistinct, keys}
+use Rattle.json.specs.Json.{Json, Members}
+use Rattle.json.specs.Strict as names
+use Rattle.json.specs.Strict.{HasUniqueKeys, keys}
 use Rattle.haya_entry.specs.Tree.{Tree}
-use Rattle.hayagriva.specs.Library.{key_of, push, from_entries}
+use Rattle.hayagriva.specs.Library.{AreDistinct, key_of, push, from_entries}
 use Rattle.hayagriva.proofs.Parts.{from_entries-distinct}
 use Rattle.haya_json.specs.declared.fault.Fault.{Fault}
 use Rattle.haya_json.specs.Refusal.{Refusal, within, and_then, to_member, IsFaultOf}
 use Rattle.haya_json.specs.Entries.{entry_of}
-use Rattle.haya_json.specs.Libraries.{entries_of, entries_pushed}
+use Rattle.haya_json.specs.Libraries.{entries_of, entries_pushed, library_of}
 use Rattle.haya_json.proofs.KeptKeys.{entry_key}
 
 pub keys_of_entries : (ms : Members) (ts : List Tree) → entries_of ms ≡ Ok ts → map key_of ts ≡ keys ms
@@ -25,6 +26,15 @@ keys_of_entries (json.member k j ms) ts is = by (keys_of_entries ms) (entry_of k
         ap (map key_of) (sym same) ∙ ap (λ x. x ∷ map key_of us) (entry_key k j t first) ∙ ap (λ xs. k ∷ xs) (rest us others)
     by rest (Ok t) first (Err e) others h = cc
     by rest (Err e) first rs others h = cc
+
+-- so no key comes twice in a library that is read of JSON in which no object has a name twice
+pub distinct_keys : (j : Json) (library : List Tree) → HasUniqueKeys j → library_of j ≡ Ok library → AreDistinct library
+distinct_keys (json.object ms) library unique is = subst (AllPairs (λ a b. a ≢ b)) (sym (keys_of_entries ms library is)) unique.0
+distinct_keys json.null library unique is = cc
+distinct_keys (json.boolean b) library unique is = cc
+distinct_keys (json.number s) library unique is = cc
+distinct_keys (json.string s) library unique is = cc
+distinct_keys (json.array js) library unique is = cc
 
 -- ---- pushes are those of the whole list
 
@@ -47,7 +57,7 @@ pushed (json.member k j ms) done = by (λ t. pushed ms (push t done)) (within (t
     by rest (Err e) = refl
 
 -- the library that is pushed is the list of the entries
-pub pushed_in_order : (ms : Members) (library : List Tree) → AreDistinct (keys ms) → entries_pushed [] ms ≡ Ok library → entries_of ms ≡ Ok library
+pub pushed_in_order : (ms : Members) (library : List Tree) → names.AreDistinct (keys ms) → entries_pushed [] ms ≡ Ok library → entries_of ms ≡ Ok library
 unfolding push_all
 pushed_in_order ms library distinct is = by (entries_of ms) refl (sym (pushed ms []) ∙ is)
   where

@@ -20,7 +20,7 @@ mod FieldsBack
 pub mod Sounds
 mod SoundEntries
 mod NoBad
-mod TextsRead
+pub mod TextsRead
 mod ValuesRead
 mod SerialsRead
 mod FieldsRead

@@ -1,30 +1,18 @@
 -- Libraries that were read are read again from what is printed of them.
-use Rattle.std.proofs.Common.{◌≡◌, ◌≢◌, ◌≤◌, ℕ, List, Ok, sym, subst, IsUtf8}
-use Rattle.std.specs.List.{AllPairs}
-use Rattle.json.specs.Json as json
-use Rattle.json.specs.Json.{Json, max_depth}
-use Rattle.json.specs.Strict.{HasUniqueKeys}
+use Rattle.std.proofs.Common.{◌≤◌, ℕ, List, IsUtf8}
+use Rattle.json.specs.Json.{max_depth}
 use Rattle.json.specs.Tree.{depth as nesting}
 use Rattle.haya_entry.specs.Tree.{Tree}
-use Rattle.hayagriva.specs.Library.{AreDistinct}
-use Rattle.haya_json.specs.Libraries.{Describes, library_of}
+use Rattle.haya_json.specs.Libraries.{Describes}
 use Rattle.haya_json.specs.Printed.{library_json}
 use Rattle.haya_json.specs.ReadBack.{ReadsBack}
 use Rattle.haya_json.specs.Readable.{EntriesAreReadable}
 use Rattle.haya_json.proofs.EntriesRead.{entries_readable, library_read}
-use Rattle.haya_json.proofs.InOrder.{keys_of_entries}
+use Rattle.haya_json.proofs.InOrder.{distinct_keys}
 use Rattle.haya_json.proofs.ReadBacks.{described}
 use Rattle.haya_json.proofs.SoundEntries.{says_itself}
 use Rattle.haya_json.proofs.TokensParsed.{document_texts}
 use Rattle.haya_json.proofs.ValuesRead.{ReadAgain}
-
-distinct_keys : (j : Json) (library : List Tree) → HasUniqueKeys j → library_of j ≡ Ok library → AreDistinct library
-distinct_keys (json.object ms) library unique is = subst (AllPairs (λ a b. a ≢ b)) (sym (keys_of_entries ms library is)) unique.0
-distinct_keys json.null library unique is = cc
-distinct_keys (json.boolean b) library unique is = cc
-distinct_keys (json.number s) library unique is = cc
-distinct_keys (json.string s) library unique is = cc
-distinct_keys (json.array js) library unique is = cc
 
 -- the values of a library that was read are as their types say
 pub library_readable : ReadAgain → (text : List ℕ) (library : List Tree) → IsUtf8 text → Describes text library → EntriesAreReadable library

@@ -1,5 +1,5 @@
 -- The members of a text, a member a line.
-use Rattle.std.specs.Prelude.{◌≡◌, ℕ, List, [], ◌∷◌, ◌++◌, Option, None, option_map, flat_map, Ok}
+use Rattle.std.specs.Prelude.{◌≡◌, ℕ, List, [], ◌∷◌, Option, None, option_map, flat_map, Ok}
 use Rattle.std.specs.List.{AllZip}
 use Rattle.std.specs.Option.{option_map_or}
 use Rattle.json.specs.Json.{Json, member, no_members, object}
@@ -48,28 +48,13 @@ IsMemberLineErrorOf line error = IsErrorOfJson library_of (member_in line) error
 abbrev pub line_passed_over : List ℕ → List (List ℕ)
 line_passed_over line = option_map_or passed_over (member_in line) []
 
--- ---- lines
-
--- the entries that lines list, in order, repeated keys and all: one for each line
-abbrev pub AreEntriesOf : List (List ℕ) → List Tree → Type 0
-AreEntriesOf ls entries = AllZip IsMemberLineOf ls entries
-
-abbrev pub lines_passed_over : List (List ℕ) → List (List ℕ)
-lines_passed_over ls = flat_map line_passed_over ls
-
 -- ---- a text
 
--- the entries that a text lists: each member of its object says one
+-- the entries that a text lists, in order, repeated keys and all: each member of its object says one
 abbrev pub IsListOf : List ℕ → List Tree → Type 0
-IsListOf text entries = AreEntriesOf (elements Curly text) entries
-
--- a first part of the members of a text, or all, lists these entries
-pub record BeginsList (text : List ℕ) (entries : List Tree) : Type 0 where
-  pub first : List (List ℕ)
-  pub more : List (List ℕ)
-  pub parts : elements Curly text ≡ first ++ more
-  pub listed : AreEntriesOf first entries
+IsListOf text entries = AllZip IsMemberLineOf (elements Curly text) entries
 
 -- what is passed over of the entries of a text
 abbrev pub IsPassedOver : List ℕ → Ignored → Type 0
-IsPassedOver text ignored = counts_of ignored ≡ tally (lines_passed_over (elements Curly text))
+IsPassedOver text ignored =
+    counts_of ignored ≡ tally (flat_map line_passed_over (elements Curly text))

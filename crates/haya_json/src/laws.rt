@@ -82,6 +82,17 @@ pub fn member_lines_are_a_library()
     haya_elements::laws::documents();
 }
 
+/// The other way, so that no library is refused by its lines: a text that describes a library lists
+/// its entries in order, and no key comes twice.
+pub fn libraries_are_member_lines()
+    ensures listed { (text : List ℕ) (library : List Tree) → Describes text library
+        → member_lines.IsListOf text library }
+    ensures distinct { (text : List ℕ) (library : List Tree) → Describes text library
+        → AreDistinct library }
+{
+    haya_elements::laws::elements_of_documents();
+}
+
 /// Entries that were read have values as `EntriesAreReadable` says: those of a library, those that
 /// lines of JSON list, and those of the library of such lines.
 pub fn read_entries_are_readable()
