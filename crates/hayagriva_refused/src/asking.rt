@@ -6,8 +6,8 @@ use crate::marks::Row;
 use crate::printing::prints;
 use crate::works::string;
 use haya_command::{
-    Asker, Form, Format, InputError, Options, ask_csl_json, ask_hayagriva, ask_json_lines, ask_lines,
-    end_asking, tell_notes, warn,
+    Asker, Form, Format, InputError, Options, ask_csl_json, ask_hayagriva, ask_json_lines,
+    ask_lines, end_asking, tell_notes, warn,
 };
 use haya_input::read_library;
 use haya_json::{ElementError, LineError, ReadError};
@@ -178,7 +178,8 @@ fn is_json_asked(
     }
 }
 
-const ASKS_JSON: &str = "answer_entry_lines answer_elements ask_json_lines ask_csl_json ask_hayagriva";
+const ASKS_JSON: &str =
+    "answer_entry_lines answer_elements ask_json_lines ask_csl_json ask_hayagriva";
 
 #[test]
 fn json(rt: HostRuntime) {

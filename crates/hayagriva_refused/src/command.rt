@@ -9,7 +9,7 @@ use haya_command::{
     read_inputs, run,
 };
 use haya_input::InputFault;
-use haya_json::{LineError, ReadError};
+use haya_json::{ElementError, LineError, ReadError};
 use haya_printing::LinesError;
 use haya_text::OutOfMemory;
 use hayagriva::{HashKeys, Library, SelectorError};
@@ -77,6 +77,9 @@ pub(crate) fn told(fault: Fault) -> Result<bool, OutOfMemory> {
         Fault::Input(_, InputError::JsonLines(LineError { error, .. })) => {
             matches!(error, ReadError::OutOfMemory)
         }
+        Fault::Input(_, InputError::Element(ElementError { error, .. })) => {
+            matches!(error, ReadError::OutOfMemory)
+        }
         Fault::Input(_, InputError::Lines(error)) => *error == InputFault::OutOfMemory,
         _ => false,
     };
@@ -86,6 +89,34 @@ pub(crate) fn told(fault: Fault) -> Result<bool, OutOfMemory> {
     } else {
         Ok(false)
     }
+}
+
+// Whether an input is read under its name.
+fn is_input(alloc: Global, (name, text): (&str, &str)) -> Result<bool, OutOfMemory> {
+    match Input::read(alloc, name, &mut text.as_bytes(), &mut ()) {
+        Ok(input) => {
+            let is_wanted = input.name.as_str() == name && input.text.as_str() == text;
+            drop(input);
+            Ok(is_wanted)
+        }
+        Err(fault) => told(fault),
+    }
+}
+
+#[test]
+fn inputs_read(rt: HostRuntime) {
+    asks(
+        &rt,
+        Row("Input::read", "lines", Optional),
+        ("a file", LINES),
+        is_input,
+    );
+    let mut text = string(&rt, "");
+    for _ in 0..20_000 {
+        text.push_str(LINES).expect(&rt, "memory");
+    }
+    let row = Row("Input::read", "40,000 lines", Optional);
+    asks(&rt, row, ("a file", text.as_str()), is_input);
 }
 
 /// What is asked, and in which form it is answered.

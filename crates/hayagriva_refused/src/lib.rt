@@ -16,6 +16,8 @@ mod command;
 #[cfg(test)]
 mod csl;
 #[cfg(test)]
+mod elements;
+#[cfg(test)]
 mod file_format;
 #[cfg(test)]
 mod hits;
