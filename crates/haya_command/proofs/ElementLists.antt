@@ -7,6 +7,7 @@ use Rattle.std.specs.Str.Lines.{lines}
 use Rattle.hayagriva.specs.Syntax.{Syntax}
 use Rattle.hayagriva.specs.Tree.{Tree}
 use Rattle.haya_json.specs.Ignored.{counts_of}
+use Rattle.haya_json.specs.Tally.{tally}
 use Rattle.haya_json.specs.declared.ignored.Ignored.{Ignored}
 use Rattle.haya_list.specs.EntryLines.{IsFaultOf, ReadsFirst, ReadsLines, filled}
 use Rattle.haya_list.specs.Listed.{AnswersEnough, AnswersList, AnswersPart, entries_of, printed_of}
@@ -16,7 +17,7 @@ use Rattle.haya_json.specs.declared.error.ElementError.{ElementError}
 use Rattle.haya_json.specs.declared.error.ReadError.TheVariants.{OutOfMemory}
 use Rattle.haya_printing.specs.declared.error.LinesError.{LinesError}
 use Rattle.haya_stream.specs.declared.fault.StreamFault.{StreamFault}
-use Rattle.haya_command.specs.AskedLines.{BeginsLines, BeginsListIn, FirstElementError, IsElementError, IsElementErrorFor, IsErrorIn, IsLineIn, IsListIn, asked_lines}
+use Rattle.haya_command.specs.AskedLines.{BeginsLines, BeginsListIn, FirstElementError, IsElementError, IsElementErrorFor, IsErrorIn, IsLineIn, IsListIn, PassesOverNothing, asked_lines, lines_passed_over}
 use Rattle.haya_command.specs.Reading.{IsUnknown}
 use Rattle.haya_command.specs.Streamed.{AsksFirst, AsksInput, AsksPart, IsStreamFault}
 use Rattle.haya_command.specs.declared.fault.Fault.{Fault}
@@ -39,6 +40,7 @@ whole_text unread left text bytes known read ends = by left (subst (λ u. Consum
 
 module _ {S R : Type 0} (options : S → Options) (selector : S → Syntax) (hits : S → ℕ) (format : Format) (ignored : R → Ignored)
     (list_in : (text : List ℕ) (entries : List Tree) → AllZip (IsLineIn format) (filled (lines (asked_lines format text))) entries → IsListIn format text entries)
+    (nothing_in : (text : List ℕ) → (ignored : Ignored) × (counts_of ignored ≡ tally (lines_passed_over format (lines (asked_lines format text)))) × (counts_of ignored ≡ []) → PassesOverNothing format text)
     (begins_in : (part : List ℕ) (entries : List Tree) → BeginsLines format part entries → BeginsListIn format part entries) where
   abbrev done : S → Bool
   done s = (options s).quiet && nat_lt 0 (hits s)
@@ -62,12 +64,17 @@ module _ {S R : Type 0} (options : S → Options) (selector : S → Syntax) (hit
         × (AsksInput format (options s) (selector s) (hits s) (hits t) unread left before after
         ⊎ (behind : Option (List ℕ)) × AsksFirst format (options s) (selector s) (hits s) (hits t) (Some (asked_lines format text)) behind before after)
     elements_asked accepted (inl a) =
-        let same = options_kept options selector hits done s t a.replies not a.run in
-        (same, selector_kept options selector hits done s t a.replies not a.run, inl (asks_input options selector hits done s t not unread left before after format _
-        (λ bytes entries reads. let all = reads_list format ignored r none _ entries q reads in (list_in bytes entries all.listed, (λ strict. (ignored q, all.counts, accepted (rw same strict))))) a))
-    elements_asked accepted (inr (behind, a)) =
-        (options_kept options selector hits done s t a.replies not a.run, selector_kept options selector hits done s t a.replies not a.run,
-        inr (behind, asks_enough options selector hits done s t not (Some (asked_lines format text)) behind before after format (Reads r q) begins refl a))
+        let same = options_kept options selector hits done s t a.replies not a.run in (
+          same,
+          selector_kept options selector hits done s t a.replies not a.run,
+          inl (asks_input options selector hits done s t not unread left before after format _
+              (λ bytes entries reads. let all = reads_list format ignored r none _ entries q reads in (list_in bytes entries all.listed, (λ strict. nothing_in bytes (ignored q, all.counts, accepted (rw same strict))))) a),
+        )
+    elements_asked accepted (inr (behind, a)) = (
+      options_kept options selector hits done s t a.replies not a.run,
+      selector_kept options selector hits done s t a.replies not a.run,
+      inr (behind, asks_enough options selector hits done s t not (Some (asked_lines format text)) behind before after format (Reads r q) begins refl a),
+    )
 
     -- a strict run, or out of memory: what was read is asked, and what is printed of it written
     pub elements_noted : (name : List ℕ) (e : Fault) → (e ≡ fault.OutOfMemory) ⊎ (IsTrue (options t).strict × IsUnknown name e × (counts_of (ignored q) ≢ [])) → All ⊎ Enough
@@ -76,15 +83,19 @@ module _ {S R : Type 0} (options : S → Options) (selector : S → Syntax) (hit
         let same = options_kept options selector hits done s t a.replies not a.run in
         let whole = whole_text unread left text a.text known a.read a.at_end in
         let ls = asked_lines format text in
-        let reads = first_of_all format ignored ls (entries_of a.replies) r q (subst (λ x. ReadsLines (Says format ignored) (lines (asked_lines format x)) (entries_of a.replies) r q) whole a.list) in
-        (Some [], asks_part options selector hits done s t not (Some ls) (Some []) before after format name e ls a.replies (printed_of a.replies) [] (sym (append-nil ls))
-        (begins ls (entries_of a.replies) reads) a.run (sym (append-nil (printed_of a.replies)))
-        (unknown_why format ignored r none (options s) (options t) name ls (entries_of a.replies) q e same reads why) a.prints)
+        let reads = first_of_all format ignored ls (entries_of a.replies) r q (subst (λ x. ReadsLines (Says format ignored) (lines (asked_lines format x)) (entries_of a.replies) r q) whole a.list) in (
+          Some [],
+          asks_part options selector hits done s t not (Some ls) (Some []) before after format name e ls a.replies (printed_of a.replies) [] (sym (append-nil ls))
+              (begins ls (entries_of a.replies) reads) a.run (sym (append-nil (printed_of a.replies)))
+              (unknown_why format ignored r none (options s) (options t) name ls (entries_of a.replies) q e same reads why) a.prints,
+        )
     elements_noted name e why (inr (behind, a)) =
-        let same = options_kept options selector hits done s t a.replies not a.run in
-        (behind, asks_part options selector hits done s t not (Some (asked_lines format text)) behind before after format name e a.text a.replies (printed_of a.replies) [] a.read
-        (begins a.text (entries_of a.replies) a.list) a.run (sym (append-nil (printed_of a.replies)))
-        (unknown_why format ignored r none (options s) (options t) name a.text (entries_of a.replies) q e same a.list why) a.prints)
+        let same = options_kept options selector hits done s t a.replies not a.run in (
+          behind,
+          asks_part options selector hits done s t not (Some (asked_lines format text)) behind before after format name e a.text a.replies (printed_of a.replies) [] a.read
+              (begins a.text (entries_of a.replies) a.list) a.run (sym (append-nil (printed_of a.replies)))
+              (unknown_why format ignored r none (options s) (options t) name a.text (entries_of a.replies) q e same a.list why) a.prints,
+        )
 
   module _ (error_in : (part : List ℕ) (x : ElementError) → (x.error ≡ OutOfMemory) ⊎ FirstElementError format part x → IsErrorIn format part (Element x))
       (s : S) (not : (options s).to ≢ Hayagriva) (r : R) (none : counts_of (ignored r) ≡ []) (before after : Option (List ℕ)) (text : List ℕ) where
@@ -97,7 +108,9 @@ module _ {S R : Type 0} (options : S → Options) (selector : S → Syntax) (hit
         → (behind : Option (List ℕ)) × AnswersPart (λ part entries. (q : R) × Reads r q part entries) (IsFaultOf (Says format ignored) (IsElementError format) r) (Asks options selector hits done) done refuses s
         (Some (asked_lines format text)) behind before after sf
         → (behind : Option (List ℕ)) × AsksPart format name (options s) (selector s) (Some (asked_lines format text)) behind before after e
-    elements_stopped name refuses sf e is (behind, a) =
-        (behind, asks_part options selector hits done s a.last not (Some (asked_lines format text)) behind before after format name e a.text a.replies a.written a.unwritten a.read
-        (begins_in a.text (entries_of a.replies) (begins_list format ignored r none a.text (entries_of a.replies) a.list.0 a.list.1)) a.run a.parts
-        (stream_why (options s) format name (IsFaultOf (Says format ignored) (IsElementError format) r) _ IsElementErrorFor fault_in a.text a.unwritten sf e is a.why) a.prints)
+    elements_stopped name refuses sf e is (behind, a) = (
+      behind,
+      asks_part options selector hits done s a.last not (Some (asked_lines format text)) behind before after format name e a.text a.replies a.written a.unwritten a.read
+          (begins_in a.text (entries_of a.replies) (begins_list format ignored r none a.text (entries_of a.replies) a.list.0 a.list.1)) a.run a.parts
+          (stream_why (options s) format name (IsFaultOf (Says format ignored) (IsElementError format) r) _ IsElementErrorFor fault_in a.text a.unwritten sf e is a.why) a.prints,
+    )

@@ -78,17 +78,20 @@ module _ (format : Format) {R : Type 0} (ignored : R → Ignored) where
     pub element_error : (text : List ℕ) (fault : EntryFault ElementError) (e : InputError) → IsElementErrorFor fault e → IsFaultOf Says (IsElementError format) r text fault
         → (x : ElementError) × (e ≡ Element x) × ((x.error ≡ OutOfMemory) ⊎ FirstElementError format text x)
     element_error text entry_fault.TooMany e is at = (_, is, inl refl)
-    element_error text (entry_fault.Line number x) e is at =
-        (x, is, inr (record {
-          first = at.first;
-          line = at.line;
-          more = at.more;
-          entries = at.entries;
-          parts = at.parts;
-          listed = (reads_list at.first at.entries at.after at.reads).listed;
-          some = at.some;
-          error = at.why;
-        }))
+    element_error text (entry_fault.Line number x) e is at = (
+      x,
+      is,
+      inr (record {
+        first = at.first;
+        line = at.line;
+        more = at.more;
+        entries = at.entries;
+        parts = at.parts;
+        listed = (reads_list at.first at.entries at.after at.reads).listed;
+        some = at.some;
+        error = at.why;
+      }),
+    )
 
 -- the error of a line of JSON
 pub line_error : {R : Type 0} (ignored : R → Ignored) (r : R) → counts_of (ignored r) ≡ [] → (text : List ℕ) (fault : EntryFault ReadError) (e : InputError) → IsLineErrorFor fault e

@@ -17,6 +17,7 @@ pub IsListOf-append : (first second : List ℕ) (a b : List Tree) → AreWholeLi
 IsListOf-append first second a b whole f g =
     subst (λ ls. AreEntriesOf ls (a ++ b)) (sym (lines-append first second whole)) (AreEntriesOf-append (lines first) (lines second) a b f g)
 
+-- so do any number of texts
 pub IsListOf-many : (texts : List (List ℕ)) (parts : List (List Tree)) → All AreWholeLines texts → AllZip IsListOf texts parts → IsListOf (concat texts) (flat_map (λ a. a) parts)
 IsListOf-many [] [] whole h = tt
 IsListOf-many [] (a ∷ parts) whole h = absurd h
@@ -34,6 +35,7 @@ Describes-append first second a b whole apart f g = record {
       (sym (from_entries-parts f.entries g.entries (AreApart-entries f.entries g.entries (rw (f.of_entries, g.of_entries) at apart))));
 }
 
+-- so do the libraries of any number of texts
 pub Describes-many : (texts : List (List ℕ)) (parts : List (List Tree)) → All AreWholeLines texts → AllPairs AreApart parts → AllZip Describes texts parts
     → Describes (concat texts) (flat_map (λ a. a) parts)
 Describes-many [] [] whole apart h = record { entries = []; listed = tt; of_entries = refl }

@@ -45,17 +45,21 @@ use Rattle.haya_command.proofs.JsonParts.{IsListOf-append}
 
 -- ---- the object of a line
 
+-- texts that compare as equal are equal
 same_bytes : (a b : List ℕ) → Decides (eq_by_cmp (slice_cmp nat_cmp) a b) (a ≡ b)
 same_bytes a b = subst (λ r. Decides r (a ≡ b)) (sym (is_eq-slice_cmp a b)) (bytes_eq-Decides a b)
 
+-- the names of the members of names
 names_keys : (names : List (List ℕ × List ℕ)) → keys (name_members names json.no_members) ≡ keys_of names
 names_keys [] = refl
 names_keys (p ∷ ps) = ap (λ ks. p.0 ∷ ks) (names_keys ps)
 
+-- the members of names can be read
 names_members : (names : List (List ℕ × List ℕ)) → MembersAreSound (name_members names json.no_members)
 names_members [] = (tt, tt)
 names_members (p ∷ ps) = let rest = names_members ps in ((tt, rest.0), (tt, rest.1))
 
+-- they nest nothing
 names_depth : (names : List (List ℕ × List ℕ)) → members_depth (name_members names json.no_members) ≡ 0
 names_depth [] = refl
 names_depth (p ∷ ps) = ap (max 0) (names_depth ps)
@@ -67,6 +71,7 @@ names_sound names order =
     let distinct = AllPairs-from_IsDistinct same_bytes (keys_of names) (IsDistinct-from_sorted (slice_cmp nat_cmp) (keys_of names) order) in
     (members.0, (subst (AllPairs (λ a b. a ≢ b)) (sym (names_keys names)) distinct, members.1))
 
+-- the object of a hit can be read
 hit_sound : (names : List (List ℕ × List ℕ)) (t : Tree) → IsStrictlySortedBy (slice_cmp nat_cmp) (keys_of names) → EntrySaysItself t → IsSound (hit_json (key_of t) names t)
 hit_sound names t order says =
     object_sound
@@ -75,14 +80,17 @@ hit_sound names t order says =
     (built_one (codes "entry") (json_of None t) (says.numbers, says.unique) built_none)))
     refl
 
+-- it nests no deeper than a reader takes
 hit_nests : (names : List (List ℕ × List ℕ)) (t : Tree) → FitsLine t → nesting (hit_json (key_of t) names t) ≤ max_depth
 hit_nests names t fits = omega (arith, names_depth names)
 
+-- it says the entry
 hit_says : (names : List (List ℕ × List ℕ)) (t : Tree) → entry_of (key_of t) None (json_of None t) ≡ Ok t → entry_in (hit_json (key_of t) names t) ≡ Ok t
 hit_says names (node f ps) says = ap (within (to_member (codes "entry"))) says
 
 -- ---- its text
 
+-- there is no carriage return at the end
 no_return : (line : List ℕ) → All (λ b. 32 ≤ b) line → strip_carriage_return line ≡ line
 no_return [] h = refl
 no_return (x ∷ xs) h =
@@ -97,10 +105,12 @@ lines-one line h =
     let no_feed : All (λ b. (b == 10) ≡ false) line = All-weaker (λ b. 32 ≤ b) (λ b. (b == 10) ≡ false) (λ b low. grind (arith, nat_tests)) line h in
     ap lines_of_parts (slice_split_at (λ b. b == 10) line 10 [] no_feed refl) ∙ ap (λ l. l ∷ []) (no_return line h)
 
+-- the last byte is a line feed
 last-feed : (before : _) (line : List ℕ) → last_or before (line ++ line_feed ∷ []) ≡ Some line_feed
 last-feed before [] = refl
 last-feed before (b ∷ bs) = last-feed (Some b) bs
 
+-- what is printed of an object is not empty
 not_empty : (ts : List AToken) → (length (print (Token.begin_object ∷ ts)) == 0) ≡ false
 unfolding print_from
 not_empty ts = grind (arith, nat_tests)
@@ -108,10 +118,12 @@ not_empty ts = grind (arith, nat_tests)
 -- ---- hits
 
 module _ (says : (t : Tree) → TreeIsReadable t → EntrySaysItself t) (one_line : (j : Json) → HasNumbers j → All (λ b. 32 ≤ b) (print (json_tokens j))) where
+  -- the line is whole, and lists the entry
   record Lists (line : List ℕ) (t : Tree) : Type 0 where
     whole : AreWholeLines line
     listed : IsListOf line (t ∷ [])
 
+  -- the line of a hit
   line_lists : (hit : Hit) (line : List ℕ) → TreeIsReadable (hit_entry hit) → FitsLine (hit_entry hit) → IsJsonLineOf hit line → Lists line (hit_entry hit)
   line_lists hit line readable fits is =
       let t = hit_entry hit in
@@ -133,6 +145,7 @@ module _ (says : (t : Tree) → TreeIsReadable t → EntrySaysItself t) (one_lin
         listed = subst (λ l. IsListOf l (t ∷ [])) (sym is.text) (subst (λ ls. AreEntriesOf ls (t ∷ [])) (sym (lines-one text (one_line object sound.0))) one);
       }
 
+  -- the lines of hits
   all_listed : (hits : List Hit) (ls : List (List ℕ)) → EntriesAreReadable (map hit_entry hits) → All FitsLine (map hit_entry hits) → AllZip IsJsonLineOf hits ls
       → IsListOf (concat ls) (map hit_entry hits)
   all_listed [] [] readable fits each = tt
@@ -143,18 +156,21 @@ module _ (says : (t : Tree) → TreeIsReadable t → EntrySaysItself t) (one_lin
       IsListOf-append l (concat ls) (hit_entry h ∷ []) (map hit_entry hs) first.whole first.listed
       (all_listed hs ls readable.1 (All-tail FitsLine (hit_entry h) (map hit_entry hs) fits) each.1)
 
+  -- what is printed of hits lists their entries
   pub lists_back : (hits : List Hit) (text : List ℕ) → EntriesAreReadable (map hit_entry hits) → All FitsLine (map hit_entry hits) → AreLines IsJsonLineOf hits text
       → IsListOf text (map hit_entry hits)
   lists_back hits text readable fits printed = subst (λ l. IsListOf l (map hit_entry hits)) (sym printed.text) (all_listed hits printed.lines readable fits printed.each)
 
   -- ---- the hits of a library
 
+  -- the entries of hits are those where the selector holds
   entries_of_hits : (s : Syntax) (ts : List Tree) (hits : List Hit) → AllZip (IsHit s) ts hits → map hit_entry hits ≡ ts
   entries_of_hits s [] [] are = refl
   entries_of_hits s [] (h ∷ hs) are = absurd are
   entries_of_hits s (t ∷ ts) [] are = absurd are
   entries_of_hits s (t ∷ ts) (h ∷ hs) are = rw (are.0.entry, entries_of_hits s ts hs are.1) refl
 
+  -- so are the values of some of the entries
   some_readable : (p : Tree → Bool) (ts : List Tree) → EntriesAreReadable ts → EntriesAreReadable (filter p ts)
   some_readable p [] all = tt
   some_readable p (t ∷ ts) all = by (p t) (some_readable p ts all.1)
@@ -163,6 +179,7 @@ module _ (says : (t : Tree) → TreeIsReadable t → EntrySaysItself t) (one_lin
       by true rest = (all.0, rest)
       by false rest = rest
 
+  -- what is printed of the hits of entries lists those where the selector holds
   pub answers_back : (s : Syntax) (library : List Tree) (hits : List Hit) (text : List ℕ) → EntriesAreReadable library → AreHits s library hits
       → All FitsLine (filter (holds s) library) → AreLines IsJsonLineOf hits text → IsListOf text (filter (holds s) library)
   answers_back s library hits text readable are fits printed =

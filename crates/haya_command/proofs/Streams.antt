@@ -12,6 +12,10 @@ use Rattle.hayagriva.specs.Query.{AreHits, IsHit, hit_entry}
 use Rattle.hayagriva.specs.Syntax.{Syntax}
 use Rattle.hayagriva.specs.Tree.{Tree}
 use Rattle.hayagriva.specs.declared.query.Hit.{Hit}
+use Rattle.haya_csl.specs.ItemLines as item_lines
+use Rattle.haya_csl.specs.Libraries.{DescribesAsCsl}
+use Rattle.haya_json.specs.Libraries as json
+use Rattle.haya_json.specs.MemberLines as member_lines
 use Rattle.haya_hits.specs.Line.{AreLines, IsLineOf}
 use Rattle.haya_lines.specs.Signs.{line_feed}
 use Rattle.haya_list.specs.Listed as list
@@ -250,15 +254,17 @@ told_answers false true to hits printed told = rw told refl
 told_answers false false to hits printed told = rw (append-nil printed) told
 
 -- where no key comes again, the entries that a text lists are its library
-pub list_read : (options : Options) (text : List ℕ) (entries : List Tree) → (IsTrue options.strict → IsWhole (format_in options text) text) → IsListIn (format_in options text) text entries
-    → AreDistinct entries → IsReadAs options text entries
-list_read options text entries whole listed distinct = record { describes = by (format_in options text) listed; whole = whole }
-  where
-    of_list : entries ≡ from_entries entries
-    of_list = sym (from_entries-distinct entries distinct)
+module _ (items : (text : List ℕ) (entries : List Tree) → item_lines.IsListOf text entries → AreDistinct entries → DescribesAsCsl text entries)
+    (members : (text : List ℕ) (entries : List Tree) → member_lines.IsListOf text entries → AreDistinct entries → json.Describes text entries) where
+  pub list_read : (options : Options) (text : List ℕ) (entries : List Tree) → (IsTrue options.strict → IsWhole (format_in options text) text) → IsListIn (format_in options text) text entries
+      → AreDistinct entries → IsReadAs options text entries
+  list_read options text entries whole listed distinct = record { describes = by (format_in options text) listed; whole = whole }
+    where
+      of_list : entries ≡ from_entries entries
+      of_list = sym (from_entries-distinct entries distinct)
 
-    by : (f : Format) → IsListIn f text entries → Describes f text entries
-    by format.Lines listed = record { entries = entries; rows = listed; of_entries = of_list }
-    by format.JsonLines listed = record { entries = entries; listed = listed; of_entries = of_list }
-    by format.Hayagriva listed = absurd listed
-    by format.CslJson listed = absurd listed
+      by : (f : Format) → IsListIn f text entries → Describes f text entries
+      by format.Lines listed = record { entries = entries; rows = listed; of_entries = of_list }
+      by format.JsonLines listed = record { entries = entries; listed = listed; of_entries = of_list }
+      by format.Hayagriva listed = members text entries listed distinct
+      by format.CslJson listed = items text entries listed distinct

@@ -70,13 +70,16 @@ line_passed_over Lines line = []
 abbrev pub lines_passed_over : Format → List (List ℕ) → List (List ℕ)
 lines_passed_over format ls = flat_map (line_passed_over format) (filled ls)
 
--- where the run is strict, nothing is passed over of a text; of lines that are no JSON nothing ever
--- is
-abbrev pub IsAccepted : Options → Format → List ℕ → Type 0
-IsAccepted options format text =
-    IsTrue options.strict → (ignored : Ignored)
+-- nothing is passed over of a text; of lines that are no JSON nothing ever is
+abbrev pub PassesOverNothing : Format → List ℕ → Type 0
+PassesOverNothing Lines text = Unit {0}
+PassesOverNothing format text =
+    (ignored : Ignored)
     × (counts_of ignored ≡ tally (lines_passed_over format (lines (asked_lines format text))))
     × (counts_of ignored ≡ [])
+
+abbrev pub IsAccepted : Options → Format → List ℕ → Type 0
+IsAccepted options format text = IsTrue options.strict → PassesOverNothing format text
 
 -- something is passed over of a first part of the lines, or of all
 abbrev pub PassesOverFirst : Format → List ℕ → Type 0

@@ -31,4 +31,4 @@ pub use picking::picks;
 pub use printing::hits_text;
 pub use reading::{Collected, read, read_inputs};
 pub use running::{complain, run, tell_notes, warn};
-pub use streaming::{ask_csl_json, ask_json_lines, ask_lines, ask_hayagriva};
+pub use streaming::{ask_csl_json, ask_hayagriva, ask_json_lines, ask_lines};

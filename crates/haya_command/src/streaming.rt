@@ -102,7 +102,7 @@ pub fn ask_csl_json<'o, R: Read, W: Write>(
         asker.entry.selector (R.remaining input.old) (W.contents out.old) (W.contents out.new)) }
 {
     let alloc = asker.alloc;
-    let (asked, reader) = match answer_elements(
+    let (asked, items) = match answer_elements(
         alloc,
         Brackets::Square,
         ItemReader::new(alloc, asker.keys),
@@ -113,7 +113,7 @@ pub fn ask_csl_json<'o, R: Read, W: Write>(
         Ok(done) => done,
         Err(fault) => return Err(list_fault(alloc, name, fault)),
     };
-    note_passed_over(alloc, asked.options, name, &reader.ignored, notes)?;
+    note_passed_over(alloc, asked.options, name, &items.ignored, notes)?;
     Ok(asked)
 }
 
@@ -133,7 +133,7 @@ pub fn ask_hayagriva<'o, R: Read, W: Write>(
         asker.entry.selector (R.remaining input.old) (W.contents out.old) (W.contents out.new)) }
 {
     let alloc = asker.alloc;
-    let (asked, reader) = match answer_elements(
+    let (asked, members) = match answer_elements(
         alloc,
         Brackets::Curly,
         MemberReader::new(alloc, asker.keys),
@@ -144,7 +144,7 @@ pub fn ask_hayagriva<'o, R: Read, W: Write>(
         Ok(done) => done,
         Err(fault) => return Err(list_fault(alloc, name, fault)),
     };
-    note_passed_over(alloc, asked.options, name, &reader.ignored, notes)?;
+    note_passed_over(alloc, asked.options, name, &members.ignored, notes)?;
     Ok(asked)
 }
 

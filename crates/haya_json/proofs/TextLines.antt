@@ -10,6 +10,7 @@ use Rattle.haya_json.proofs.Utf8Parts.{before_utf8, behind_utf8}
 
 -- ---- the parts between line feeds
 
+-- the byte is a line feed
 abbrev is_feed : ℕ → Bool
 is_feed b = b == 10
 
@@ -18,14 +19,17 @@ abbrev AreTextsBehind : List ℕ → List (List ℕ) → Type 0
 AreTextsBehind front [] = IsUtf8 front
 AreTextsBehind front (p ∷ ps) = IsUtf8 (front ++ p) × AllByRecursion IsUtf8 ps
 
+-- a byte more in front of the first part
 with_byte : (front : List ℕ) (x : ℕ) (ps : List (List ℕ)) → AreTextsBehind (front ++ x ∷ []) ps → AreTextsBehind front (onto_first x ps)
 with_byte front x [] h = (h, tt)
 with_byte front x (p ∷ ps) h = (subst IsUtf8 (append_assoc front (x ∷ []) p) h.0, h.1)
 
+-- with nothing in front each part is a text
 behind_none : (ps : List (List ℕ)) → AreTextsBehind [] ps → AllByRecursion IsUtf8 ps
 behind_none [] h = tt
 behind_none (p ∷ ps) h = h
 
+-- the parts of a text between its line feeds
 parts_utf8 : (front xs : List ℕ) → IsUtf8 (front ++ xs) → AreTextsBehind front (slice_split is_feed xs)
 parts_utf8 front [] u = (u, tt)
 parts_utf8 front (x ∷ xs) u = by (λ w. parts_utf8 [] xs w) (λ w. parts_utf8 (front ++ x ∷ []) xs w) (is_feed x) refl
@@ -39,6 +43,7 @@ parts_utf8 front (x ∷ xs) u = by (λ w. parts_utf8 [] xs w) (λ w. parts_utf8 
 
 -- ---- lines
 
+-- a text without a carriage return at its end
 strip_utf8 : (p : List ℕ) → IsUtf8 p → IsUtf8 (strip_carriage_return p)
 strip_utf8 [] u = u
 strip_utf8 (x ∷ xs) u = by (slice_index (x ∷ xs) last == 13) refl
@@ -52,6 +57,7 @@ strip_utf8 (x ∷ xs) u = by (slice_index (x ∷ xs) last == 13) refl
         IsUtf8-take (x ∷ xs) last u (IsCharBoundary-before_ascii (x ∷ xs) last (omega arith) small)
     by false e = u
 
+-- the lines in such parts
 of_parts_utf8 : (ps : List (List ℕ)) → AllByRecursion IsUtf8 ps → AllByRecursion IsUtf8 (lines_of_parts ps)
 of_parts_utf8 [] h = tt
 of_parts_utf8 (p ∷ []) h = by (length p == 0)
@@ -61,6 +67,7 @@ of_parts_utf8 (p ∷ []) h = by (length p == 0)
     by false = (h.0, tt)
 of_parts_utf8 (p ∷ q ∷ ps) h = (strip_utf8 p h.0, of_parts_utf8 (q ∷ ps) h.1)
 
+-- the lines of a text
 pub lines_utf8 : (text : List ℕ) → IsUtf8 text → All IsUtf8 (lines text)
 lines_utf8 text u =
     let parts = behind_none (slice_split is_feed text) (parts_utf8 [] text u) in

@@ -262,12 +262,14 @@ document_strings d j u e = subst IfFound e (last _ (Keeps-value max_depth (token
 
 -- ---- the texts of numbers
 
+-- bytes of a number are ASCII
 ascii_utf8 : (s : List ℕ) → All IsNumberByte s → IsUtf8 s
 ascii_utf8 [] h = IsUtf8-nil
 ascii_utf8 (x ∷ s) h =
     let first = All-head IsNumberByte x s h in
     IsUtf8-append (x ∷ []) s (one_utf8 x (omega arith)) (ascii_utf8 s (All-tail IsNumberByte x s h))
 
+-- a number is UTF-8
 number_utf8 : (s : List ℕ) → IsNumber s → IsUtf8 s
 number_utf8 s is = ascii_utf8 s (number_bytes s is)
 

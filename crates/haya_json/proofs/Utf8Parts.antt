@@ -3,6 +3,7 @@ use Rattle.std.proofs.Common.{◌≡◌, ℕ, ◌+◌, ◌<◌, List, [], ◌∷
 use Rattle.std.proofs.lemmas.Str.{IsCharBoundary-after_ascii, IsCharBoundary-before_ascii, IsUtf8-drop, IsUtf8-take}
 use Rattle.std.proofs.Math.Seq.{drop-append_seam, take-append_seam}
 
+-- the byte at the seam
 at_seam : (front xs : List ℕ) (x : ℕ) → get_or (front ++ x ∷ xs) (length front) 0 ≡ x
 at_seam [] xs x = refl
 at_seam (f ∷ front) xs x = at_seam front xs x
@@ -18,6 +19,7 @@ behind_utf8 front xs x small u =
     let cut : drop (length front + 1) (front ++ x ∷ xs) ≡ xs = ap (λ n. drop n (front ++ x ∷ xs)) there ∙ ap (drop (length (front ++ x ∷ []))) (sym (append_assoc front (x ∷ []) xs)) ∙ drop-append_seam (front ++ x ∷ []) xs in
     subst IsUtf8 cut (IsUtf8-drop (front ++ x ∷ xs) (length front + 1) u boundary)
 
+-- what is before an ASCII byte of a text
 pub before_utf8 : (front xs : List ℕ) (x : ℕ) → x < 128 → IsUtf8 (front ++ x ∷ xs) → IsUtf8 front
 before_utf8 front xs x small u =
     let low : get_or (front ++ x ∷ xs) (length front) 0 < 128 = omega (arith, at_seam front xs x) in
