@@ -46,10 +46,12 @@ passed_over_of_lines (l ∷ ls) (json.item j js) are = rw (are.0, passed_over_of
 
 -- ---- entries that are pushed in turn
 
+-- what no entry passes is not found
 none_found : (p : Tree → Bool) (ts : List Tree) → list_any p ts ≡ false → find p ts ≡ None
 none_found p [] h = refl
 none_found p (t ∷ ts) h = let parts = or_parts (p t) (list_any p ts) h in rw parts.0 (none_found p ts parts.1)
 
+-- what is not found no entry passes
 none_has : (p : Tree → Bool) (ts : List Tree) → find p ts ≡ None → list_any p ts ≡ false
 none_has p [] h = refl
 none_has p (t ∷ ts) h = by (none_has p ts) (p t) refl h
@@ -63,6 +65,7 @@ record IsNew (library : List Tree) (t : Tree) : Type 0 where
   unknown : get (key_of t) library ≡ None
   last : push t library ≡ library ++ t ∷ []
 
+-- an entry whose key is none of those before it
 is_new : (library ts : List Tree) (t : Tree) → AreDistinct (library ++ t ∷ ts) → IsNew library t
 is_new library ts t d =
     let none : list_any (has_key (key_of t)) library ≡ false = first_none _ _ (AreApart-distinct library (t ∷ ts) d (key_of t)) (own_key t ts) in

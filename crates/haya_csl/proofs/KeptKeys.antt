@@ -42,6 +42,7 @@ use Rattle.haya_csl.specs.declared.members.Place.{Place}
 fields_keep : (change : Fields → Fields) → ((f : Fields) → (change f).key ≡ f.key) → (t : Tree) → key_of (with_fields change t) ≡ key_of t
 fields_keep change keeps (node f ps) = keeps f
 
+-- each field of a text does
 text_keeps : (f : TextField) → KeepsKey (text_setter f)
 text_keeps texts.Location = field_keeps _ _ (λ v f. refl)
 text_keeps texts.Organization = field_keeps _ _ (λ v f. refl)
@@ -56,6 +57,7 @@ runtime_keeps : (o : Option Duration) (t : Tree) → key_of (with_runtime o t) �
 runtime_keeps None t = refl
 runtime_keeps (Some d) t = fields_keep _ (λ f. refl) t
 
+-- each field of a number, pages or a duration does
 number_keeps : (f : NumberField) → KeepsKey (number_setter f)
 number_keeps numbers.Volume = field_keeps _ _ (λ v f. refl)
 number_keeps numbers.Issue = field_keeps _ _ (λ v f. refl)
@@ -70,6 +72,7 @@ date_keeps : (o : Option Date) (t : Tree) → key_of (with_date o t) ≡ key_of 
 date_keeps None t = refl
 date_keeps (Some d) t = fields_keep _ (λ f. refl) t
 
+-- each field does
 setter_keeps : (f : Field) (item : Json) → KeepsKey (setter_of f item)
 setter_keeps field.Title item = put_keeps markup_of (λ v t. with_title (with_long v (fields t).title) t) (λ v t. fields_keep _ (λ f. refl) t)
 setter_keeps field.ShortTitle item = put_keeps markup_of (λ v t. with_title (with_short v (fields t).title) t) (λ v t. fields_keep _ (λ f. refl) t)
@@ -88,6 +91,7 @@ setter_keeps (field.Number f) item = number_keeps f
 setter_keeps (field.Serial f) item =
     put_keeps plain_of (λ text t. with_keyed_serial_number (serial_read f text).0 (serial_read f text).1 t) (λ text t. fields_keep _ (λ f. refl) t)
 
+-- and so do persons with a role
 role_keeps : (role : RoleView) → KeepsKey (role_setter role)
 role_keeps role = put_keeps names_of (λ names t. add_affiliated_persons (record { names = names; role = role }) t) (λ names t. fields_keep _ (λ f. refl) t)
 
@@ -105,6 +109,7 @@ refused_keeps : (d : DraftView) (r : Refusal) → SameKey d (Err r)
 unfolding SameKey
 refused_keeps d r e h = cc
 
+-- what is set at the item's own entry
 own_keeps : (set : Setter) → KeepsKey set → (j : Json) (d : DraftView) → SameKey d (and_then (set j d.own) (λ t. Ok (record d { own = t })))
 unfolding SameKey KeepsKey
 own_keeps set keeps j d e h = by (set j d.own) refl h
@@ -116,11 +121,13 @@ own_keeps set keeps j d e h = by (set j d.own) refl h
         ap (λ x. key_of x.own) (sym same) ∙ keeps j d.own t first
     by (Err r) first g = cc
 
+-- what is set at a parent
 parent_keeps : (d : DraftView) (put : List Tree → DraftView) → ((ts : List Tree) → (put ts).own ≡ d.own) → (r : Result (List Tree) Refusal) → SameKey d (and_then r (λ ts. Ok (put ts)))
 unfolding SameKey
 parent_keeps d put own (Ok ts) e h = let same : put ts ≡ e = cc in ap (λ x. key_of x.own) (sym same) ∙ ap key_of (own ts)
 parent_keeps d put own (Err r) e h = cc
 
+-- at any of the entries
 level_keeps : (l : Level) (key : List ℕ) (set : Setter) (j : Json) (d : DraftView) → KeepsKey set → SameKey d (set_at l key set j d)
 level_keeps level.Own key set j d keeps = own_keeps set keeps j d
 level_keeps (level.Host kind) key set j d keeps = parent_keeps d (λ ts. record d { host = ts }) (λ ts. refl) (parent_set key kind set j d.host)
@@ -159,6 +166,7 @@ id_keeps library j d = checks_keep d (bytes_of j) _ (λ key. by (is_some (get ke
 type_keeps : (item j : Json) (d : DraftView) → SameKey d (type_checked item j d)
 type_keeps item j d = checks_keep d (bytes_of j) _ (λ name. check_keeps d (is_some (kind_named name item)) _)
 
+-- each member
 member_keeps : (library : List Tree) (kind : Kind) (item : Json) (key name : List ℕ) (j : Json) (d : DraftView) → SameKey d (with_member library kind item key name j d)
 member_keeps library kind item key name j d = by (is_null j) (bytes_eq name (codes "id")) (bytes_eq name (codes "type"))
   where
@@ -168,6 +176,7 @@ member_keeps library kind item key name j d = by (is_null j) (bytes_eq name (cod
     by false false true = type_keeps item j d
     by false false false = field_or_role_keeps (role_of name) (place_of kind name item) item key j d
 
+-- all members
 members_keep : (library : List Tree) (kind : Kind) (item : Json) (key : List ℕ) (ms : Members) (d e : DraftView) → members_set library kind item key ms d ≡ Ok e → key_of e.own ≡ key_of d.own
 unfolding SameKey
 members_keep library kind item key json.no_members d e h = as_it_was d e h
@@ -184,6 +193,7 @@ members_keep library kind item key (json.member k j ms) d e h =
 parents_keep : (ps : List Tree) (t : Tree) → key_of (with_parents ps t) ≡ key_of t
 parents_keep ps (node f qs) = refl
 
+-- the entry's key is the item's id
 pub key_of_item : (library : List Tree) (ms : Members) (id : Json) (t : Tree) → member_of (codes "id") (json.object ms) ≡ Some id
     → item_of library (json.object ms) ≡ Ok t → key_of t ≡ key_in id
 key_of_item library ms id t found h =

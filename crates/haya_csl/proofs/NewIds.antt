@@ -29,17 +29,20 @@ abbrev AllNamed : List ℕ → Json → Members → Type 0
 AllNamed name v json.no_members = ⊤
 AllNamed name v (json.member k j ms) = (bytes_eq k name ≡ true → j ≡ v) × AllNamed name v ms
 
+-- no member has the name: neither this one nor a later one
 none_here : (o : Option Json) (b : Bool) (j : Json) → later_or o (cond b (Some j) None) ≡ None → (o ≡ None) × (b ≡ false)
 none_here None true j h = cc
 none_here None false j h = (refl, refl)
 none_here (Some i) b j h = cc
 
+-- where no member has the name, each that has it is any value
 none_named : (name : List ℕ) (v : Json) (ms : Members) → get_member name ms ≡ None → AllNamed name v ms
 none_named name v json.no_members h = tt
 none_named name v (json.member k j ms) h =
     let parts = none_here (get_member name ms) (bytes_eq k name) j h in
     ((λ is. cc), none_named name v ms parts.0)
 
+-- a name that is none of these is not found
 not_among : (name : List ℕ) (ms : Members) → AllByRecursion (λ k. bytes_eq name k ≡ false) (keys ms) → get_member name ms ≡ None
 not_among name json.no_members h = refl
 not_among name (json.member k j ms) h = rw (not_among name ms h.1, nat_list_eq_equiv.symm k name, h.0) refl
@@ -71,10 +74,12 @@ one_named name v (json.member k j ms) d h = by (one_named name v ms more) (get_m
 NewTo : List Tree → Json → Type 0
 NewTo library id = (key : List ℕ) → text_in id ≡ Some key → get key library ≡ None
 
+-- by its key
 new_to : (library : List Tree) (id : Json) → get (key_in id) library ≡ None → NewTo library id
 unfolding NewTo
 new_to library id none key is = rw is at none
 
+-- a new id passes as it does where there is no entry
 id_passes : (library : List Tree) (id : Json) (d : DraftView) → NewTo library id → id_checked library id d ≡ id_checked [] id d
 unfolding NewTo
 id_passes library id d new = by (text_in id) refl
@@ -88,6 +93,7 @@ id_passes library id d new = by (text_in id) refl
 -- ---- members
 
 module _ (library : List Tree) (id : Json) (new : NewTo library id) (kind : Kind) (item : Json) (key : List ℕ) where
+  -- a member reads as it does alone, where it is no other id
   member_alone : (k : List ℕ) (j : Json) (d : DraftView) → (bytes_eq k (codes "id") ≡ true → j ≡ id)
       → with_member library kind item key k j d ≡ with_member [] kind item key k j d
   member_alone k j d only = by (is_null j) (bytes_eq k (codes "id")) refl
@@ -99,6 +105,7 @@ module _ (library : List Tree) (id : Json) (new : NewTo library id) (kind : Kind
       by false true is = rw (only is) (id_passes library id d new)
       by false false is = refl
 
+  -- and so do all members
   members_alone : (ms : Members) (d : DraftView) → AllNamed (codes "id") id ms → members_set library kind item key ms d ≡ members_set [] kind item key ms d
   members_alone json.no_members d named = refl
   members_alone (json.member k j ms) d named =
@@ -112,6 +119,7 @@ module _ (library : List Tree) (id : Json) (new : NewTo library id) (kind : Kind
 
 -- ---- items
 
+-- a member that isn't null is the one that is found
 found_in : (o : Option Json) (id : Json) → unless_null o ≡ Some id → o ≡ Some id
 found_in None id h = cc
 found_in (Some j) id h = by (is_null j) h
@@ -120,6 +128,7 @@ found_in (Some j) id h = by (is_null j) h
     by true g = cc
     by false g = g
 
+-- an item with a new id reads as it does alone
 item_with_id : (library : List Tree) (ms : Members) (id : Json) → IsDistinct bytes_eq (keys ms) → member_of (codes "id") (json.object ms) ≡ Some id → get (key_in id) library ≡ None
     → item_of library (json.object ms) ≡ item_of [] (json.object ms)
 item_with_id library ms id d found none =
@@ -175,6 +184,7 @@ module _ (library : List Tree) (kind : Kind) (item : Json) (key : List ℕ) wher
       by false true g = (id_passed library j d e g).0
       by false false g = g
 
+  -- and so do all members
   members_passed : (ms : Members) (d e : DraftView) → members_set library kind item key ms d ≡ Ok e → members_set [] kind item key ms d ≡ Ok e
   members_passed json.no_members d e h = h
   members_passed (json.member k j ms) d e h =

@@ -26,6 +26,7 @@ record IsNamed (ts : List Token) (name : List ℕ) (j : Json) : Type 0 where
   named : ts ≡ Token.key name ∷ left
   said : value 127 left ≡ Some (j, [])
 
+-- behind a name
 named_value : (k name : List ℕ) (j : Json) (left : List Token) → option_map (single k) (value_alone left) ≡ Some (single name j) → IsNamed (Token.key k ∷ left) name j
 named_value k name j left h = by (value_alone left) refl h
   where
@@ -40,6 +41,7 @@ named_value k name j left h = by (value_alone left) refl h
           said = alone (value 127 left) j (some ∙ ap Some same);
         }
 
+-- tokens that are found to be a member
 named : (ts : List Token) (name : List ℕ) (j : Json) → single_in ts ≡ Some (single name j) → IsNamed ts name j
 named [] name j h = cc
 named (Token.begin_object ∷ ts) name j h = cc

@@ -4,6 +4,7 @@ use Rattle.json.specs.Json.{Json, if_last}
 use Rattle.json.specs.Token.{Token}
 use Rattle.haya_elements.specs.Elements.{IsItem}
 
+-- the value that is read, or another where none is
 first_or : Json → Option (Json × List Token) → Json
 first_or j None = j
 first_or j (Some p) = p.0
