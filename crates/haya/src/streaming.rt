@@ -1,7 +1,7 @@
 //! Asks the entries of files one after another, as they are read.
 use haya_command::{
-    Asker, Fault, Format, Options, ask_csl_json, ask_hayagriva, ask_json_lines, ask_lines, complain,
-    end_asking, tell_notes, warn,
+    Asker, Fault, Format, Options, ask_csl_json, ask_hayagriva, ask_json_lines, ask_lines,
+    complain, end_asking, tell_notes, warn,
 };
 use hayagriva::HashKeys;
 use std::alloc::Global;
