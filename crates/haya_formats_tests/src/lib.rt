@@ -1,9 +1,11 @@
-//! The tests of the calls of the crates of formats: libraries in JSON and CSL-JSON, and entries as
-//! lines.
+//! The tests of the calls of the crates of formats: libraries in JSON and CSL-JSON, their elements,
+//! and entries as lines.
 #![tactic(auto)]
 
 #[cfg(test)]
 mod csl;
+#[cfg(test)]
+mod elements;
 #[cfg(test)]
 mod hits;
 #[cfg(test)]
