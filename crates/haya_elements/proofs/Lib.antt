@@ -1,18 +1,20 @@
-mod Joined
-mod Closing
-mod Words
-mod Pieces
-mod Faults
+mod Bracketed
 mod Classes
+mod Closing
+pub mod Complete
 mod Copied
-mod Within
-mod Lexed
-mod Punctuated
-mod Grammar
-mod Documents
 mod Cut
-mod Rests
-mod Line
+pub mod Documents
+mod Faults
 mod Fronts
+mod Items
+mod Lexed
+mod Line
 mod Outside
-mod Complete
+mod Pieces
+mod Punctuated
+mod Rests
+mod TokenKinds
+mod TokenPlaces
+mod Within
+mod Words

@@ -1,66 +1,33 @@
 -- An element's lexemes are those of its line.
 use Rattle.std.proofs.Common.{◌≡◌, ℕ, zero, suc, ◌+◌, ◌-◌, ◌≤◌, Bool, true, false, ◌&&◌, ◌||◌, ◌==◌, nat_eq, nat_lt, cond, List, [], ◌∷◌, ◌++◌, length, take, drop, Option, Some, None, inl, inr, ◌⊎◌, refl, sym, ap, ◌∙◌, subst, append_assoc, length-append, arith}
-use Rattle.std.proofs.lemmas.Bool.{false≢true, true≢false, eqb-true, ne_eqb, or_cases, or_left, or_right, or_from, cond_both, cases_Bool}
+use Rattle.std.proofs.lemmas.Bool.{false≢true, true≢false, eqb-true, ne_eqb, or_cases, cond_both}
 use Rattle.std.specs.Prelude.{⊤}
 use Rattle.std.specs.List.{starts_with}
 use Rattle.json.specs.Ascii as ascii
 use Rattle.json.specs.Token.{Token}
 use Rattle.json.specs.Text.{content, plain}
-use Rattle.json.specs.Word.{is_operator, is_space, ends_word, word, literal, number_before, after_number, head}
+use Rattle.json.specs.Word.{is_operator, ends_word, word, literal, number_before, after_number, head}
 use Rattle.json.specs.Lex.{Lexeme, token, comma, colon, Class, class, quote, backslash, operator, space, other, Mode as LexMode, between, in_word, in_string, string_token, lex_byte, lex}
-use Rattle.haya_elements.specs.Steps.{Step, in_element, in_text, blank, lost}
+use Rattle.haya_elements.specs.Steps.{Step, text_byte, blank_byte, lost_step}
 use Rattle.haya_elements.specs.Elements.{lines_from}
 use Rattle.haya_elements.specs.declared.place.Brackets.{Brackets}
 use Rattle.haya_elements.specs.declared.place.Brackets.TheVariants.{Square, Curly}
-use Rattle.haya_elements.specs.declared.place.Mode.{Mode}
 use Rattle.haya_elements.specs.declared.place.Mode.TheVariants.{Between, Word, Text}
 use Rattle.haya_elements.specs.declared.place.Place.{Place}
 use Rattle.haya_elements.specs.declared.place.Place.TheVariants.{Next, Element, Closed}
-use Rattle.haya_elements.proofs.Classes.{apart, class_tells, blank_class, blank_feed}
+use Rattle.haya_elements.proofs.Classes.{apart, lex_class, text_byte-plain, class_tells, operator_ends, space_ends, blank_class, blank_feed}
 use Rattle.haya_elements.proofs.Closing.{Closes, is_inside, closes}
-use Rattle.haya_elements.proofs.Copied.{escape_parts, string_mode, text_parts}
+use Rattle.haya_elements.proofs.Copied.{Span, at_class, escape_parts, lines_at, lines_letters, no_backslash, no_feed_letters, no_other, no_quote, span, string_mode, text_parts}
+use Rattle.haya_elements.proofs.Pieces.{HasNo, HasNo-append}
 use Rattle.haya_elements.proofs.Within.{lex_mode}
-use Rattle.haya_elements.proofs.Words.{ends, same_word}
-use Rattle.haya_elements.proofs.Cut.{Kind, opens, closes as closes_kind, scalar, names, faulty, kind, Turn, IsInside, separator}
-
--- no byte is a line feed
-abbrev pub HasNoFeed : List ℕ → Type 0
-HasNoFeed [] = ⊤
-HasNoFeed (x ∷ xs) = ((x == 10) ≡ false) × HasNoFeed xs
-
-HasNoFeed-append : (xs ys : List ℕ) → HasNoFeed xs → HasNoFeed ys → HasNoFeed (xs ++ ys)
-HasNoFeed-append [] ys h k = k
-HasNoFeed-append (x ∷ xs) ys h k = (h.0, HasNoFeed-append xs ys h.1 k)
-
--- ---- one byte
-
--- a byte of a class, at a place of an element
-at_class : (b : Brackets) (m : Mode) (d x : ℕ) (xs : List ℕ) (c : Class) → class x ≡ c
-    → lines_from b (Element m d) (x ∷ xs)
-    ≡ (in_element b m d c x).1 ∷ lines_from b (in_element b m d c x).0 xs
-at_class b m d x xs c k =
-    ap (λ a. (in_element b m d a x).1 ∷ lines_from b (in_element b m d a x).0 xs) k
-
--- a byte of a class, in a mode of the lexer
-pub lex_class : (m : LexMode) (x : ℕ) (xs : List ℕ) (c : Class) → class x ≡ c
-    → lex m (x ∷ xs) ≡ lex_byte m c x xs (λ n. lex n xs)
-unfolding lex
-lex_class m x xs c k = ap (λ a. lex_byte m a x xs (λ n. lex n xs)) k
+use Rattle.haya_elements.proofs.Words.{AreLetters, same_word}
+use Rattle.haya_elements.proofs.Cut.{separator}
+use Rattle.haya_elements.proofs.TokenKinds.{Kind, opener, closer, scalar, member_name, fault, kind, HoldsBehind, IsInside}
 
 -- ---- strings
 
--- a byte that is no control character stays as it is
-same_text : (x : ℕ) → 32 ≤ x → in_text x ≡ x
-same_text x h =
-    cond_both ((x == 10) || (x == 13)) 9 x (λ y. y ≡ x)
-    (λ e. absurd (no_end (or_cases (x == 10) (x == 13) e))) (λ e. refl)
-  where
-    no_end : ((x == 10) ≡ true) ⊎ ((x == 13) ≡ true) → ⊥
-    no_end (inl e) = let is : x ≡ 10 = eqb-true x 10 e in omega arith
-    no_end (inr e) = let is : x ≡ 13 = eqb-true x 13 e in omega arith
-
 -- the inside of a string ends no line
-no_feed_inside : (escaped : Bool) (f : List ℕ) → is_inside escaped f ≡ true → HasNoFeed f
+no_feed_inside : (escaped : Bool) (f : List ℕ) → is_inside escaped f ≡ true → HasNo 10 f
 no_feed_inside escaped [] h = tt
 no_feed_inside true (x ∷ f) h =
     let p = escape_parts x f h in
@@ -79,12 +46,12 @@ no_quote_inside : {A : Type 0} (x : ℕ) → (x == 34) ≡ false → class x ≡
 no_quote_inside x h k = absurd (true≢false (sym (class_tells x quote k) ∙ h))
 
 -- the lexer's mode in a string
-abbrev string_lexed : Bool → LexMode
-string_lexed escaped = lex_mode (string_mode escaped)
+abbrev string_lex_mode : Bool → LexMode
+string_lex_mode escaped = lex_mode (string_mode escaped)
 
 -- The lexer passes over the inside of a string.
 lex_inside : (escaped : Bool) (f z : List ℕ) → is_inside escaped f ≡ true
-    → lex (string_lexed escaped) (f ++ 34 ∷ z) ≡ lex between z
+    → lex (string_lex_mode escaped) (f ++ 34 ∷ z) ≡ lex between z
 unfolding lex
 lex_inside true [] z h = absurd (false≢true h)
 lex_inside false [] z h = refl
@@ -94,7 +61,7 @@ lex_inside false (x ∷ f) z h =
     by_class (class x) refl p.1 (λ v e. lex_inside v f z (inside_at x f v p.2 e))
   where
     by_class : (c : Class) → class x ≡ c → (x == 34) ≡ false
-        → ((v : Bool) → (x == 92) ≡ v → lex (string_lexed v) (f ++ 34 ∷ z) ≡ lex between z)
+        → ((v : Bool) → (x == 92) ≡ v → lex (string_lex_mode v) (f ++ 34 ∷ z) ≡ lex between z)
         → lex_byte in_string c x (f ++ 34 ∷ z) (λ n. lex n (f ++ 34 ∷ z)) ≡ lex between z
     by_class quote k q again = no_quote_inside x q k
     by_class backslash k q again = again true (class_tells x backslash k).1
@@ -115,13 +82,13 @@ module _ (b : Brackets) (d : ℕ) where
   lines_inside false [] z h = refl
   lines_inside true (x ∷ f) z h =
       let p = escape_parts x f h in
-      (λ i. same_text x p.0 i ∷ lines_inside false f z p.1 i)
+      (λ i. text_byte-plain x p.0 i ∷ lines_inside false f z p.1 i)
   lines_inside false (x ∷ f) z h =
       let p = text_parts x f h in
-      by_class (class x) refl (same_text x p.0) p.1
+      by_class (class x) refl (text_byte-plain x p.0) p.1
       (λ v e. lines_inside v f z (inside_at x f v p.2 e))
     where
-      by_class : (c : Class) → class x ≡ c → in_text x ≡ x → (x == 34) ≡ false
+      by_class : (c : Class) → class x ≡ c → text_byte x ≡ x → (x == 34) ≡ false
           → ((v : Bool) → (x == 92) ≡ v → Stays v f z) → Stays false (x ∷ f) z
       by_class quote k same q again = no_quote_inside x q k
       by_class backslash k same q again =
@@ -139,47 +106,6 @@ module _ (b : Brackets) (d : ℕ) where
 
 -- ---- words
 
--- none of the bytes ends a word
-abbrev AreLetters : List ℕ → Type 0
-AreLetters [] = ⊤
-AreLetters (x ∷ xs) = (ends x ≡ false) × AreLetters xs
-
--- the text up to the end of a word, and the rest
-record Span (xs : List ℕ) : Type 0 where
-  front : List ℕ
-  rest : List ℕ
-  is : xs ≡ front ++ rest
-  letters : AreLetters front
-  ended : ends_word rest ≡ true
-
-span : (xs : List ℕ) → Span xs
-span [] = record { front = []; rest = []; is = refl; letters = tt; ended = refl }
-span (x ∷ xs) = by (cases_Bool (ends x)) (span xs)
-  where
-    by : (ends x ≡ true) ⊎ (ends x ≡ false) → Span xs → Span (x ∷ xs)
-    by (inl e) s = record { front = []; rest = x ∷ xs; is = refl; letters = tt; ended = e }
-    by (inr e) s =
-        record {
-          front = x ∷ s.front;
-          rest = s.rest;
-          is = ap (λ l. x ∷ l) s.is;
-          letters = (e, s.letters);
-          ended = s.ended;
-        }
-
--- An operator and a space end a word,
-operator_ends : (x : ℕ) → class x ≡ operator → ends x ≡ true
-operator_ends x k = or_left (is_operator x) (is_space x) (class_tells x operator k).2
-
-space_ends : (x : ℕ) → class x ≡ space → ends x ≡ true
-space_ends x k = or_right (is_operator x) (is_space x) (class_tells x space k).3
-
--- letters end no line
-no_feed_letters : (f : List ℕ) → AreLetters f → HasNoFeed f
-no_feed_letters [] h = tt
-no_feed_letters (x ∷ f) h =
-    (ne_eqb x 10 (λ e. true≢false (sym (ap ends e) ∙ h.0)), no_feed_letters f h.1)
-
 -- The lexer passes over letters in a word,
 lex_letters : (f z : List ℕ) → AreLetters f → lex in_word (f ++ z) ≡ lex in_word z
 lex_letters [] z h = refl
@@ -194,18 +120,6 @@ lex_letters (x ∷ f) z h = by_class (class x) refl (lex_letters f z h.1)
     by_class space k again =
         absurd (true≢false (sym (space_ends x k) ∙ h.0))
     by_class other k again = lex_class in_word x _ other k ∙ again
-
--- and a quote, a backslash and any other byte don't.
-no_quote : (x : ℕ) → ends x ≡ true → class x ≡ quote → ⊥
-no_quote x e k = true≢false (sym e ∙ ap ends (eqb-true x 34 (class_tells x quote k)))
-
-no_backslash : (x : ℕ) → ends x ≡ true → class x ≡ backslash → ⊥
-no_backslash x e k = true≢false (sym e ∙ ap ends (eqb-true x 92 (class_tells x backslash k).1))
-
-no_other : (x : ℕ) → ends x ≡ true → class x ≡ other → ⊥
-no_other x e k =
-    let t = class_tells x other k in
-    true≢false (sym e ∙ or_from (is_operator x) (is_space x) t.2 t.3)
 
 -- and where a word has ended it reads on as between lexemes.
 lex_ended : (z : List ℕ) → ends_word z ≡ true → lex in_word z ≡ lex between z
@@ -222,24 +136,7 @@ lex_ended (x ∷ z) e = by_class (class x) refl
     by_class other k = absurd (no_other x e k)
 
 module _ (b : Brackets) (d : ℕ) where
-  -- Letters of a word stay as they are,
-  lines_letters : (f z : List ℕ) → AreLetters f
-      → lines_from b (Element Word d) (f ++ z) ≡ f ++ lines_from b (Element Word d) z
-  lines_letters [] z h = refl
-  lines_letters (x ∷ f) z h = by_class (class x) refl (ap (λ l. x ∷ l) (lines_letters f z h.1))
-    where
-      by_class : (c : Class) → class x ≡ c
-          → x ∷ lines_from b (Element Word d) (f ++ z) ≡ x ∷ (f ++ lines_from b (Element Word d) z)
-          → lines_from b (Element Word d) (x ∷ (f ++ z)) ≡ x ∷ (f ++ lines_from b (Element Word d) z)
-      by_class quote k again = at_class b Word d x _ quote k ∙ again
-      by_class backslash k again = at_class b Word d x _ backslash k ∙ again
-      by_class operator k again =
-          absurd (true≢false (sym (operator_ends x k) ∙ h.0))
-      by_class space k again =
-          absurd (true≢false (sym (space_ends x k) ∙ h.0))
-      by_class other k again = at_class b Word d x _ other k ∙ again
-
-  -- and where a word has ended the lines go on as between lexemes.
+  -- Where a word has ended the lines go on as between lexemes.
   lines_ended : (z : List ℕ) → ends_word z ≡ true
       → lines_from b (Element Word d) z ≡ lines_from b (Element Between d) z
   lines_ended [] e = refl
@@ -256,11 +153,11 @@ module _ (b : Brackets) (d : ℕ) where
 
 -- a scalar or a fault
 abbrev pub IsPlain : Kind → Type 0
-IsPlain opens = ⊥
-IsPlain closes_kind = ⊥
+IsPlain opener = ⊥
+IsPlain closer = ⊥
 IsPlain scalar = ⊤
-IsPlain names = ⊥
-IsPlain faulty = ⊤
+IsPlain member_name = ⊥
+IsPlain fault = ⊤
 
 -- A word is a scalar or a fault.
 pub IsPlain-word : (t : List ℕ) → IsPlain (kind (word t))
@@ -292,17 +189,17 @@ IsPlain-string None = tt
 IsPlain-string (Some s) = tt
 
 -- Behind a scalar the number of open brackets is the same.
-plain_turn : (k : Kind) (d : ℕ) (next : Bool → ℕ → Type 0) → IsPlain k → Turn k false d next
+plain_turn : (k : Kind) (d : ℕ) (next : Bool → ℕ → Type 0) → IsPlain k → HoldsBehind k false d next
     → next false d
-plain_turn opens d next p h = absurd p
-plain_turn closes_kind d next p h = absurd p
+plain_turn opener d next p h = absurd p
+plain_turn closer d next p h = absurd p
 plain_turn scalar d next p h = h
-plain_turn names d next p h = absurd p
-plain_turn faulty d next p h = absurd h
+plain_turn member_name d next p h = absurd p
+plain_turn fault d next p h = absurd h
 
 -- Only a closing bracket's token separates elements.
 separator_kind : (b : Brackets) (more : Bool) (t : Token) → token t ≡ separator b more
-    → kind t ≡ closes_kind
+    → kind t ≡ closer
 separator_kind b true t e = absurd cc
 separator_kind Square false t e = let is : t ≡ Token.end_array = cc in ap kind is
 separator_kind Curly false t e = let is : t ≡ Token.end_object = cc in ap kind is
@@ -310,17 +207,17 @@ separator_kind Curly false t e = let is : t ≡ Token.end_object = cc in ap kind
 -- ---- the line of an element
 
 -- the place behind an element and what separates it from the next
-abbrev pub behind : Bool → Place
-behind true = Next
-behind false = Closed
+abbrev pub next_place : Bool → Place
+next_place true = Next
+next_place false = Closed
 
 -- The line that the text puts at an element whose lexemes are `front`, and the text that is left.
 pub record Line (b : Brackets) (d : ℕ) (xs : List ℕ) (front : List Lexeme) (more : Bool)
     (rest : List Lexeme) : Type 0 where
   pub line : List ℕ
   pub left : List ℕ
-  pub is : lines_from b (Element Between d) xs ≡ line ++ 10 ∷ lines_from b (behind more) left
-  pub no_feed : HasNoFeed line
+  pub is : lines_from b (Element Between d) xs ≡ line ++ 10 ∷ lines_from b (next_place more) left
+  pub no_feed : HasNo 10 line
   pub line_reads : lex between line ≡ front
   pub left_reads : lex between left ≡ rest
   pub ended : ends_word xs ≡ true → ends_word line ≡ true
@@ -356,8 +253,8 @@ operators P a b c d e f x h = last (or_cases _ _ h)
 
 module _ (b : Brackets) where
   -- what is to be shown of a text: the line of an element
-  abbrev Lined : List ℕ → Type 0
-  Lined xs = (d : ℕ) (front : List Lexeme) (more : Bool) (rest : List Lexeme) → IsInside d front
+  abbrev HasLine : List ℕ → Type 0
+  HasLine xs = (d : ℕ) (front : List Lexeme) (more : Bool) (rest : List Lexeme) → IsInside d front
       → lex between xs ≡ front ++ separator b more ∷ rest → Line b d xs front more rest
 
   no_lexeme : (front : List Lexeme) (more : Bool) (rest : List Lexeme)
@@ -366,19 +263,20 @@ module _ (b : Brackets) where
   no_lexeme (l ∷ front) more rest e = cc
 
   -- at a space
-  at_space : (x : ℕ) (xs : List ℕ) → class x ≡ space → Lined xs → Lined (x ∷ xs)
+  at_space : (x : ℕ) (xs : List ℕ) → class x ≡ space → HasLine xs → HasLine (x ∷ xs)
   at_space x xs k again d front more rest h e =
       later (again d front more rest h (sym (lex_class between x xs space k) ∙ e))
     where
       later : Line b d xs front more rest → Line b d (x ∷ xs) front more rest
       later c =
-          let is_blank = space_ends (blank x) (blank_class x) in
+          let is_blank = space_ends (blank_byte x) (blank_class x) in
           record {
-            line = blank x ∷ c.line;
+            line = blank_byte x ∷ c.line;
             left = c.left;
-            is = at_class b Between d x xs space k ∙ ap (λ l. blank x ∷ l) c.is;
+            is = at_class b Between d x xs space k ∙ ap (λ l. blank_byte x ∷ l) c.is;
             no_feed = (blank_feed x, c.no_feed);
-            line_reads = lex_class between (blank x) c.line space (blank_class x) ∙ c.line_reads;
+            line_reads = lex_class between (blank_byte x) c.line space (blank_class x)
+                ∙ c.line_reads;
             left_reads = c.left_reads;
             ended = λ v. is_blank;
           }
@@ -387,7 +285,7 @@ module _ (b : Brackets) where
   -- text behind them is ys.
   record Passes (x : ℕ) (w ys xs : List ℕ) (d within : ℕ) (l : Lexeme) : Type 0 where
     text : xs ≡ w ++ ys
-    no_feed : HasNoFeed (x ∷ w)
+    no_feed : HasNo 10 (x ∷ w)
     lines : lines_from b (Element Between d) (x ∷ xs)
         ≡ x ∷ (w ++ lines_from b (Element Between within) ys)
     reads : (z : List ℕ) → (ends_word ys ≡ true → ends_word z ≡ true)
@@ -403,13 +301,13 @@ module _ (b : Brackets) where
     longer : (front : List Lexeme) (more : Bool) (rest : List Lexeme)
         → Line b within ys front more rest → Line b d (x ∷ xs) (l ∷ front) more rest
     longer front more rest c =
-        let out = 10 ∷ lines_from b (behind more) c.left in
+        let out = 10 ∷ lines_from b (next_place more) c.left in
         record {
           line = x ∷ (w ++ c.line);
           left = c.left;
           is = p.lines ∙ ap (λ u. x ∷ (w ++ u)) c.is
               ∙ ap (λ u. x ∷ u) (sym (append_assoc w c.line out));
-          no_feed = (p.no_feed.0, HasNoFeed-append w c.line p.no_feed.1 c.no_feed);
+          no_feed = (p.no_feed.0, HasNo-append 10 w c.line p.no_feed.1 c.no_feed);
           line_reads = p.reads c.line c.ended ∙ ap (λ u. l ∷ u) c.line_reads;
           left_reads = c.left_reads;
           ended = λ v. v;
@@ -419,7 +317,7 @@ module _ (b : Brackets) where
   at_scalar : (x : ℕ) (w ys xs : List ℕ) (d : ℕ) (t : Token) → Passes x w ys xs d d (token t)
       → IsPlain (kind t) → (front : List Lexeme) (more : Bool) (rest : List Lexeme)
       → IsInside d front → lex between (x ∷ xs) ≡ front ++ separator b more ∷ rest
-      → Lined ys → Line b d (x ∷ xs) front more rest
+      → HasLine ys → Line b d (x ∷ xs) front more rest
   at_scalar x w ys xs d t p one [] more rest h e again =
       let whole = sym (passed x w ys xs d d (token t) p) ∙ e in
       let is : token t ≡ separator b more = cc in
@@ -440,7 +338,7 @@ module _ (b : Brackets) where
   string_passes x xs s d k c =
       let joined = append_assoc c.front (34 ∷ []) in
       let inside = no_feed_inside false c.front c.inside in
-      let feeds = HasNoFeed-append c.front (34 ∷ []) inside (refl, tt) in
+      let feeds = HasNo-append 10 c.front (34 ∷ []) inside (refl, tt) in
       record {
         text = c.is ∙ sym (joined c.behind);
         no_feed = (apart x 10 quote k refl refl, feeds);
@@ -455,7 +353,7 @@ module _ (b : Brackets) where
 
   -- at a string
   at_quote : (x : ℕ) (xs : List ℕ) → class x ≡ quote
-      → ((ys : List ℕ) → length ys ≤ length xs → Lined ys) → Lined (x ∷ xs)
+      → ((ys : List ℕ) → length ys ≤ length xs → HasLine ys) → HasLine (x ∷ xs)
   at_quote x xs k again d [] more rest h e =
       let whole = sym (lex_class between x xs quote k) ∙ e in
       let is : token (string_token (content plain xs)) ≡ separator b more = cc in
@@ -498,7 +396,7 @@ module _ (b : Brackets) where
 
   -- at a word
   at_other : (x : ℕ) (xs : List ℕ) → class x ≡ other
-      → ((ys : List ℕ) → length ys ≤ length xs → Lined ys) → Lined (x ∷ xs)
+      → ((ys : List ℕ) → length ys ≤ length xs → HasLine ys) → HasLine (x ∷ xs)
   at_other x xs k again d front more rest h e =
       let s = span xs in
       let size = length-append s.front s.rest in
@@ -507,7 +405,7 @@ module _ (b : Brackets) where
       (IsPlain-word (x ∷ xs)) front more rest h e (again s.rest short)
 
   -- at a backslash
-  at_backslash : (x : ℕ) (xs : List ℕ) → class x ≡ backslash → Lined (x ∷ xs)
+  at_backslash : (x : ℕ) (xs : List ℕ) → class x ≡ backslash → HasLine (x ∷ xs)
   at_backslash x xs k d [] more rest h e =
       let whole = sym (lex_class between x xs backslash k) ∙ e in
       let is : token Token.bad ≡ separator b more = cc in
@@ -527,14 +425,14 @@ module _ (b : Brackets) where
   -- the byte of an operator ends the line
   abbrev EndsLine : ℕ → List ℕ → Bool → Type 0
   EndsLine x xs more =
-      lines_from b (Element Between 0) (x ∷ xs) ≡ 10 ∷ lines_from b (behind more) xs
+      lines_from b (Element Between 0) (x ∷ xs) ≡ 10 ∷ lines_from b (next_place more) xs
 
   -- at an operator, whose lexeme is o
   at_sign : (x : ℕ) (o : Lexeme) (xs : List ℕ)
       → ((z : List ℕ) → lex between (x ∷ z) ≡ o ∷ lex between z) → (x == 10) ≡ false
       → ((more : Bool) → o ≡ separator b more → EndsLine x xs more)
       → ((d : ℕ) (front : List Lexeme) → IsInside d (o ∷ front) → Goes x xs d front)
-      → Lined xs → Lined (x ∷ xs)
+      → HasLine xs → HasLine (x ∷ xs)
   unfolding lex
   at_sign x o xs reads feed ends_line goes again d [] more rest h e =
       let whole = sym (reads xs) ∙ e in
@@ -564,42 +462,38 @@ module _ (b : Brackets) where
       subst (λ u. Line b d (x ∷ xs) (u ∷ front) more rest) (sym is)
       (longer x [] xs xs d g.within o p front more rest c)
 
-  -- the lines behind a step
-  abbrev lines_at : List ℕ → Step → List ℕ
-  lines_at xs s = s.1 ∷ lines_from b s.0 xs
-
   -- a step that a test decides
   by_test : (xs : List ℕ) (t u : Bool) (p q : Step) → t ≡ u
-      → lines_at xs (cond t p q) ≡ lines_at xs (cond u p q)
-  by_test xs t u p q e = ap (λ v. lines_at xs (cond v p q)) e
+      → lines_at b (cond t p q) xs ≡ lines_at b (cond u p q) xs
+  by_test xs t u p q e = ap (λ v. lines_at b (cond v p q) xs) e
 
-  no_separator : (more : Bool) (t : Token) → (kind t ≡ closes_kind → ⊥) → token t ≡ separator b more
+  no_separator : (more : Bool) (t : Token) → (kind t ≡ closer → ⊥) → token t ≡ separator b more
       → ⊥
   no_separator more t other_kind e = other_kind (separator_kind b more t e)
 
-  at_open_brace : (xs : List ℕ) → Lined xs → Lined (123 ∷ xs)
+  at_open_brace : (xs : List ℕ) → HasLine xs → HasLine (123 ∷ xs)
   unfolding lex
   at_open_brace xs =
       at_sign 123 (token Token.begin_object) xs (λ z. refl) refl
       (λ more is. absurd (no_separator more Token.begin_object (λ k. cc) is))
       (λ d front h. record {
         within = d + 1;
-        lines = by_test xs (nat_lt d 128) true (Element Between (d + 1), 123) lost h.0;
+        lines = by_test xs (nat_lt d 128) true (Element Between (d + 1), 123) lost_step h.0;
         inside = h.1;
       })
 
-  at_open_bracket : (xs : List ℕ) → Lined xs → Lined (91 ∷ xs)
+  at_open_bracket : (xs : List ℕ) → HasLine xs → HasLine (91 ∷ xs)
   unfolding lex
   at_open_bracket xs =
       at_sign 91 (token Token.begin_array) xs (λ z. refl) refl
       (λ more is. absurd (no_separator more Token.begin_array (λ k. cc) is))
       (λ d front h. record {
         within = d + 1;
-        lines = by_test xs (nat_lt d 128) true (Element Between (d + 1), 91) lost h.0;
+        lines = by_test xs (nat_lt d 128) true (Element Between (d + 1), 91) lost_step h.0;
         inside = h.1;
       })
 
-  at_colon_sign : (xs : List ℕ) → Lined xs → Lined (58 ∷ xs)
+  at_colon_sign : (xs : List ℕ) → HasLine xs → HasLine (58 ∷ xs)
   unfolding lex
   at_colon_sign xs =
       at_sign 58 colon xs (λ z. refl) refl (λ more is. absurd (no_colon b more is))
@@ -609,7 +503,7 @@ module _ (b : Brackets) where
       no_colon a true e = cc
       no_colon a false e = cc
 
-  at_comma_sign : (xs : List ℕ) → Lined xs → Lined (44 ∷ xs)
+  at_comma_sign : (xs : List ℕ) → HasLine xs → HasLine (44 ∷ xs)
   unfolding lex
   at_comma_sign xs =
       at_sign 44 comma xs (λ z. refl) refl ends
@@ -620,12 +514,12 @@ module _ (b : Brackets) where
       })
     where
       ends : (more : Bool) → comma ≡ separator b more
-          → lines_from b (Element Between 0) (44 ∷ xs) ≡ 10 ∷ lines_from b (behind more) xs
+          → lines_from b (Element Between 0) (44 ∷ xs) ≡ 10 ∷ lines_from b (next_place more) xs
       ends true e = refl
       ends false e = absurd cc
 
 -- the closing brackets
-at_close_brace : (b : Brackets) (xs : List ℕ) → Lined b xs → Lined b (125 ∷ xs)
+at_close_brace : (b : Brackets) (xs : List ℕ) → HasLine b xs → HasLine b (125 ∷ xs)
 unfolding lex
 at_close_brace b xs =
     at_sign b 125 (token Token.end_object) xs (λ z. refl) refl (ends b)
@@ -636,12 +530,12 @@ at_close_brace b xs =
     })
   where
     ends : (a : Brackets) (more : Bool) → token Token.end_object ≡ separator a more
-        → lines_from a (Element Between 0) (125 ∷ xs) ≡ 10 ∷ lines_from a (behind more) xs
+        → lines_from a (Element Between 0) (125 ∷ xs) ≡ 10 ∷ lines_from a (next_place more) xs
     ends a true e = absurd cc
     ends Square false e = absurd cc
     ends Curly false e = refl
 
-at_close_bracket : (b : Brackets) (xs : List ℕ) → Lined b xs → Lined b (93 ∷ xs)
+at_close_bracket : (b : Brackets) (xs : List ℕ) → HasLine b xs → HasLine b (93 ∷ xs)
 unfolding lex
 at_close_bracket b xs =
     at_sign b 93 (token Token.end_array) xs (λ z. refl) refl (ends b)
@@ -652,24 +546,25 @@ at_close_bracket b xs =
     })
   where
     ends : (a : Brackets) (more : Bool) → token Token.end_array ≡ separator a more
-        → lines_from a (Element Between 0) (93 ∷ xs) ≡ 10 ∷ lines_from a (behind more) xs
+        → lines_from a (Element Between 0) (93 ∷ xs) ≡ 10 ∷ lines_from a (next_place more) xs
     ends a true e = absurd cc
     ends Square false e = refl
     ends Curly false e = absurd cc
 
 -- An element whose lexemes end at a separator has a line of its own.
-lined : (b : Brackets) (n : ℕ) (xs : List ℕ) → length xs ≤ n → Lined b xs
+has_line : (b : Brackets) (n : ℕ) (xs : List ℕ) → length xs ≤ n → HasLine b xs
 unfolding lex
-lined b n [] le = λ d front more rest h e. absurd (no_lexeme b front more rest e)
-lined b zero (x ∷ xs) le = absurd (omega arith)
-lined b (suc n) (x ∷ xs) le = by_class (class x) refl (λ ys short. lined b n ys (omega arith))
+has_line b n [] le = λ d front more rest h e. absurd (no_lexeme b front more rest e)
+has_line b zero (x ∷ xs) le = absurd (omega arith)
+has_line b (suc n) (x ∷ xs) le = by_class (class x) refl (λ ys short. has_line b n ys (omega arith))
   where
-    by_class : (c : Class) → class x ≡ c → ((ys : List ℕ) → length ys ≤ length xs → Lined b ys)
-        → Lined b (x ∷ xs)
+    by_class : (c : Class) → class x ≡ c → ((ys : List ℕ) → length ys ≤ length xs → HasLine b ys)
+        → HasLine b (x ∷ xs)
     by_class quote k again = at_quote b x xs k again
     by_class backslash k again = at_backslash b x xs k
     by_class operator k again =
-        operators (λ y. Lined b xs → Lined b (y ∷ xs)) (at_open_brace b xs) (at_close_brace b xs)
+        operators (λ y. HasLine b xs → HasLine b (y ∷ xs)) (at_open_brace b xs)
+        (at_close_brace b xs)
         (at_open_bracket b xs) (at_close_bracket b xs) (at_colon_sign b xs) (at_comma_sign b xs)
         x (class_tells x operator k).2 (again xs (omega arith))
     by_class space k again = at_space b x xs k (again xs (omega arith))
@@ -679,4 +574,4 @@ lined b (suc n) (x ∷ xs) le = by_class (class x) refl (λ ys short. lined b n 
 pub line_of : (b : Brackets) (xs : List ℕ) (front : List Lexeme) (more : Bool) (rest : List Lexeme)
     → IsInside 0 front → lex between xs ≡ front ++ separator b more ∷ rest
     → Line b 0 xs front more rest
-line_of b xs front more rest h e = lined b (length xs) xs (omega arith) 0 front more rest h e
+line_of b xs front more rest h e = has_line b (length xs) xs (omega arith) 0 front more rest h e

@@ -1,38 +1,32 @@
 -- The lines of a text outside of its elements.
-use Rattle.std.proofs.Common.{◌≡◌, ℕ, ◌<◌, false, ◌==◌, cond, List, [], ◌∷◌, ◌++◌, length, refl, sym, ap, ◌∙◌, subst, arith}
+use Rattle.std.proofs.Common.{◌≡◌, ℕ, ◌<◌, false, ◌==◌, cond, List, [], ◌∷◌, ◌++◌, length, refl, sym, ap, ◌∙◌, subst, append-nil, arith}
 use Rattle.std.proofs.lemmas.Bool.{ne_eqb}
 use Rattle.std.specs.Prelude.{⊤}
 use Rattle.json.specs.Token.{Token}
 use Rattle.json.specs.Text.{content, plain}
 use Rattle.json.specs.Word.{word}
 use Rattle.json.specs.Lex.{Lexeme, token, Class, class, quote, backslash, operator, space, other, between, operator_lexeme, string_token, lex_byte, lex}
-use Rattle.haya_elements.specs.Steps.{begins, close_of, in_element, only_space, open_of, step}
-use Rattle.haya_elements.specs.Elements.{elements, lines_from}
+use Rattle.haya_elements.specs.Steps.{start_step, closing_bracket, element_step, space_step, opening_bracket, step}
+use Rattle.haya_elements.specs.Elements.{filled, lines_from}
 use Rattle.haya_elements.specs.declared.place.Brackets.{Brackets}
 use Rattle.haya_elements.specs.declared.place.Brackets.TheVariants.{Square, Curly}
 use Rattle.haya_elements.specs.declared.place.Mode.TheVariants.{Between}
 use Rattle.haya_elements.specs.declared.place.Place.{Place}
 use Rattle.haya_elements.specs.declared.place.Place.TheVariants.{Front, Opened, Next, Element, Closed, Lost}
-use Rattle.haya_elements.proofs.Joined.{open_token, close_token}
-use Rattle.haya_elements.proofs.Pieces.{first_line, later_lines, filled, filled-some, filled_lines}
-use Rattle.haya_elements.proofs.Classes.{class_tells, no_return}
-use Rattle.haya_elements.proofs.Cut.{kind}
-use Rattle.haya_elements.proofs.Line.{HasNoFeed, IsPlain, IsPlain-word, IsPlain-string, lex_class, operators}
-use Rattle.haya_elements.proofs.Fronts.{BeginsWith}
+use Rattle.haya_elements.proofs.Bracketed.{open_token, close_token}
+use Rattle.haya_elements.proofs.Pieces.{HasNo, first_line, first_line-append, later_lines, pieces, filled-some}
+use Rattle.haya_elements.proofs.Classes.{class_tells, lex_class}
+use Rattle.haya_elements.proofs.Copied.{lines_at}
+use Rattle.haya_elements.proofs.TokenKinds.{kind}
+use Rattle.haya_elements.proofs.Line.{IsPlain, IsPlain-word, IsPlain-string, operators}
+use Rattle.haya_elements.proofs.TokenPlaces.{BeginsWith}
 
 -- ---- lines
 
--- the lines that aren't empty
-abbrev pub pieces : List ℕ → List (List ℕ)
-pieces out = filled (first_line out ∷ later_lines out)
+first_of : (line out : List ℕ) → HasNo 10 line → first_line (line ++ 10 ∷ out) ≡ line
+first_of line out h = first_line-append line (10 ∷ out) h ∙ append-nil line
 
-first_of : (line out : List ℕ) → HasNoFeed line → first_line (line ++ 10 ∷ out) ≡ line
-first_of [] out h = refl
-first_of (x ∷ line) out h =
-    ap (λ t. cond t [] (x ∷ first_line (line ++ 10 ∷ out))) h.0
-    ∙ ap (λ l. x ∷ l) (first_of line out h.1)
-
-later_of : (line out : List ℕ) → HasNoFeed line
+later_of : (line out : List ℕ) → HasNo 10 line
     → later_lines (line ++ 10 ∷ out) ≡ first_line out ∷ later_lines out
 later_of [] out h = refl
 later_of (x ∷ line) out h =
@@ -41,7 +35,7 @@ later_of (x ∷ line) out h =
     ∙ later_of line out h.1
 
 -- A line with a byte is the first piece.
-pub pieces_line : (line out : List ℕ) → HasNoFeed line → 0 < length line
+pub pieces_line : (line out : List ℕ) → HasNo 10 line → 0 < length line
     → pieces (line ++ 10 ∷ out) ≡ line ∷ pieces out
 pieces_line line out h some =
     (λ i. filled (first_of line out h i ∷ later_of line out h i)) ∙ by line some
@@ -51,13 +45,9 @@ pieces_line line out h some =
     by [] none = absurd (omega arith)
     by (x ∷ l) some = filled-some x l (first_line out ∷ later_lines out)
 
--- The elements of a text are the pieces of its lines.
-pub elements_pieces : (b : Brackets) (text : List ℕ)
-    → elements b text ≡ pieces (lines_from b Front text)
-elements_pieces b text = filled_lines (lines_from b Front text) (no_return b Front text)
-
 -- ---- white space
 
+-- the place is outside of the elements, and no byte is lost
 abbrev pub IsOutside : Place → Type 0
 IsOutside Front = ⊤
 IsOutside Opened = ⊤
@@ -72,17 +62,17 @@ BeginsTight [] = ⊤
 BeginsTight (x ∷ xs) = class x ≡ space → ⊥
 
 -- a text without the white space at its front
-pub record Trimmed (b : Brackets) (xs : List ℕ) : Type 0 where
+pub record WithoutSpace (b : Brackets) (xs : List ℕ) : Type 0 where
   pub rest : List ℕ
   pub tight : BeginsTight rest
   pub reads : lex between xs ≡ lex between rest
   pub same : (p : Place) → IsOutside p → pieces (lines_from b p xs) ≡ pieces (lines_from b p rest)
 
-open_operator : (b : Brackets) → class (open_of b) ≡ operator
+open_operator : (b : Brackets) → class (opening_bracket b) ≡ operator
 open_operator Square = refl
 open_operator Curly = refl
 
-close_operator : (b : Brackets) → class (close_of b) ≡ operator
+close_operator : (b : Brackets) → class (closing_bracket b) ≡ operator
 close_operator Square = refl
 close_operator Curly = refl
 
@@ -95,25 +85,25 @@ apart_class x y c k m unlike = ne_eqb x y (λ e. unlike (sym k ∙ ap class e �
 space_line : (b : Brackets) (p : Place) (x : ℕ) (xs : List ℕ) → IsOutside p → class x ≡ space
     → lines_from b p (x ∷ xs) ≡ 10 ∷ lines_from b p xs
 space_line b Front x xs h k =
-    let unlike = apart_class x (open_of b) space k (open_operator b) (λ e. cc) in
-    ap (λ s. s.1 ∷ lines_from b s.0 xs) (λ i. cond (unlike i) (Opened, 10) (only_space Front (k i)))
+    let unlike = apart_class x (opening_bracket b) space k (open_operator b) (λ e. cc) in
+    ap (λ s. lines_at b s xs) (λ i. cond (unlike i) (Opened, 10) (space_step Front (k i)))
 space_line b Opened x xs h k =
-    let unlike = apart_class x (close_of b) space k (close_operator b) (λ e. cc) in
-    ap (λ s. s.1 ∷ lines_from b s.0 xs) (λ i. cond (unlike i) (Closed, 10) (begins b Opened (k i) x))
-space_line b Next x xs h k = ap (λ s. s.1 ∷ lines_from b s.0 xs) (λ i. begins b Next (k i) x)
+    let unlike = apart_class x (closing_bracket b) space k (close_operator b) (λ e. cc) in
+    ap (λ s. lines_at b s xs) (λ i. cond (unlike i) (Closed, 10) (start_step b Opened (k i) x))
+space_line b Next x xs h k = ap (λ s. lines_at b s xs) (λ i. start_step b Next (k i) x)
 space_line b (Element m d) x xs h k = absurd h
-space_line b Closed x xs h k = ap (λ s. s.1 ∷ lines_from b s.0 xs) (λ i. only_space Closed (k i))
+space_line b Closed x xs h k = ap (λ s. lines_at b s xs) (λ i. space_step Closed (k i))
 space_line b Lost x xs h k = absurd h
 
-pub trimmed : (b : Brackets) (xs : List ℕ) → Trimmed b xs
-trimmed b [] = record { rest = []; tight = tt; reads = refl; same = λ p h. refl }
-trimmed b (x ∷ xs) = by_class (class x) refl (trimmed b xs)
+pub without_space : (b : Brackets) (xs : List ℕ) → WithoutSpace b xs
+without_space b [] = record { rest = []; tight = tt; reads = refl; same = λ p h. refl }
+without_space b (x ∷ xs) = by_class (class x) refl (without_space b xs)
   where
-    stays : (c : Class) → class x ≡ c → (c ≡ space → ⊥) → Trimmed b (x ∷ xs)
+    stays : (c : Class) → class x ≡ c → (c ≡ space → ⊥) → WithoutSpace b (x ∷ xs)
     stays c k unlike =
         record { rest = x ∷ xs; tight = λ e. unlike (sym k ∙ e); reads = refl; same = λ p h. refl }
 
-    by_class : (c : Class) → class x ≡ c → Trimmed b xs → Trimmed b (x ∷ xs)
+    by_class : (c : Class) → class x ≡ c → WithoutSpace b xs → WithoutSpace b (x ∷ xs)
     by_class space k t =
         record {
           rest = t.rest;
@@ -165,7 +155,7 @@ sign (x ∷ xs) t ls tight unlike e = by_class (class x) refl
 
 -- The opening bracket's lexeme is that of its byte,
 open_byte : (b : Brackets) (x : ℕ) → class x ≡ operator → operator_lexeme x ≡ token (open_token b)
-    → x ≡ open_of b
+    → x ≡ opening_bracket b
 open_byte Square x k =
     operators (λ y. operator_lexeme y ≡ token Token.begin_array → y ≡ 91)
     (λ e. absurd cc) (λ e. absurd cc) (λ e. refl) (λ e. absurd cc) (λ e. absurd cc) (λ e. absurd cc)
@@ -177,7 +167,7 @@ open_byte Curly x k =
 
 -- and so is the closing bracket's.
 close_byte : (b : Brackets) (x : ℕ) → class x ≡ operator → operator_lexeme x ≡ token (close_token b)
-    → x ≡ close_of b
+    → x ≡ closing_bracket b
 close_byte Square x k =
     operators (λ y. operator_lexeme y ≡ token Token.end_array → y ≡ 93)
     (λ e. absurd cc) (λ e. absurd cc) (λ e. absurd cc) (λ e. refl) (λ e. absurd cc) (λ e. absurd cc)
@@ -188,12 +178,12 @@ close_byte Curly x k =
     x (class_tells x operator k).2
 
 open_line : (b : Brackets) (xs : List ℕ)
-    → lines_from b Front (open_of b ∷ xs) ≡ 10 ∷ lines_from b Opened xs
+    → lines_from b Front (opening_bracket b ∷ xs) ≡ 10 ∷ lines_from b Opened xs
 open_line Square xs = refl
 open_line Curly xs = refl
 
 close_line : (b : Brackets) (xs : List ℕ)
-    → lines_from b Opened (close_of b ∷ xs) ≡ 10 ∷ lines_from b Closed xs
+    → lines_from b Opened (closing_bracket b ∷ xs) ≡ 10 ∷ lines_from b Closed xs
 close_line Square xs = refl
 close_line Curly xs = refl
 
@@ -212,11 +202,11 @@ pub record Bracket (b : Brackets) (p q : Place) (xs : List ℕ) (ls : List Lexem
   pub reads : lex between left ≡ ls
 
 -- the text behind the opening bracket
-pub opening : (b : Brackets) (xs : List ℕ) (ls : List Lexeme)
+pub past_opening : (b : Brackets) (xs : List ℕ) (ls : List Lexeme)
     → lex between xs ≡ token (open_token b) ∷ ls
     → Bracket b Front Opened xs ls
-opening b xs ls e =
-    let t = trimmed b xs in
+past_opening b xs ls e =
+    let t = without_space b xs in
     let s = sign t.rest (open_token b) ls t.tight (open_kind b) (sym t.reads ∙ e) in
     let is = s.is ∙ ap (λ y. y ∷ s.rest) (open_byte b s.byte s.is_sign s.lexeme) in
     record {
@@ -227,11 +217,11 @@ opening b xs ls e =
     }
 
 -- the text behind a closing bracket with no element in front of it
-pub closing : (b : Brackets) (xs : List ℕ) (ls : List Lexeme)
+pub past_closing : (b : Brackets) (xs : List ℕ) (ls : List Lexeme)
     → lex between xs ≡ token (close_token b) ∷ ls
     → Bracket b Opened Closed xs ls
-closing b xs ls e =
-    let t = trimmed b xs in
+past_closing b xs ls e =
+    let t = without_space b xs in
     let s = sign t.rest (close_token b) ls t.tight (close_kind b) (sym t.reads ∙ e) in
     let is = s.is ∙ ap (λ y. y ∷ s.rest) (close_byte b s.byte s.is_sign s.lexeme) in
     record {
@@ -245,7 +235,7 @@ closing b xs ls e =
 pub closed_pieces : (b : Brackets) (xs : List ℕ) → lex between xs ≡ []
     → pieces (lines_from b Closed xs) ≡ []
 closed_pieces b xs e =
-    let t = trimmed b xs in t.same Closed tt ∙ by t.rest t.tight (sym t.reads ∙ e)
+    let t = without_space b xs in t.same Closed tt ∙ by t.rest t.tight (sym t.reads ∙ e)
   where
     by_class : (x : ℕ) (ys : List ℕ) (c : Class) → (c ≡ space → ⊥)
         → lex_byte between c x ys (λ n. lex n ys) ≡ [] → ⊥
@@ -272,19 +262,19 @@ IsStart Closed = ⊥
 IsStart Lost = ⊥
 
 -- A byte that is no operator is as in an element.
-start_step : (b : Brackets) (p : Place) (x : ℕ) (c : Class) → IsStart p → class x ≡ c
+step_at_start : (b : Brackets) (p : Place) (x : ℕ) (c : Class) → IsStart p → class x ≡ c
     → (c ≡ operator → ⊥)
-    → begins b p c x ≡ in_element b Between 0 c x → step b p x ≡ step b (Element Between 0) x
-start_step b Front x c h k unlike e = absurd h
-start_step b Opened x c h k unlike e =
-    let other_byte = apart_class x (close_of b) c k (close_operator b) unlike in
-    (λ i. cond (other_byte i) (Closed, 10) (begins b Opened (k i) x)) ∙ e
-    ∙ sym (λ i. in_element b Between 0 (k i) x)
-start_step b Next x c h k unlike e =
-    (λ i. begins b Next (k i) x) ∙ e ∙ sym (λ i. in_element b Between 0 (k i) x)
-start_step b (Element m d) x c h k unlike e = absurd h
-start_step b Closed x c h k unlike e = absurd h
-start_step b Lost x c h k unlike e = absurd h
+    → start_step b p c x ≡ element_step b Between 0 c x → step b p x ≡ step b (Element Between 0) x
+step_at_start b Front x c h k unlike e = absurd h
+step_at_start b Opened x c h k unlike e =
+    let other_byte = apart_class x (closing_bracket b) c k (close_operator b) unlike in
+    (λ i. cond (other_byte i) (Closed, 10) (start_step b Opened (k i) x)) ∙ e
+    ∙ sym (λ i. element_step b Between 0 (k i) x)
+step_at_start b Next x c h k unlike e =
+    (λ i. start_step b Next (k i) x) ∙ e ∙ sym (λ i. element_step b Between 0 (k i) x)
+step_at_start b (Element m d) x c h k unlike e = absurd h
+step_at_start b Closed x c h k unlike e = absurd h
+step_at_start b Lost x c h k unlike e = absurd h
 
 -- So are brackets that open.
 brace_step : (b : Brackets) (p : Place) → IsStart p → step b p 123 ≡ step b (Element Between 0) 123
@@ -306,19 +296,20 @@ bracket_step b Closed h = absurd h
 bracket_step b Lost h = absurd h
 
 -- Where an element begins the lines are as in it.
-pub begun : (b : Brackets) (p : Place) (xs : List ℕ) (l : Lexeme) (ls : List Lexeme) → IsStart p
+pub lines_from-start : (b : Brackets) (p : Place) (xs : List ℕ) (l : Lexeme) (ls : List Lexeme)
+    → IsStart p
     → BeginsTight xs
     → BeginsWith l → lex between xs ≡ l ∷ ls
     → lines_from b p xs ≡ lines_from b (Element Between 0) xs
 unfolding lex
-begun b p [] l ls h tight w e = absurd cc
-begun b p (x ∷ xs) l ls h tight w e = ap (λ s. s.1 ∷ lines_from b s.0 xs) (by_class (class x) refl)
+lines_from-start b p [] l ls h tight w e = absurd cc
+lines_from-start b p (x ∷ xs) l ls h tight w e = ap (λ s. lines_at b s xs) (by_class (class x) refl)
   where
     by_class : (c : Class) → class x ≡ c → step b p x ≡ step b (Element Between 0) x
     by_class space k = absurd (tight k)
-    by_class quote k = start_step b p x quote h k (λ m. cc) refl
-    by_class backslash k = start_step b p x backslash h k (λ m. cc) refl
-    by_class other k = start_step b p x other h k (λ m. cc) refl
+    by_class quote k = step_at_start b p x quote h k (λ m. cc) refl
+    by_class backslash k = step_at_start b p x backslash h k (λ m. cc) refl
+    by_class other k = step_at_start b p x other h k (λ m. cc) refl
     by_class operator k =
         let whole = sym (lex_class between x xs operator k) ∙ e in
         let is : l ≡ operator_lexeme x = cc in

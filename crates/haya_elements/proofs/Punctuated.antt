@@ -1,202 +1,125 @@
--- The tokens of elements that stand together.
-use Rattle.std.proofs.Common.{◌≡◌, Bool, true, false, List, [], ◌∷◌, ◌++◌, refl, sym, ap, ◌∙◌, subst, append_assoc}
-use Rattle.std.proofs.lemmas.Bool.{false≢true}
-use Rattle.std.specs.Prelude.{⊤}
-use Rattle.std.specs.List.{AllByRecursion}
+-- The tokens of elements in brackets.
+use Rattle.std.proofs.Common.{◌≡◌, ℕ, ◌==◌, Bool, true, false, List, [], ◌∷◌, ◌++◌, map, refl, sym, ap, ◌∙◌, subst}
+use Rattle.std.proofs.lemmas.Bool.{false≢true, true≢false}
 use Rattle.json.specs.Token.{Token}
-use Rattle.json.specs.Lex.{Lexeme, token, comma, colon, Place, fresh, after_value, after_comma, after_key, begins_colon, may_begin, may_close, if_allowed, place_token, punctuate}
-use Rattle.json.specs.Print.{ends}
+use Rattle.json.specs.Lex.{Lexeme, token, comma, colon, Place, fresh, after_value, after_comma, after_key, begins_colon, may_close, if_allowed, place_token, punctuate}
 use Rattle.haya_elements.specs.declared.place.Brackets.{Brackets}
 use Rattle.haya_elements.specs.declared.place.Brackets.TheVariants.{Square, Curly}
-use Rattle.haya_elements.proofs.Joined.{joined, open_token, close_token, bracketed}
-
--- no token is a fault, and a value ends with the last; of no tokens, a value has ended before them
-abbrev pub IsComplete : Bool → List Token → Type 0
-IsComplete ended [] = ended ≡ true
-IsComplete ended (Token.bad ∷ ts) = ⊥
-IsComplete ended (t ∷ ts) = IsComplete (ends t) ts
-
--- a value or a member begins with the first token
-abbrev pub BeginsElement : List Token → Type 0
-BeginsElement [] = ⊥
-BeginsElement (Token.end_object ∷ ts) = ⊥
-BeginsElement (Token.end_array ∷ ts) = ⊥
-BeginsElement (Token.bad ∷ ts) = ⊥
-BeginsElement (_ ∷ ts) = ⊤
-
--- the tokens begin and end as those of an item or a member do
-pub record IsElement (ts : List Token) : Type 0 where
-  pub begins : BeginsElement ts
-  pub complete : IsComplete false ts
+use Rattle.haya_elements.proofs.Bracketed.{open_token, close_token, tail_of, body_of, in_brackets}
+use Rattle.haya_elements.proofs.TokenKinds.{kind, IsRest, IsElement, AreElements, sound_kind, place_behind, Fits, Fits-colon, Fits-comma, left_behind}
+use Rattle.haya_elements.proofs.TokenPlaces.{places, some_token, some_behind_comma, begins_colon-append, BeginsAs-append, BeginsAs-element, alone}
+use Rattle.haya_elements.proofs.Rests.{all_tokens}
 
 -- ---- lexemes with more behind them
 
--- a value has ended in front of this place
-abbrev has_ended : Place → Bool
-has_ended fresh = false
-has_ended after_value = true
-has_ended after_comma = true
-has_ended after_key = false
+module _ (more : List Lexeme) where
+  -- more behind the lexemes of the rest of an element is read as behind a value
+  abbrev Appends : List Lexeme → Type 0
+  Appends ls =
+      (q : Place) (due : Bool) (d : ℕ) → Fits due d q → IsRest due d (punctuate q ls)
+      → punctuate q (ls ++ more) ≡ punctuate q ls ++ punctuate after_value more
 
--- A colon begins the lexemes with more behind them only if it begins the lexemes.
-pub begins_colon-append : (ls more : List Lexeme) → begins_colon more ≡ false
-    → begins_colon (ls ++ more) ≡ begins_colon ls
-begins_colon-append [] more e = e
-begins_colon-append (token t ∷ ls) more e = refl
-begins_colon-append (comma ∷ ls) more e = refl
-begins_colon-append (colon ∷ ls) more e = refl
+  -- at a token
+  token-append : (t : Token) (before : Bool) (ls : List Lexeme) (q : Place) (due : Bool) (d : ℕ)
+      (ts : List Token) → Appends ls → Fits due d q → IsRest due d ts
+      → place_token q t before (λ n. punctuate n ls) ≡ ts
+      → place_token q t before (λ n. punctuate n (ls ++ more)) ≡ ts ++ punctuate after_value more
+  token-append t before ls q due d [] again f h e =
+      absurd (some_token q t before (λ n. punctuate n ls) e)
+  token-append t before ls q due d (x ∷ left) again f h e =
+      let s = sound_kind (kind x) due d (λ b n. IsRest b n left) h.1 in
+      let p = places (λ n. punctuate n ls) x left s q t before e in
+      let n = left_behind (kind x) q due d left f h.0 h.1 in
+      let rest = subst (IsRest n.due n.within) p.front.is_left n.rest in
+      p.front.again (λ m. punctuate m (ls ++ more))
+      ∙ ap (λ ts. x ∷ ts) (again (place_behind (kind x)) n.due n.within n.fits rest)
+      ∙ ap (λ ts. x ∷ (ts ++ punctuate after_value more)) (sym p.front.is_left)
 
--- where the lexemes are complete, more behind them is read as behind a value
-abbrev Splits : List Lexeme → List Lexeme → Place → Type 0
-Splits more ls p =
-    IsComplete (has_ended p) (punctuate p ls)
-    → punctuate p (ls ++ more) ≡ punctuate p ls ++ punctuate after_value more
+  -- at a comma
+  comma-append : (ls : List Lexeme) (due : Bool) (d : ℕ) (ts : List Token) → Appends ls
+      → Fits due d after_value → punctuate after_comma ls ≡ ts → IsRest due d ts
+      → punctuate after_comma (ls ++ more) ≡ punctuate after_comma ls ++ punctuate after_value more
+  comma-append ls due d [] again f e h = absurd (some_behind_comma ls e)
+  comma-append ls due d (t ∷ ts) again f e h =
+      again after_comma due d (Fits-comma due d t ts f h) (subst (IsRest due d) (sym e) h)
 
-module _ (more ls : List Lexeme) (ended : Bool) where
-  -- the same behind a token that may be allowed
-  allowed-append : (b : Bool) (t : Token) (next : Place)
-      → (IsComplete ended (t ∷ punctuate next ls)
-      → punctuate next (ls ++ more) ≡ punctuate next ls ++ punctuate after_value more)
-      → IsComplete ended (if_allowed b t (λ n. punctuate n ls) next)
-      → if_allowed b t (λ n. punctuate n (ls ++ more)) next
-      ≡ if_allowed b t (λ n. punctuate n ls) next ++ punctuate after_value more
-  allowed-append true t next again h = ap (λ l. t ∷ l) (again h)
-  allowed-append false t next again h = absurd h
+  -- where nothing is left
+  nothing-append : (due : Bool) (d : ℕ) → Fits due d fresh → IsRest due d [] → ⊥
+  nothing-append true d f h = true≢false h.0
+  nothing-append false d f h = false≢true (f (ap (λ n. n == 0) h.1))
 
-  -- the same behind any token
-  token-append : (p : Place) (t : Token) (b : Bool) → ((n : Place) → Splits more ls n)
-      → IsComplete ended (place_token p t b (λ n. punctuate n ls))
-      → place_token p t b (λ n. punctuate n (ls ++ more))
-      ≡ place_token p t b (λ n. punctuate n ls) ++ punctuate after_value more
-  token-append p Token.begin_object b again h = allowed-append (may_begin p) _ _ (again fresh) h
-  token-append p Token.end_object b again h = allowed-append (may_close p) _ _ (again after_value) h
-  token-append p Token.begin_array b again h = allowed-append (may_begin p) _ _ (again fresh) h
-  token-append p Token.end_array b again h = allowed-append (may_close p) _ _ (again after_value) h
-  token-append p (Token.key s) b again h = absurd h
-  token-append p (Token.string s) true again h =
-      allowed-append (may_begin p) (Token.key s) _ (again after_key) h
-  token-append p (Token.string s) false again h =
-      allowed-append (may_begin p) (Token.string s) _ (again after_value) h
-  token-append p (Token.number s) b again h =
-      allowed-append (may_begin p) (Token.number s) _ (again after_value) h
-  token-append p (Token.boolean v) b again h =
-      allowed-append (may_begin p) (Token.boolean v) _ (again after_value) h
-  token-append p Token.null b again h = allowed-append (may_begin p) _ _ (again after_value) h
-  token-append p Token.bad b again h = absurd h
-
--- Behind complete lexemes the rest is read as behind a value.
-pub punctuate-append : (more : List Lexeme) → begins_colon more ≡ false
-    → (ls : List Lexeme) (p : Place) → IsComplete (has_ended p) (punctuate p ls)
-    → punctuate p (ls ++ more) ≡ punctuate p ls ++ punctuate after_value more
-unfolding punctuate
-punctuate-append more e [] fresh h = absurd (false≢true h)
-punctuate-append more e [] after_value h = refl
-punctuate-append more e [] after_comma h = absurd h
-punctuate-append more e [] after_key h = absurd h
-punctuate-append more e (token t ∷ ls) p h =
-    ap (λ b. place_token p t b (λ n. punctuate n (ls ++ more))) (begins_colon-append ls more e)
-    ∙ token-append more ls (has_ended p) p t (begins_colon ls) (punctuate-append more e ls) h
-punctuate-append more e (comma ∷ ls) fresh h = absurd h
-punctuate-append more e (comma ∷ ls) after_value h = punctuate-append more e ls after_comma h
-punctuate-append more e (comma ∷ ls) after_comma h = absurd h
-punctuate-append more e (comma ∷ ls) after_key h = absurd h
-punctuate-append more e (colon ∷ ls) fresh h = absurd h
-punctuate-append more e (colon ∷ ls) after_value h = absurd h
-punctuate-append more e (colon ∷ ls) after_comma h = absurd h
-punctuate-append more e (colon ∷ ls) after_key h = punctuate-append more e ls fresh h
-
--- ---- behind a comma
-
--- A token that begins an element is allowed behind a comma as at the front.
-begins_token : (t : Token) (b : Bool) (k : Place → List Token)
-    → BeginsElement (place_token fresh t b k)
-    → place_token after_comma t b k ≡ place_token fresh t b k
-begins_token Token.begin_object b k h = refl
-begins_token Token.end_object b k h = absurd h
-begins_token Token.begin_array b k h = refl
-begins_token Token.end_array b k h = absurd h
-begins_token (Token.key s) b k h = refl
-begins_token (Token.string s) true k h = refl
-begins_token (Token.string s) false k h = refl
-begins_token (Token.number s) b k h = refl
-begins_token (Token.boolean v) b k h = refl
-begins_token Token.null b k h = refl
-begins_token Token.bad b k h = refl
-
--- An element is read behind a comma as at the front.
-pub punctuate-after_comma : (ls : List Lexeme) → BeginsElement (punctuate fresh ls)
-    → punctuate after_comma ls ≡ punctuate fresh ls
-unfolding punctuate
-punctuate-after_comma [] h = absurd h
-punctuate-after_comma (token t ∷ ls) h =
-    begins_token t (begins_colon ls) (λ n. punctuate n ls) h
-punctuate-after_comma (comma ∷ ls) h = refl
-punctuate-after_comma (colon ∷ ls) h = refl
-
--- The comma itself is passed over.
-punctuate-comma : (ls : List Lexeme)
-    → punctuate after_value (comma ∷ ls) ≡ punctuate after_comma ls
-unfolding punctuate
-punctuate-comma ls = refl
+  pub punctuate-append : begins_colon more ≡ false → (ls : List Lexeme) → Appends ls
+  unfolding punctuate
+  punctuate-append e [] fresh due d f h = absurd (nothing-append due d f h)
+  punctuate-append e [] after_value due d f h = refl
+  punctuate-append e [] after_comma due d f h = absurd h.1
+  punctuate-append e [] after_key due d f h = absurd h.1
+  punctuate-append e (token t ∷ ls) q due d f h =
+      ap (λ b. place_token q t b (λ n. punctuate n (ls ++ more))) (begins_colon-append ls more e)
+      ∙ token-append t (begins_colon ls) ls q due d _ (punctuate-append e ls) f h refl
+  punctuate-append e (comma ∷ ls) fresh due d f h = absurd h.1
+  punctuate-append e (comma ∷ ls) after_value due d f h =
+      comma-append ls due d _ (punctuate-append e ls) f refl h
+  punctuate-append e (comma ∷ ls) after_comma due d f h = absurd h.1
+  punctuate-append e (comma ∷ ls) after_key due d f h = absurd h.1
+  punctuate-append e (colon ∷ ls) fresh due d f h = absurd h.1
+  punctuate-append e (colon ∷ ls) after_value due d f h = absurd h.1
+  punctuate-append e (colon ∷ ls) after_comma due d f h = absurd h.1
+  punctuate-append e (colon ∷ ls) after_key due d f h =
+      punctuate-append e ls fresh due d (Fits-colon due d f) h
 
 -- ---- elements in brackets
 
--- More tokens behind an element leave its first.
-BeginsElement-append : (ts us : List Token) → BeginsElement ts → BeginsElement (ts ++ us)
-BeginsElement-append [] us h = absurd h
-BeginsElement-append (Token.begin_object ∷ ts) us h = tt
-BeginsElement-append (Token.end_object ∷ ts) us h = absurd h
-BeginsElement-append (Token.begin_array ∷ ts) us h = tt
-BeginsElement-append (Token.end_array ∷ ts) us h = absurd h
-BeginsElement-append (Token.key s ∷ ts) us h = tt
-BeginsElement-append (Token.string s ∷ ts) us h = tt
-BeginsElement-append (Token.number s ∷ ts) us h = tt
-BeginsElement-append (Token.boolean b ∷ ts) us h = tt
-BeginsElement-append (Token.null ∷ ts) us h = tt
-BeginsElement-append (Token.bad ∷ ts) us h = absurd h
-
--- the lexemes are those of elements
-abbrev pub AreElements : List (List Lexeme) → Type 0
-AreElements lss = AllByRecursion (λ l. IsElement (punctuate fresh l)) lss
-
--- the tokens of each, and then these
-abbrev pub tokens_before : List (List Lexeme) → List Token → List Token
-tokens_before [] ts = ts
-tokens_before (l ∷ lss) ts = punctuate fresh l ++ tokens_before lss ts
-
--- the bracket behind the elements
-abbrev closing : Brackets → List Lexeme
-closing b = token (close_token b) ∷ []
+-- the tokens of the lexemes of each element
+abbrev pub tokens_of_each : List (List Lexeme) → List (List Token)
+tokens_of_each lss = map (λ ls. punctuate fresh ls) lss
 
 -- Where a bracket may close, it is read.
-punctuate-closing : (b : Brackets) (p : Place) → may_close p ≡ true
-    → punctuate p (closing b) ≡ close_token b ∷ []
+punctuate-closing : (b : Brackets) (q : Place) → may_close q ≡ true
+    → punctuate q (token (close_token b) ∷ []) ≡ close_token b ∷ []
 unfolding punctuate
-punctuate-closing Square p e =
+punctuate-closing Square q e =
     ap (λ may. if_allowed may Token.end_array (λ n. punctuate n []) after_value) e
-punctuate-closing Curly p e =
+punctuate-closing Curly q e =
     ap (λ may. if_allowed may Token.end_object (λ n. punctuate n []) after_value) e
 
--- Elements are read one after another, and then the bracket.
-punctuate-joined : (b : Brackets) (lss : List (List Lexeme)) → AreElements lss
-    → punctuate fresh (joined lss ++ closing b) ≡ tokens_before lss (close_token b ∷ [])
-punctuate-joined b [] h = punctuate-closing b fresh refl
-punctuate-joined b (l ∷ []) h =
-    punctuate-append (closing b) refl l fresh h.0.complete
-    ∙ ap (λ ts. punctuate fresh l ++ ts) (punctuate-closing b after_value refl)
-punctuate-joined b (l ∷ (m ∷ lss)) h =
-    let more = joined (m ∷ lss) ++ closing b in
-    let again = punctuate-joined b (m ∷ lss) h.1 in
-    let first = BeginsElement-append (punctuate fresh m) _ h.1.0.begins in
-    let begun = subst BeginsElement (sym again) first in
-    ap (punctuate fresh) (append_assoc l (comma ∷ joined (m ∷ lss)) (closing b))
-    ∙ punctuate-append (comma ∷ more) refl l fresh h.0.complete
-    ∙ ap (λ ts. punctuate fresh l ++ ts)
-    (punctuate-comma more ∙ punctuate-after_comma more begun ∙ again)
+-- No colon separates elements.
+begins_colon-tail_of : (b : Brackets) (lss : List (List Lexeme))
+    → begins_colon (tail_of b lss) ≡ false
+begins_colon-tail_of b [] = refl
+begins_colon-tail_of b (l ∷ lss) = refl
 
--- Elements in brackets are read one after another, between the two tokens of the brackets.
-pub punctuate-bracketed : (b : Brackets) (lss : List (List Lexeme)) → AreElements lss
-    → punctuate fresh (bracketed b lss) ≡ open_token b ∷ tokens_before lss (close_token b ∷ [])
+-- An element with others behind it is read alone, and then the others are.
+element-append : (b : Brackets) (l : List Lexeme) (lss : List (List Lexeme))
+    → IsElement (punctuate fresh l)
+    → punctuate fresh (l ++ tail_of b lss)
+    ≡ punctuate fresh l ++ punctuate after_value (tail_of b lss)
+element-append b l lss h =
+    punctuate-append (tail_of b lss) (begins_colon-tail_of b lss) l fresh true 0 (refl, refl) h
+
+punctuate-tail_of : (b : Brackets) (lss : List (List Lexeme)) → AreElements (tokens_of_each lss)
+    → punctuate after_value (tail_of b lss) ≡ all_tokens b (tokens_of_each lss)
 unfolding punctuate
-punctuate-bracketed Square lss h = ap (λ ts. Token.begin_array ∷ ts) (punctuate-joined Square lss h)
-punctuate-bracketed Curly lss h = ap (λ ts. Token.begin_object ∷ ts) (punctuate-joined Curly lss h)
+punctuate-tail_of b [] h = punctuate-closing b after_value refl
+punctuate-tail_of b (l ∷ lss) h =
+    let begins = BeginsAs-element fresh l (punctuate fresh l) refl h.0 refl in
+    let more = BeginsAs-append l (tail_of b lss) begins in
+    sym (alone after_comma (l ++ tail_of b lss) refl more)
+    ∙ element-append b l lss h.0
+    ∙ ap (λ ts. punctuate fresh l ++ ts) (punctuate-tail_of b lss h.1)
+
+punctuate-body_of : (b : Brackets) (lss : List (List Lexeme)) → AreElements (tokens_of_each lss)
+    → punctuate fresh (body_of b lss) ≡ all_tokens b (tokens_of_each lss)
+punctuate-body_of b [] h = punctuate-closing b fresh refl
+punctuate-body_of b (l ∷ lss) h =
+    element-append b l lss h.0 ∙ ap (λ ts. punctuate fresh l ++ ts) (punctuate-tail_of b lss h.1)
+
+-- Elements in brackets are read one after another, between the tokens of the brackets.
+pub punctuate-in_brackets : (b : Brackets) (lss : List (List Lexeme))
+    → AreElements (tokens_of_each lss)
+    → punctuate fresh (in_brackets b lss) ≡ open_token b ∷ all_tokens b (tokens_of_each lss)
+unfolding punctuate
+punctuate-in_brackets Square lss h =
+    ap (λ ts. Token.begin_array ∷ ts) (punctuate-body_of Square lss h)
+punctuate-in_brackets Curly lss h =
+    ap (λ ts. Token.begin_object ∷ ts) (punctuate-body_of Curly lss h)

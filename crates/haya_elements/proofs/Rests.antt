@@ -1,14 +1,13 @@
 -- The tokens of items and members, as elements one behind another.
 use Rattle.std.proofs.Common.{◌≡◌, ℕ, ◌+◌, ◌-◌, ◌≤◌, Bool, true, false, not, ◌&&◌, ◌==◌, List, [], ◌∷◌, ◌++◌, refl, sym, ap, subst, append_assoc, append-nil, arith}
 use Rattle.std.proofs.lemmas.Bool.{lt-ltb, ne_eqb}
-use Rattle.std.specs.Prelude.{⊤}
 use Rattle.json.specs.Token.{Token}
 use Rattle.json.specs.Json.{Json, Items, no_items, item, Members, no_members, member}
 use Rattle.json.specs.Tree.{json_tokens, items_tokens, members_tokens, depth, items_depth, members_depth}
 use Rattle.haya_elements.specs.declared.place.Brackets.{Brackets}
 use Rattle.haya_elements.specs.declared.place.Brackets.TheVariants.{Square, Curly}
-use Rattle.haya_elements.proofs.Joined.{close_token}
-use Rattle.haya_elements.proofs.Cut.{IsRest}
+use Rattle.haya_elements.proofs.Bracketed.{close_token}
+use Rattle.haya_elements.proofs.TokenKinds.{IsRest, IsElement, AreElements}
 
 -- ---- a value is what is due
 
@@ -33,7 +32,7 @@ mutual
   IsRest-value (Json.array js) due d more le p h =
       (p, (lt-ltb d 128 (omega arith), IsRest-items js d more (omega arith) h))
   IsRest-value (Json.object ms) due d more le p h =
-      (p, (lt-ltb d 128 (omega arith), IsRest-members ms d more (omega arith) h))
+      (p, (lt-ltb d 128 (omega arith), IsElement-members ms d more (omega arith) h))
 
   -- those of items with their closing bracket,
   IsRest-items : (js : Items) (d : ℕ) (more : List Token) → items_depth js + (d + 1) ≤ 128
@@ -45,26 +44,27 @@ mutual
       (IsRest-value j false (d + 1) (items_tokens js ++ more) (omega arith) (some_more d) rest)
 
   -- and those of members with theirs.
-  IsRest-members : (ms : Members) (d : ℕ) (more : List Token) → members_depth ms + (d + 1) ≤ 128
+  IsElement-members : (ms : Members) (d : ℕ) (more : List Token) → members_depth ms + (d + 1) ≤ 128
       → IsRest false d more → IsRest false (d + 1) (members_tokens ms ++ more)
-  IsRest-members no_members d more le h = (some_more d, (some_more d, closes_one d more h))
-  IsRest-members (member k j ms) d more le h =
-      let rest = IsRest-members ms d more (omega arith) h in
+  IsElement-members no_members d more le h = (some_more d, (some_more d, closes_one d more h))
+  IsElement-members (member k j ms) d more le h =
+      let rest = IsElement-members ms d more (omega arith) h in
       let some = some_more d in
-      let value = IsRest-value j false (d + 1) (members_tokens ms ++ more) (omega arith) some rest in
+      let value =
+      IsRest-value j false (d + 1) (members_tokens ms ++ more) (omega arith) some rest in
       let joined = append_assoc (json_tokens j) (members_tokens ms) more in
       (some, subst (IsRest false (d + 1)) (sym joined) value)
 
 -- The tokens of a value are an element,
-pub IsRest-item : (j : Json) → depth j ≤ 127 → IsRest true 0 (json_tokens j)
-IsRest-item j le =
-    subst (IsRest true 0) (append-nil (json_tokens j))
+pub IsElement-item : (j : Json) → depth j ≤ 127 → IsElement (json_tokens j)
+IsElement-item j le =
+    subst IsElement (append-nil (json_tokens j))
     (IsRest-value j true 0 [] (omega arith) refl (refl, refl))
 
 -- and so are those of a name with a value.
-pub IsRest-member : (k : List ℕ) (j : Json) → depth j ≤ 127
-    → IsRest true 0 (Token.key k ∷ json_tokens j)
-IsRest-member k j le = (refl, IsRest-item j le)
+pub IsElement-member : (k : List ℕ) (j : Json) → depth j ≤ 127
+    → IsElement (Token.key k ∷ json_tokens j)
+IsElement-member k j le = (refl, IsElement-item j le)
 
 -- ---- elements one behind another
 
@@ -72,11 +72,6 @@ IsRest-member k j le = (refl, IsRest-item j le)
 abbrev pub all_tokens : Brackets → List (List Token) → List Token
 all_tokens b [] = close_token b ∷ []
 all_tokens b (ts ∷ tss) = ts ++ all_tokens b tss
-
--- each is an element
-abbrev pub AreWhole : List (List Token) → Type 0
-AreWhole [] = ⊤
-AreWhole (ts ∷ tss) = IsRest true 0 ts × AreWhole tss
 
 -- the tokens of each item
 abbrev pub item_tokens : Items → List (List Token)
@@ -100,12 +95,13 @@ all_tokens-members (member k j ms) =
     ap (λ ts. Token.key k ∷ (json_tokens j ++ ts)) (all_tokens-members ms)
 
 -- Each item is an element,
-pub AreWhole-items : (js : Items) → items_depth js ≤ 127 → AreWhole (item_tokens js)
-AreWhole-items no_items le = tt
-AreWhole-items (item j js) le = (IsRest-item j (omega arith), AreWhole-items js (omega arith))
+pub AreElements-items : (js : Items) → items_depth js ≤ 127 → AreElements (item_tokens js)
+AreElements-items no_items le = tt
+AreElements-items (item j js) le =
+    (IsElement-item j (omega arith), AreElements-items js (omega arith))
 
 -- and so is each member.
-pub AreWhole-members : (ms : Members) → members_depth ms ≤ 127 → AreWhole (member_tokens ms)
-AreWhole-members no_members le = tt
-AreWhole-members (member k j ms) le =
-    (IsRest-member k j (omega arith), AreWhole-members ms (omega arith))
+pub AreElements-members : (ms : Members) → members_depth ms ≤ 127 → AreElements (member_tokens ms)
+AreElements-members no_members le = tt
+AreElements-members (member k j ms) le =
+    (IsElement-member k j (omega arith), AreElements-members ms (omega arith))

@@ -1,5 +1,5 @@
 -- The elements of a text, an element a line.
-use Rattle.std.specs.Prelude.{◌≡◌, ℕ, ◌==◌, List, [], ◌∷◌, Some, filter, length, not}
+use Rattle.std.specs.Prelude.{◌≡◌, ℕ, ◌==◌, List, [], ◌∷◌, Some, filter, length, not, ⊤}
 use Rattle.std.specs.Str.Lines.{lines}
 use Rattle.json.specs.Json.{Json, Items, Members, value, no_items, item, no_members, member}
 use Rattle.json.specs.Lex.{tokens}
@@ -11,7 +11,7 @@ use Rattle.haya_elements.specs.declared.place.Place.TheVariants.{Front, Opened, 
 
 -- ---- lines
 
--- what stands for the end of a text: where it may not end, a line that no element has
+-- what stands for the end of a text: a mark where it ends too early
 abbrev pub end_of : Place → List ℕ
 end_of Front = mark ∷ []
 end_of Opened = mark ∷ []
@@ -29,9 +29,13 @@ lines_from b p (x ∷ xs) = (step b p x).1 ∷ lines_from b (step b p x).0 xs
 abbrev pub element_lines : Brackets → List ℕ → List ℕ
 element_lines b text = lines_from b Front text
 
--- the lines that have an element
+-- the lines that aren't empty
+abbrev pub filled : List (List ℕ) → List (List ℕ)
+filled ls = filter (λ line. not (length line == 0)) ls
+
+-- the lines of a text that have an element
 abbrev pub elements : Brackets → List ℕ → List (List ℕ)
-elements b text = filter (λ line. not (length line == 0)) (lines (element_lines b text))
+elements b text = filled (lines (element_lines b text))
 
 -- ---- what an element says
 
@@ -47,14 +51,14 @@ pub record IsMember (line : List ℕ) (name : List ℕ) (j : Json) : Type 0 wher
 
 -- the lines are these items
 abbrev pub AreItems : List (List ℕ) → Items → Type 0
-AreItems [] no_items = Unit {0}
+AreItems [] no_items = ⊤
 AreItems [] (item j js) = ⊥
 AreItems (line ∷ ls) no_items = ⊥
 AreItems (line ∷ ls) (item j js) = IsItem line j × AreItems ls js
 
 -- the lines are these members
 abbrev pub AreMembers : List (List ℕ) → Members → Type 0
-AreMembers [] no_members = Unit {0}
+AreMembers [] no_members = ⊤
 AreMembers [] (member name j ms) = ⊥
 AreMembers (line ∷ ls) no_members = ⊥
 AreMembers (line ∷ ls) (member name j ms) = IsMember line name j × AreMembers ls ms

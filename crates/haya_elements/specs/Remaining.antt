@@ -5,15 +5,15 @@ use Rattle.haya_elements.specs.declared.lines.ElementLines.{ElementLines}
 use Rattle.haya_elements.specs.declared.place.Brackets.{Brackets}
 use Rattle.haya_elements.specs.declared.place.Place.TheVariants.{Front}
 
--- the lines of all that a reader has left, of which nothing is read yet
-abbrev pub all_lines : {R : Type 0} → R → Brackets → ElementLines R
-all_lines reader brackets = record { reader = reader; brackets = brackets; place = Front }
+-- the lines of all that a reader has left
+abbrev pub unread_lines : {R : Type 0} → R → Brackets → ElementLines R
+unread_lines reader brackets = record { reader = reader; brackets = brackets; place = Front }
 
--- what they are read from
+-- what the lines are read from
 abbrev pub reader_of : {R : Type 0} → ElementLines R → R
 reader_of lines = lines.reader
 
--- the lines of what the reader has left, where that is known
+-- what is left to read of the lines, where that of their reader is known
 abbrev pub lines_remaining : {R : Type 0} → (R → Option (List ℕ)) → ElementLines R
     → Option (List ℕ)
 lines_remaining remaining lines =

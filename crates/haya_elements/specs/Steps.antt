@@ -13,95 +13,97 @@ use Rattle.haya_elements.specs.declared.place.Place.TheVariants.{Front, Opened, 
 abbrev pub Step : Type 0
 Step = Place × ℕ
 
-abbrev pub open_of : Brackets → ℕ
-open_of Square = ascii.open_bracket
-open_of Curly = ascii.open_brace
+-- the byte of the bracket that opens
+abbrev pub opening_bracket : Brackets → ℕ
+opening_bracket Square = ascii.open_bracket
+opening_bracket Curly = ascii.open_brace
 
-abbrev pub close_of : Brackets → ℕ
-close_of Square = ascii.close_bracket
-close_of Curly = ascii.close_brace
+-- the byte of the bracket that closes
+abbrev pub closing_bracket : Brackets → ℕ
+closing_bracket Square = ascii.close_bracket
+closing_bracket Curly = ascii.close_brace
 
--- a comma that ends a line, as no element does
+-- a comma at the end of a line, as no element has it
 abbrev pub mark : ℕ
 mark = ascii.comma
 
--- the byte can't stand here
-abbrev pub lost : Step
-lost = (Lost, mark)
+-- the step at a byte that can't stand where it does
+abbrev pub lost_step : Step
+lost_step = (Lost, mark)
 
--- white space in an element: a line feed becomes a tab, and the rest a blank
-abbrev pub blank : ℕ → ℕ
-blank x = if x == ascii.line_feed then ascii.tab else ascii.space
+-- what is put in place of white space in an element: a tab for a line feed, otherwise a space
+abbrev pub blank_byte : ℕ → ℕ
+blank_byte x = if x == ascii.line_feed then ascii.tab else ascii.space
 
--- a byte in a string: no control character may stand there, so another one may take the place of
--- those that end a line
-abbrev pub in_text : ℕ → ℕ
-in_text x = if (x == ascii.line_feed) || (x == ascii.carriage_return) then ascii.tab else x
+-- what is put in place of a byte in a string. No control character may stand there, so another one
+-- may take the place of those that end a line.
+abbrev pub text_byte : ℕ → ℕ
+text_byte x =
+    if (x == ascii.line_feed) || (x == ascii.carriage_return) then ascii.tab else x
 
--- one bracket more; no text of JSON nests as deep as this limit
-abbrev pub opened : ℕ → ℕ → Step
-opened d x = if nat_lt d 128 then (Element Between (d + 1), x) else lost
+-- the step at a bracket that opens within d others; no element of JSON nests as deep as the limit
+abbrev pub opening_step : ℕ → ℕ → Step
+opening_step d x = if nat_lt d 128 then (Element Between (d + 1), x) else lost_step
 
--- a bracket closes: one of the element's own, or that of all elements, which ends the line
-abbrev pub closed : Brackets → ℕ → ℕ → Step
-closed b d x =
-    if d == 0 then (if x == close_of b then (Closed, ascii.line_feed) else lost)
+-- the step at a bracket that closes: one of the element's own, or that of all elements, which ends
+-- the line
+abbrev pub closing_step : Brackets → ℕ → ℕ → Step
+closing_step b d x =
+    if d == 0 then (if x == closing_bracket b then (Closed, ascii.line_feed) else lost_step)
     else (Element Between (d - 1), x)
 
--- a comma behind an element ends its line
-abbrev pub behind_comma : ℕ → Step
-behind_comma d = if d == 0 then (Next, ascii.line_feed) else (Element Between d, ascii.comma)
+-- the step at a comma, which ends the line outside of an element's own brackets
+abbrev pub comma_step : ℕ → Step
+comma_step d = if d == 0 then (Next, ascii.line_feed) else (Element Between d, ascii.comma)
 
--- a bracket, a comma or a colon in an element
-abbrev pub at_operator : Brackets → ℕ → ℕ → Step
-at_operator b d x =
-    if (x == ascii.open_brace) || (x == ascii.open_bracket) then opened d x
-    else if (x == ascii.close_brace) || (x == ascii.close_bracket) then closed b d x
-    else if x == ascii.comma then behind_comma d
+-- the step at a bracket, a comma or a colon in an element
+abbrev pub operator_step : Brackets → ℕ → ℕ → Step
+operator_step b d x =
+    if (x == ascii.open_brace) || (x == ascii.open_bracket) then opening_step d x
+    else if (x == ascii.close_brace) || (x == ascii.close_bracket) then closing_step b d x
+    else if x == ascii.comma then comma_step d
     else (Element Between d, x)
 
--- a byte of this class in an element
-abbrev pub in_element : Brackets → Mode → ℕ → Class → ℕ → Step
-in_element b Between d quote x = (Element Text d, x)
-in_element b Between d backslash x = (Element Word d, x)
-in_element b Between d operator x = at_operator b d x
-in_element b Between d space x = (Element Between d, blank x)
-in_element b Between d other x = (Element Word d, x)
-in_element b Word d quote x = (Element Word d, x)
-in_element b Word d backslash x = (Element Word d, x)
-in_element b Word d operator x = at_operator b d x
-in_element b Word d space x = (Element Between d, blank x)
-in_element b Word d other x = (Element Word d, x)
-in_element b Text d quote x = (Element Between d, x)
-in_element b Text d backslash x = (Element Escape d, x)
-in_element b Text d operator x = (Element Text d, x)
-in_element b Text d space x = (Element Text d, in_text x)
-in_element b Text d other x = (Element Text d, in_text x)
-in_element b Escape d c x = (Element Text d, in_text x)
+-- the step at a byte of this class in an element
+abbrev pub element_step : Brackets → Mode → ℕ → Class → ℕ → Step
+element_step b Between d quote x = (Element Text d, x)
+element_step b Between d backslash x = (Element Word d, x)
+element_step b Between d operator x = operator_step b d x
+element_step b Between d space x = (Element Between d, blank_byte x)
+element_step b Between d other x = (Element Word d, x)
+element_step b Word d quote x = (Element Word d, x)
+element_step b Word d backslash x = (Element Word d, x)
+element_step b Word d operator x = operator_step b d x
+element_step b Word d space x = (Element Between d, blank_byte x)
+element_step b Word d other x = (Element Word d, x)
+element_step b Text d quote x = (Element Between d, x)
+element_step b Text d backslash x = (Element Escape d, x)
+element_step b Text d operator x = (Element Text d, x)
+element_step b Text d space x = (Element Text d, text_byte x)
+element_step b Text d other x = (Element Text d, text_byte x)
+element_step b Escape d c x = (Element Text d, text_byte x)
 
--- a bracket, a comma or a colon where an element may begin
-abbrev pub begins_operator : ℕ → Step
-begins_operator x =
-    if (x == ascii.open_brace) || (x == ascii.open_bracket) then opened 0 x else lost
+-- the step at a byte of this class at a place where an element may begin
+abbrev pub start_step : Brackets → Place → Class → ℕ → Step
+start_step b p quote x = element_step b Between 0 quote x
+start_step b p backslash x = element_step b Between 0 backslash x
+start_step b p operator x =
+    if (x == ascii.open_brace) || (x == ascii.open_bracket) then opening_step 0 x else lost_step
+start_step b p space x = (p, ascii.line_feed)
+start_step b p other x = element_step b Between 0 other x
 
--- a byte of this class where an element begins; this is the place in front of it
-abbrev pub begins : Brackets → Place → Class → ℕ → Step
-begins b p quote x = in_element b Between 0 quote x
-begins b p backslash x = in_element b Between 0 backslash x
-begins b p operator x = begins_operator x
-begins b p space x = (p, ascii.line_feed)
-begins b p other x = in_element b Between 0 other x
+-- the step at a byte of this class at a place where nothing but white space may stand
+abbrev pub space_step : Place → Class → Step
+space_step p space = (p, ascii.line_feed)
+space_step p _ = lost_step
 
--- nothing but white space may stand here
-abbrev pub only_space : Place → Class → Step
-only_space p space = (p, ascii.line_feed)
-only_space p _ = lost
-
--- White space outside of the elements ends a line, which is empty then.
+-- the step at a byte. White space outside of the elements ends a line, which is empty then.
 abbrev pub step : Brackets → Place → ℕ → Step
-step b Front x = if x == open_of b then (Opened, ascii.line_feed) else only_space Front (class x)
-step b Opened x = if x == close_of b then (Closed, ascii.line_feed) else begins b Opened (class x) x
-step b Next x = begins b Next (class x) x
-step b (Element mode d) x = in_element b mode d (class x) x
-step b Closed x = only_space Closed (class x)
+step b Front x =
+    if x == opening_bracket b then (Opened, ascii.line_feed) else space_step Front (class x)
+step b Opened x =
+    if x == closing_bracket b then (Closed, ascii.line_feed) else start_step b Opened (class x) x
+step b Next x = start_step b Next (class x) x
+step b (Element mode d) x = element_step b mode d (class x) x
+step b Closed x = space_step Closed (class x)
 step b Lost x = (Lost, ascii.line_feed)

@@ -14,8 +14,8 @@ pub fn documents()
         AreMembers (elements Curly text) ms → document text ≡ Some (object ms) }
 {}
 
-/// The other way, so that no array and no object is refused by its lines: the elements of a text that
-/// is an array are its items in order, and those of a text that is an object are its members.
+/// The other way, so that no array and no object is refused by its lines: the elements of a text
+/// that is an array are its items in order, and those of a text that is an object are its members.
 pub fn elements_of_documents()
     ensures items { (text : List ℕ) (js : Items) →
         document text ≡ Some (array js) → AreItems (elements Square text) js }

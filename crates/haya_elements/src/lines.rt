@@ -7,8 +7,8 @@ use std::io;
 use std::io::Read;
 
 /// Reads a text in JSON from a reader, and gives its elements, each on a line of its own; other
-/// lines are empty. Where the text goes wrong, or ends too early, a line follows that no element
-/// has.
+/// lines are empty. Where a byte can't stand where it does, or the text ends too early, there is a
+/// line that no element has.
 ///
 /// A byte is given in place of each byte of the text, so that nothing is kept.
 #[derive(Debug, Drop)]
@@ -19,11 +19,12 @@ pub struct ElementLines<R> {
 }
 
 impl<R: Read> ElementLines<R> {
-    ghost use Rattle.haya_elements.specs.Remaining.{all_lines, lines_remaining};
+    ghost use Rattle.haya_elements.specs.Remaining.{unread_lines, lines_remaining};
 
-    /// The elements in brackets of this kind.
+    /// The lines of the elements of all that the reader has left, with brackets of this kind around
+    /// them.
     pub fn new(reader: R, brackets: Brackets) -> ElementLines<R>
-        ensures fresh { result ≡ all_lines reader brackets }
+        ensures fresh { result ≡ unread_lines reader brackets }
         ensures remaining { lines_remaining R.remaining result
             ≡ option_map (element_lines brackets) (R.remaining reader) }
     {
@@ -55,7 +56,7 @@ impl<R: Read> Read for ElementLines<R> {
     }
 }
 
-// Puts lines of elements in place of these bytes of a text, and tells the place behind them.
+// Puts bytes of the lines in place of these bytes of a text, and returns the place behind them.
 fn put_lines(brackets: Brackets, place: Place, bytes: &mut [u8]) -> Place
     ensures { (more : List ℕ) → lines_from brackets place (bytes.old ++ more)
         ≡ bytes.new ++ lines_from brackets result more }

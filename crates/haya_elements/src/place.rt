@@ -2,11 +2,11 @@
 ghost use Rattle.std.specs.Prelude.{◌≡◌, [], ◌∷◌, if◌then◌else◌};
 ghost use Rattle.json.specs.Lex.{class};
 ghost use Rattle.haya_elements.specs.Elements.{end_of};
-ghost use Rattle.haya_elements.specs.Steps.{at_operator, begins, behind_comma, blank, close_of};
-ghost use Rattle.haya_elements.specs.Steps.{closed, in_element, in_text, mark, only_space, open_of};
-ghost use Rattle.haya_elements.specs.Steps.{opened, step};
+ghost use Rattle.haya_elements.specs.Steps.{blank_byte, closing_bracket, closing_step, comma_step};
+ghost use Rattle.haya_elements.specs.Steps.{element_step, mark, opening_bracket, opening_step};
+ghost use Rattle.haya_elements.specs.Steps.{operator_step, space_step, start_step, step, text_byte};
 
-/// The brackets that the elements of a text stand in.
+/// The brackets around all elements of a text.
 #[derive(Clone, Copy, Debug, Drop, PartialEq, Eq)]
 pub enum Brackets {
     /// Those of an array, whose elements are its items.
@@ -16,9 +16,9 @@ pub enum Brackets {
 }
 
 impl Brackets {
-    // The one that opens.
-    fn open(self) -> u8
-        ensures { result ≡ open_of self }
+    // The byte of the bracket that opens.
+    fn opening_bracket(self) -> u8
+        ensures { result ≡ opening_bracket self }
     {
         match self {
             Brackets::Square => b'[',
@@ -26,9 +26,9 @@ impl Brackets {
         }
     }
 
-    // The one that closes.
-    fn close(self) -> u8
-        ensures { result ≡ close_of self }
+    // The byte of the bracket that closes.
+    fn closing_bracket(self) -> u8
+        ensures { result ≡ closing_bracket self }
     {
         match self {
             Brackets::Square => b']',
@@ -37,12 +37,12 @@ impl Brackets {
     }
 }
 
-/// What goes on in an element.
+/// What a byte in an element stands in.
 #[derive(Clone, Copy, Debug, Drop, PartialEq, Eq)]
 pub enum Mode {
-    /// Nothing: a token may begin.
+    /// Nothing: it stands between two tokens.
     Between,
-    /// A number, or one of the words of JSON.
+    /// A number, or `true`, `false` or `null`.
     Word,
     /// A string.
     Text,
@@ -55,11 +55,11 @@ pub enum Mode {
 pub enum Place {
     /// In front of the bracket that opens.
     Front,
-    /// Behind that, and in front of the first element.
+    /// Behind the bracket that opens, and in front of the first element.
     Opened,
     /// Behind a comma, and in front of the next element.
     Next,
-    /// In an element, and in so many brackets of its own.
+    /// In an element, within so many brackets of its own.
     Element(Mode, u8),
     /// Behind the bracket that closes.
     Closed,
@@ -67,162 +67,162 @@ pub enum Place {
     Lost,
 }
 
-// Ends a line that no element has.
+// The end of a line that no element has.
 pub(crate) const MARK: u8 = b',';
 
-// The place where nothing more is read, and the mark that says so.
-const LOST: (Place, u8) = (Place::Lost, MARK);
+// The step at a byte that can't stand where it does.
+const LOST_STEP: (Place, u8) = (Place::Lost, MARK);
 
 impl Place {
-    /// Whether a text may end here.
+    // Whether no mark is due where a text ends here.
     pub(crate) fn may_end(self) -> bool
         ensures { end_of self ≡ (if result then [] else mark ∷ []) }
     {
         matches!(self, Place::Closed | Place::Lost)
     }
 
-    /// The place behind a byte, and the byte that is put in its place.
+    // The place behind a byte, and the byte that is put in its place.
     pub(crate) fn step(self, brackets: Brackets, byte: u8) -> (Place, u8)
         ensures { result ≡ step brackets self byte }
     {
         match self {
-            Place::Element(mode, depth) => in_element(brackets, mode, depth, byte),
-            Place::Front => at_front(brackets, byte),
-            Place::Opened => at_opened(brackets, byte),
-            Place::Next => begins(brackets, Place::Next, byte),
-            Place::Closed => only_space(Place::Closed, byte),
+            Place::Element(mode, depth) => element_step(brackets, mode, depth, byte),
+            Place::Front => front_step(brackets, byte),
+            Place::Opened => opened_step(brackets, byte),
+            Place::Next => start_step(brackets, Place::Next, byte),
+            Place::Closed => space_step(Place::Closed, byte),
             Place::Lost => (Place::Lost, b'\n'),
         }
     }
 }
 
-// In front of the bracket that opens.
-fn at_front(brackets: Brackets, byte: u8) -> (Place, u8)
+// The step in front of the bracket that opens.
+fn front_step(brackets: Brackets, byte: u8) -> (Place, u8)
     ensures { result ≡ step brackets Place.Front byte }
 {
-    if byte == brackets.open() {
+    if byte == brackets.opening_bracket() {
         (Place::Opened, b'\n')
     } else {
-        only_space(Place::Front, byte)
+        space_step(Place::Front, byte)
     }
 }
 
-// Behind it.
-fn at_opened(brackets: Brackets, byte: u8) -> (Place, u8)
+// The step behind the bracket that opens, in front of the first element.
+fn opened_step(brackets: Brackets, byte: u8) -> (Place, u8)
     ensures { result ≡ step brackets Place.Opened byte }
 {
-    if byte == brackets.close() {
+    if byte == brackets.closing_bracket() {
         (Place::Closed, b'\n')
     } else {
-        begins(brackets, Place::Opened, byte)
+        start_step(brackets, Place::Opened, byte)
     }
 }
 
-// Where nothing but white space may stand.
-fn only_space(place: Place, byte: u8) -> (Place, u8)
-    ensures { result ≡ only_space place (class byte) }
+// The step where nothing but white space may stand.
+fn space_step(place: Place, byte: u8) -> (Place, u8)
+    ensures { result ≡ space_step place (class byte) }
 {
     match byte {
         b' ' | b'\t' | b'\n' | b'\r' => (place, b'\n'),
-        _ => LOST,
+        _ => LOST_STEP,
     }
 }
 
-// Where an element begins.
-fn begins(brackets: Brackets, place: Place, byte: u8) -> (Place, u8)
-    ensures { result ≡ begins brackets place (class byte) byte }
+// The step where an element may begin.
+fn start_step(brackets: Brackets, place: Place, byte: u8) -> (Place, u8)
+    ensures { result ≡ start_step brackets place (class byte) byte }
 {
     match byte {
         b' ' | b'\t' | b'\n' | b'\r' => (place, b'\n'),
-        b'{' | b'[' => opened(0, byte),
-        b'}' | b']' | b',' | b':' => LOST,
-        _ => in_element(brackets, Mode::Between, 0, byte),
+        b'{' | b'[' => opening_step(0, byte),
+        b'}' | b']' | b',' | b':' => LOST_STEP,
+        _ => element_step(brackets, Mode::Between, 0, byte),
     }
 }
 
-// In an element.
-fn in_element(brackets: Brackets, mode: Mode, depth: u8, byte: u8) -> (Place, u8)
-    ensures { result ≡ in_element brackets mode depth (class byte) byte }
+// The step in an element.
+fn element_step(brackets: Brackets, mode: Mode, depth: u8, byte: u8) -> (Place, u8)
+    ensures { result ≡ element_step brackets mode depth (class byte) byte }
 {
     match mode {
-        Mode::Text => in_string(brackets, depth, byte),
-        Mode::Escape => (Place::Element(Mode::Text, depth), in_text(byte)),
-        Mode::Between => between(brackets, depth, byte),
-        Mode::Word => in_word(brackets, depth, byte),
+        Mode::Text => string_step(brackets, depth, byte),
+        Mode::Escape => (Place::Element(Mode::Text, depth), text_byte(byte)),
+        Mode::Between => between_step(brackets, depth, byte),
+        Mode::Word => word_step(brackets, depth, byte),
     }
 }
 
-// In a string of an element.
-fn in_string(brackets: Brackets, depth: u8, byte: u8) -> (Place, u8)
-    ensures { result ≡ in_element brackets Mode.Text depth (class byte) byte }
+// The step in a string of an element.
+fn string_step(brackets: Brackets, depth: u8, byte: u8) -> (Place, u8)
+    ensures { result ≡ element_step brackets Mode.Text depth (class byte) byte }
 {
     match byte {
         b'"' => (Place::Element(Mode::Between, depth), byte),
         b'\\' => (Place::Element(Mode::Escape, depth), byte),
-        _ => (Place::Element(Mode::Text, depth), in_text(byte)),
+        _ => (Place::Element(Mode::Text, depth), text_byte(byte)),
     }
 }
 
-// Between the tokens of an element.
-fn between(brackets: Brackets, depth: u8, byte: u8) -> (Place, u8)
-    ensures { result ≡ in_element brackets Mode.Between depth (class byte) byte }
+// The step between two tokens of an element.
+fn between_step(brackets: Brackets, depth: u8, byte: u8) -> (Place, u8)
+    ensures { result ≡ element_step brackets Mode.Between depth (class byte) byte }
 {
     match byte {
         b'"' => (Place::Element(Mode::Text, depth), byte),
-        _ => in_word(brackets, depth, byte),
+        _ => word_step(brackets, depth, byte),
     }
 }
 
-// In a word of an element.
-fn in_word(brackets: Brackets, depth: u8, byte: u8) -> (Place, u8)
-    ensures { result ≡ in_element brackets Mode.Word depth (class byte) byte }
+// The step in a number or a word of an element.
+fn word_step(brackets: Brackets, depth: u8, byte: u8) -> (Place, u8)
+    ensures { result ≡ element_step brackets Mode.Word depth (class byte) byte }
 {
     match byte {
-        b' ' | b'\t' | b'\n' | b'\r' => (Place::Element(Mode::Between, depth), blank(byte)),
-        b'{' | b'}' | b'[' | b']' | b',' | b':' => at_operator(brackets, depth, byte),
+        b' ' | b'\t' | b'\n' | b'\r' => (Place::Element(Mode::Between, depth), blank_byte(byte)),
+        b'{' | b'}' | b'[' | b']' | b',' | b':' => operator_step(brackets, depth, byte),
         _ => (Place::Element(Mode::Word, depth), byte),
     }
 }
 
-// A bracket, a comma or a colon in an element.
-fn at_operator(brackets: Brackets, depth: u8, byte: u8) -> (Place, u8)
-    ensures { result ≡ at_operator brackets depth byte }
+// The step at a bracket, a comma or a colon in an element.
+fn operator_step(brackets: Brackets, depth: u8, byte: u8) -> (Place, u8)
+    ensures { result ≡ operator_step brackets depth byte }
 {
     match byte {
-        b'{' | b'[' => opened(depth, byte),
-        b'}' | b']' => closed(brackets, depth, byte),
-        b',' => behind_comma(depth),
+        b'{' | b'[' => opening_step(depth, byte),
+        b'}' | b']' => closing_step(brackets, depth, byte),
+        b',' => comma_step(depth),
         _ => (Place::Element(Mode::Between, depth), byte),
     }
 }
 
-// One bracket more.
-fn opened(depth: u8, byte: u8) -> (Place, u8)
-    ensures { result ≡ opened depth byte }
+// The step at a bracket that opens.
+fn opening_step(depth: u8, byte: u8) -> (Place, u8)
+    ensures { result ≡ opening_step depth byte }
 {
     if depth < 128 {
         (Place::Element(Mode::Between, depth + 1), byte)
     } else {
-        LOST
+        LOST_STEP
     }
 }
 
-// A bracket that closes.
-fn closed(brackets: Brackets, depth: u8, byte: u8) -> (Place, u8)
-    ensures { result ≡ closed brackets depth byte }
+// The step at a bracket that closes.
+fn closing_step(brackets: Brackets, depth: u8, byte: u8) -> (Place, u8)
+    ensures { result ≡ closing_step brackets depth byte }
 {
     if depth > 0 {
         (Place::Element(Mode::Between, depth - 1), byte)
-    } else if byte == brackets.close() {
+    } else if byte == brackets.closing_bracket() {
         (Place::Closed, b'\n')
     } else {
-        LOST
+        LOST_STEP
     }
 }
 
-// A comma.
-fn behind_comma(depth: u8) -> (Place, u8)
-    ensures { result ≡ behind_comma depth }
+// The step at a comma.
+fn comma_step(depth: u8) -> (Place, u8)
+    ensures { result ≡ comma_step depth }
 {
     if depth == 0 {
         (Place::Next, b'\n')
@@ -231,16 +231,16 @@ fn behind_comma(depth: u8) -> (Place, u8)
     }
 }
 
-// White space in an element.
-fn blank(byte: u8) -> u8
-    ensures { result ≡ blank byte }
+// What is put in place of white space in an element.
+fn blank_byte(byte: u8) -> u8
+    ensures { result ≡ blank_byte byte }
 {
     if byte == b'\n' { b'\t' } else { b' ' }
 }
 
-// A byte in a string.
-fn in_text(byte: u8) -> u8
-    ensures { result ≡ in_text byte }
+// What is put in place of a byte in a string.
+fn text_byte(byte: u8) -> u8
+    ensures { result ≡ text_byte byte }
 {
     if byte == b'\n' || byte == b'\r' {
         b'\t'
