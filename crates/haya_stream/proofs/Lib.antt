@@ -1,2 +1,4 @@
+pub mod Counted
+pub mod Ended
 pub mod Reading
 pub mod Taken

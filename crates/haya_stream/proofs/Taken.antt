@@ -1,18 +1,20 @@
 -- How the lines of a text are answered, one after another.
-use Rattle.std.proofs.Common.{◌≡◌, ℕ, false, true, List, [], ◌∷◌, ◌++◌, Option, Some, None, Result, Ok, Err, length, take, drop, get_or, ◌<◌, ◌≤◌, ◌+◌, suc, refl, sym, ap, ◌∙◌, subst, append_assoc, append-nil, take-append-drop, arith}
-use Rattle.std.specs.List.{flat_map, FoldsTo, onto_first, slice_split}
-use Rattle.std.specs.Prelude.{◌==◌, cond, IfErr, OnErr}
+use Rattle.std.proofs.Common.{◌≡◌, ℕ, false, List, [], ◌∷◌, ◌++◌, Option, Some, None, Result, Ok, Err, length, take, drop, get_or, ◌<◌, ◌≤◌, ◌+◌, suc, refl, sym, ap, ◌∙◌, subst, append_assoc, append-nil, take-append-drop, arith}
+use Rattle.std.specs.List.{flat_map, FoldsTo}
+use Rattle.std.specs.Prelude.{◌==◌, cond, map, IfErr, OnErr}
 use Rattle.std.specs.Str.{IsUtf8}
 use Rattle.std.specs.Str.Lines.{lines, lines_of_parts, strip_carriage_return}
 use Rattle.std.proofs.lemmas.Bool.Decides.{nat_tests}
 use Rattle.std.proofs.lemmas.List.Elements.{All-append}
 use Rattle.std.proofs.Math.Seq.{drop-cons}
 use Rattle.std.proofs.lemmas.List.{map-append, nil_from_length}
-use Rattle.std.proofs.lemmas.List.Splits.{slice_split_at, slice_split_none}
-use Rattle.haya_stream.specs.Turns.{HasNoFeed, turns, turns_in}
+use Rattle.std.proofs.lemmas.List.Splits.{slice_split_none}
+use Rattle.haya_stream.specs.Turns.{HasNoFeed, ended_count, turns, turns_in}
 use Rattle.haya_stream.specs.Answered.{Answers, Parts, Run, IsText, StopsAt, StopsBefore, StopsFirst, Takes, printed_of, turns_of}
+use Rattle.haya_stream.specs.Streamed.{HaveEnded}
 use Rattle.haya_stream.specs.declared.fault.StreamFault.{StreamFault}
-use Rattle.haya_stream.specs.declared.fault.StreamFault.TheVariants.{OutOfMemory}
+use Rattle.haya_stream.specs.declared.fault.StreamFault.TheVariants.{CannotRead, CannotWrite, NotText, OutOfMemory, Refused}
+use Rattle.haya_stream.proofs.Counted.{ended_count_first, lines_feed, taken_count}
 
 pub flat_map-append : {X : Type 0} (f : X → List ℕ) (xs ys : List X) → flat_map f (xs ++ ys) ≡ flat_map f xs ++ flat_map f ys
 flat_map-append f [] ys = refl
@@ -29,31 +31,9 @@ folds_on R s [] t ys u p q = subst (λ z. FoldsTo R z ys u) (sym p) q
 folds_on R s (x ∷ xs) t ys u p q = (p.0, p.1, folds_on R p.0 xs t ys u p.2 q)
 
 -- ---- where a line ends
-record IsSome {X : Type 0} (xs : List X) : Type 0 where
-  first : X
-  rest : List X
-  is : xs ≡ first ∷ rest
-
-onto_first-IsSome : (b : ℕ) (ps : List (List ℕ)) → IsSome (onto_first b ps)
-onto_first-IsSome b [] = record { first = b ∷ []; rest = []; is = refl }
-onto_first-IsSome b (p ∷ ps) = record { first = b ∷ p; rest = ps; is = refl }
-
-split-IsSome : (bs : List ℕ) → IsSome (slice_split (λ b. b == 10) bs)
-split-IsSome [] = record { first = []; rest = []; is = refl }
-split-IsSome (b ∷ bs) =
-    elim (b == 10) as (λ c. IsSome (cond c ([] ∷ slice_split (λ x. x == 10) bs) (onto_first b (slice_split (λ x. x == 10) bs)))) [
-      | true ↦ record { first = []; rest = slice_split (λ x. x == 10) bs; is = refl }
-      | false ↦ onto_first-IsSome b (slice_split (λ x. x == 10) bs)
-    ]
-
-lines_of_parts-cons : (p : List ℕ) (ps : List (List ℕ)) → IsSome ps → lines_of_parts (p ∷ ps) ≡ strip_carriage_return p ∷ lines_of_parts ps
-lines_of_parts-cons p ps some = rw some.is refl
-
 -- bytes that end with a line feed are a line
 pub line_first : (piece rest : List ℕ) → HasNoFeed piece → lines (piece ++ 10 ∷ rest) ≡ strip_carriage_return piece ∷ lines rest
-line_first piece rest none =
-    ap lines_of_parts (slice_split_at (λ b. b == 10) piece 10 rest none refl)
-    ∙ lines_of_parts-cons piece (slice_split (λ b. b == 10) rest) (split-IsSome rest)
+line_first piece rest none = lines_feed piece rest ∙ ap (λ ps. map strip_carriage_return ps ++ lines rest) (slice_split_none (λ b. b == 10) piece none)
 
 pub turn_first : (piece rest : List ℕ) → HasNoFeed piece → turns (piece ++ 10 ∷ rest) ≡ Some (strip_carriage_return piece) ∷ turns rest
 turn_first piece rest none = ap turns_in (line_first piece rest none)
@@ -73,6 +53,19 @@ pub few_turns : (piece : List ℕ) → HasNoFeed piece → length (turns piece) 
 few_turns [] none = omega arith
 few_turns (b ∷ piece) none = rw (turn_last (b ∷ piece) none (omega arith)) (omega arith)
 
+-- the next line, which has ended, isn't answered
+next_ended : {S E : Type 0} (refuses : S → Option (List ℕ) → E → Type 0) (t : S) (turn : Option (List ℕ)) (text : List ℕ) (n : ℕ) (fault : StreamFault E) → n < ended_count text
+    → StopsBefore refuses t turn fault → HaveEnded text n fault
+next_ended refuses t turn text n (CannotRead e) more why = absurd why
+next_ended refuses t turn text n (CannotWrite e) more why = absurd why
+next_ended refuses t turn text n NotText more why = more
+next_ended refuses t turn text n (Refused e) more why = more
+next_ended refuses t turn text n OutOfMemory more why = omega arith
+
+-- it stops at a line that has ended, or before it
+abbrev pub StopsEnded : {S E : Type 0} → (S → Option (List ℕ) → List ℕ → S → Type 0) → (S → Option (List ℕ) → E → Type 0) → List ℕ → S → List ℕ → StreamFault E → Type 0
+StopsEnded answers refuses text s printed fault = (stops : StopsAt answers refuses text s printed fault) × HaveEnded text (length stops.first.parts) fault
+
 -- ---- turns that are answered
 module _ {S : Type 0} (answers : S → Option (List ℕ) → List ℕ → S → Type 0) where
   pub run_on : (s : S) (ps : Parts) (t : S) (qs : Parts) (u : S) → Run answers s ps t → Run answers t qs u → Run answers s (ps ++ qs) u
@@ -85,7 +78,7 @@ module _ {S : Type 0} (answers : S → Option (List ℕ) → List ℕ → S → 
   none_answered text s = record { parts = []; all = refl; run = refl; prints = refl }
 
   -- a text of which turns are answered
-  pub taken_first : (text rest : List ℕ) (s t : S) (printed : List ℕ) → Takes answers text rest s t printed → Answers answers text (turns rest) s t printed
+  abbrev pub taken_first : (text rest : List ℕ) (s t : S) (printed : List ℕ) → Takes answers text rest s t printed → Answers answers text (turns rest) s t printed
   taken_first text rest s t printed so_far = record {
     parts = so_far.parts;
     all = ap turns (sym (append-nil text)) ∙ so_far.same [] ∙ ap (λ l. turns_of so_far.parts ++ turns l) (append-nil rest);
@@ -150,13 +143,18 @@ module _ {S : Type 0} (answers : S → Option (List ℕ) → List ℕ → S → 
 
   -- the next line stops
   pub line_stops : {E : Type 0} (refuses : S → Option (List ℕ) → E → Type 0) (text piece rest : List ℕ) (s t : S) (printed : List ℕ) (fault : StreamFault E) → HasNoFeed piece
-      → Takes answers text (piece ++ 10 ∷ rest) s t printed → StopsBefore refuses t (Some (strip_carriage_return piece)) fault → StopsAt answers refuses text s printed fault
-  line_stops refuses text piece rest s t printed fault none p why = record {
-    later = turns (piece ++ 10 ∷ rest);
-    last = t;
-    first = taken_first text (piece ++ 10 ∷ rest) s t printed p;
-    why = rw (turn_first piece rest none) why;
-  }
+      → Takes answers text (piece ++ 10 ∷ rest) s t printed → StopsBefore refuses t (Some (strip_carriage_return piece)) fault → StopsEnded answers refuses text s printed fault
+  line_stops refuses text piece rest s t printed fault none p why =
+      let taken = taken_count p in
+      let one = ended_count_first piece rest none in (
+        record {
+          later = turns (piece ++ 10 ∷ rest);
+          last = t;
+          first = taken_first text (piece ++ 10 ∷ rest) s t printed p;
+          why = rw (turn_first piece rest none) why;
+        },
+        next_ended refuses t (Some (strip_carriage_return piece)) text (length p.parts) fault (omega arith) why,
+      )
 
 -- ---- a block behind what is held
 HasNoFeed-append : (xs ys : List ℕ) → HasNoFeed xs → HasNoFeed ys → HasNoFeed (xs ++ ys)
@@ -188,7 +186,7 @@ module _ {S : Type 0} (answers : S → Option (List ℕ) → List ℕ → S → 
 
   -- the next line stops
   pub block_stops : {E : Type 0} (refuses : S → Option (List ℕ) → E → Type 0) (fault : StreamFault E)
-      → StopsBefore refuses t (Some (strip_carriage_return (held ++ take at rest))) fault → StopsAt answers refuses text s printed fault
+      → StopsBefore refuses t (Some (strip_carriage_return (held ++ take at rest))) fault → StopsEnded answers refuses text s printed fault
   block_stops refuses fault why =
       line_stops answers refuses text (held ++ take at rest) (drop (at + 1) rest) s t printed fault (HasNoFeed-append held (take at rest) none first) cut why
 
@@ -198,13 +196,10 @@ memory_first refuses t [] = tt
 memory_first refuses t (line ∷ ls) = tt
 
 pub memory_stops : {S E : Type 0} (answers : S → Option (List ℕ) → List ℕ → S → Type 0) (refuses : S → Option (List ℕ) → E → Type 0) (text rest : List ℕ) (s t : S) (printed : List ℕ)
-    → Takes answers text rest s t printed → StopsAt answers refuses text s printed OutOfMemory
-memory_stops answers refuses text rest s t printed so_far = record {
-  later = turns rest;
-  last = t;
-  first = taken_first answers text rest s t printed so_far;
-  why = memory_first refuses t (lines rest);
-}
+    → Takes answers text rest s t printed → StopsEnded answers refuses text s printed OutOfMemory
+memory_stops answers refuses text rest s t printed so_far =
+    let ended = taken_count so_far in
+    (record { later = turns rest; last = t; first = taken_first answers text rest s t printed so_far; why = memory_first refuses t (lines rest) }, omega arith)
 
 -- ---- what is held as the last line, and the end
 module _ {S : Type 0} (answers : S → Option (List ℕ) → List ℕ → S → Type 0) (held : List ℕ) (none : HasNoFeed held) (s : S) where

@@ -1,10 +1,17 @@
 -- What is printed of an input, as it is read.
-use Rattle.std.specs.Prelude.{◌≡◌, ◌⊎◌, ◌≤◌, ℕ, Bool, true, List, [], ◌++◌, Option, length}
+use Rattle.std.specs.Prelude.{◌≡◌, ◌⊎◌, ◌<◌, ◌≤◌, ℕ, Bool, true, List, [], ◌++◌, Option, length}
 use Rattle.std.specs.Io.KnownBytes.{Appends, Consumes, IsAtEnd}
-use Rattle.haya_stream.specs.Turns.{HasNoFeed}
+use Rattle.haya_stream.specs.Turns.{AreWholeLines, HasNoFeed, ended_count}
 use Rattle.haya_stream.specs.Answered.{Answers, StopsFirst, Takes}
 use Rattle.haya_stream.specs.declared.fault.StreamFault.{StreamFault}
 use Rattle.haya_stream.specs.declared.fault.StreamFault.TheVariants.{CannotRead, CannotWrite, NotText, OutOfMemory, Refused}
+
+-- the part of a text that was read whose lines have ended: all of it where the input has,
+-- otherwise its whole lines
+abbrev pub IsEndedPart : Option (List ℕ) → List ℕ → List ℕ → Type 0
+IsEndedPart left text part =
+    (IsAtEnd left × (part ≡ text))
+    ⊎ ((rest : List ℕ) × (text ≡ part ++ rest) × AreWholeLines part × HasNoFeed rest)
 
 -- all input that was left is a text, each line of it is answered, and then its end
 pub record AnswersAll {S : Type 0} (answers : S → Option (List ℕ) → List ℕ → S → Type 0) (s t : S)
@@ -16,7 +23,8 @@ pub record AnswersAll {S : Type 0} (answers : S → Option (List ℕ) → List �
   pub answers_all : Answers answers text [] s t printed
   pub prints : Appends before after printed
 
--- a first part of the input is read, and lines of it are answered, which are enough
+-- a first part of the input is read, and lines of it are answered, which are enough; each of them
+-- has ended, or the input has
 pub record AnswersEnough {S : Type 0} (answers : S → Option (List ℕ) → List ℕ → S → Type 0)
     (is_done : S → Bool) (s t : S) (unread left before after : Option (List ℕ)) : Type 0 where
   pub text : List ℕ
@@ -24,6 +32,7 @@ pub record AnswersEnough {S : Type 0} (answers : S → Option (List ℕ) → Lis
   pub printed : List ℕ
   pub read : Consumes unread left text
   pub first : Answers answers text later s t printed
+  pub ended : IsAtEnd left ⊎ (length first.parts ≤ ended_count text)
   pub enough : is_done t ≡ true
   pub prints : Appends before after printed
 
@@ -37,6 +46,15 @@ Why refuses t later unwritten (Refused e) =
     StopsFirst refuses t later (Refused e) × (unwritten ≡ [])
 Why refuses t later unwritten OutOfMemory = unwritten ≡ []
 
+-- so many lines of a text are answered, each of which has ended, as has the one that is refused;
+-- where a read fails, each that has ended is answered
+abbrev pub HaveEnded : {E : Type 0} → List ℕ → ℕ → StreamFault E → Type 0
+HaveEnded text answered (CannotRead e) = answered ≡ ended_count text
+HaveEnded text answered (CannotWrite e) = answered ≤ ended_count text
+HaveEnded text answered NotText = answered < ended_count text
+HaveEnded text answered (Refused e) = answered < ended_count text
+HaveEnded text answered OutOfMemory = answered ≤ ended_count text
+
 -- lines of a text are answered, what is printed of them is written, and here it stops
 pub record Writes {S E : Type 0} (answers : S → Option (List ℕ) → List ℕ → S → Type 0)
     (refuses : S → Option (List ℕ) → E → Type 0) (text : List ℕ) (s : S)
@@ -49,13 +67,15 @@ pub record Writes {S E : Type 0} (answers : S → Option (List ℕ) → List ℕ
   pub why : Why refuses last later unwritten fault
   pub prints : Appends before after written
 
--- the input that was read is a text, of which lines are answered; there it stops
+-- the input that was read is a text, of which lines are answered; there it stops. Each of them
+-- has ended, or the input has
 pub record AnswersPart {S E : Type 0} (answers : S → Option (List ℕ) → List ℕ → S → Type 0)
     (refuses : S → Option (List ℕ) → E → Type 0) (s : S)
     (unread left before after : Option (List ℕ)) (fault : StreamFault E) : Type 0 where
   pub text : List ℕ
   pub read : Consumes unread left text
   pub writes : Writes answers refuses text s before after fault
+  pub ended : IsAtEnd left ⊎ HaveEnded text (length writes.first.parts) fault
 
 -- the lines of a text are printed but for what is held, which has no end yet; or enough of them are
 pub record Moves {S : Type 0} (answers : S → Option (List ℕ) → List ℕ → S → Type 0)

@@ -1,11 +1,12 @@
 //! Answers a text line by line, as it is read.
 ghost use Rattle.std.specs.Prelude.{◌≡◌, ◌⊎◌, ◌++◌, ◌∷◌, [], ℕ, List, Option, Some, None, true};
-ghost use Rattle.std.specs.Prelude.{false, IfErr, OnErr, OnOk, string_bytes};
+ghost use Rattle.std.specs.Prelude.{false, length, IfErr, OnErr, OnOk, string_bytes};
 ghost use Rattle.std.specs.Io.KnownBytes.{Appends};
 ghost use Rattle.std.specs.Str.{IsUtf8};
 ghost use Rattle.haya_stream.specs.Turns.{HasNoFeed};
 ghost use Rattle.haya_stream.specs.Answered.{Answers, Asked, StopsAt, StopsBefore, Takes};
-ghost use Rattle.haya_stream.specs.Streamed.{AnswersAll, AnswersEnough, AnswersPart, Moves, Writes};
+ghost use Rattle.haya_stream.specs.Streamed.{AnswersAll, AnswersEnough, AnswersPart};
+ghost use Rattle.haya_stream.specs.Streamed.{HaveEnded, Moves, Writes};
 
 use crate::answerer::Answerer;
 use crate::fault::StreamFault;
@@ -17,7 +18,8 @@ use std::io::{Read, Write};
 
 /// Answers each line of the input in turn, and then its end; or the lines of a first part of it,
 /// where the answerer is done with these. What is printed of the lines that one read ended is
-/// written together, and handed on. A line is let go before the next is looked at.
+/// written together, and handed on. A line is let go before the next is looked at. None is asked
+/// before it has ended, or the input has.
 ///
 /// At a fault a first part is answered, and what is printed of that is written: of a whole number
 /// of lines, but where the writer itself fails.
@@ -81,8 +83,9 @@ fn answer_block<A: Answerer, W: Write>(
     ensures moves { OnOk result (Moves (Asked A.is_done A.answers) A.is_done
         (held.old.items ++ block.now) held.new.items answerer.old answerer.new
         (W.contents out.old) (W.contents out.new)) }
-    ensures part { IfErr result (Writes (Asked A.is_done A.answers) A.refuses
-        (held.old.items ++ block.now) answerer.old (W.contents out.old) (W.contents out.new)) }
+    ensures part { IfErr result (λ fault. (writes : Writes (Asked A.is_done A.answers) A.refuses
+        (held.old.items ++ block.now) answerer.old (W.contents out.old) (W.contents out.new) fault)
+        × HaveEnded (held.old.items ++ block.now) (length writes.first.parts) fault) }
 {
     let answered = take_block(answerer, held, block, line, printed);
     match write_text(out, printed.as_str()) {
@@ -141,9 +144,10 @@ fn take_block<A: Answerer>(
         × ((A.is_done answerer.new ≡ true) ⊎ ((rest ≡ held.new.items) × HasNoFeed rest))
         × (string_bytes printed.new ≡ string_bytes printed.old ++ more)) }
     ensures stops { IfErr result (λ fault. (more : List ℕ)
-        × StopsAt (Asked A.is_done A.answers) A.refuses (held.old.items ++ block.now)
-        answerer.old more fault
-        × (string_bytes printed.new ≡ string_bytes printed.old ++ more)) }
+        × (stops : StopsAt (Asked A.is_done A.answers) A.refuses (held.old.items ++ block.now)
+        answerer.old more fault)
+        × (string_bytes printed.new ≡ string_bytes printed.old ++ more)
+        × HaveEnded (held.old.items ++ block.now) (length stops.first.parts) fault) }
 {
     let mut rest = block;
     'lines: while let Some(end) = line_end(rest) {

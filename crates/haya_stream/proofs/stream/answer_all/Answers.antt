@@ -52,7 +52,7 @@ pub returns-in-Ok-eq0-clause-part : goal.returns-in-Ok-eq0-clause-part
 returns-in-Ok-eq0-clause-part g c =
     let read = goes_on (Asked g.A.Answerer.is_done g.A.Answerer.answers) g.A.Answerer.is_done _ _ _ _ _ _ c.reads.invariant.read (sym c.is_done.ensures ∙ c.if-is_done.false) in
     let gave = rw c.in-Ok-eq0.field-0-test at c.in-Ok-eq0.ensures.bytes in
-    end_part (Asked g.A.Answerer.is_done g.A.Answerer.answers) _ _ c.reads.answerer _ _ _ _ _ _ _ read.0 g.A.Answerer.refuses c.answer_rest.result gave.0
+    end_part (Asked g.A.Answerer.is_done g.A.Answerer.answers) _ _ c.reads.answerer _ _ _ _ _ _ _ read.0 g.A.Answerer.refuses c.answer_rest.result gave.0 (gave.1 refl (search rules))
     (rw c.as_slice.ensures.value at c.answer_rest.ensures.part)
 
 pub returns-in_err-answer_block-in-Ok-clause-part : goal.returns-in_err-answer_block-in-Ok-clause-part

@@ -27,14 +27,14 @@ lines-preserved g c =
 pub returns-in_err-extend_from_slice-clause-stops : goal.returns-in_err-extend_from_slice-clause-stops
 returns-in_err-extend_from_slice-clause-stops g c =
     let p = err_from_is_err_and c.from_residual.result c.from_residual.ensures.1 in
-    rw (p.1, p.2)
-    (c.lines.invariant.more, memory_stops (Asked g.A.Answerer.is_done g.A.Answerer.answers) g.A.Answerer.refuses _ _ _ _ _ c.lines.invariant.takes, c.lines.invariant.prints)
+    let stops = memory_stops (Asked g.A.Answerer.is_done g.A.Answerer.answers) g.A.Answerer.refuses _ _ _ _ _ c.lines.invariant.takes in
+    rw (p.1, p.2) (c.lines.invariant.more, stops.0, c.lines.invariant.prints, stops.1)
 
 pub returns-in_err-extend_from_slice-2-clause-stops : goal.returns-in_err-extend_from_slice-2-clause-stops
 returns-in_err-extend_from_slice-2-clause-stops g c =
     let p = err_from_is_err_and c.from_residual-in_err-extend_from_slice-2.result c.from_residual-in_err-extend_from_slice-2.ensures.1 in
-    rw (p.1, p.2)
-    (c.lines.invariant.more, memory_stops (Asked g.A.Answerer.is_done g.A.Answerer.answers) g.A.Answerer.refuses _ _ _ _ _ c.lines.invariant.takes, c.lines.invariant.prints)
+    let stops = memory_stops (Asked g.A.Answerer.is_done g.A.Answerer.answers) g.A.Answerer.refuses _ _ _ _ _ c.lines.invariant.takes in
+    rw (p.1, p.2) (c.lines.invariant.more, stops.0, c.lines.invariant.prints, stops.1)
 
 pub returns-in_err-answer_line-clause-stops : goal.returns-in_err-answer_line-clause-stops
 returns-in_err-answer_line-clause-stops g c =
@@ -45,9 +45,7 @@ returns-in_err-answer_line-clause-stops g c =
     let found = c.in-Some.ensures in
     let piece : c.without_return.result.now ≡ strip_carriage_return (held ++ take at rest) =
     c.without_return.ensures ∙ ap strip_carriage_return (c.as_slice.ensures.value ∙ c.in_ok-extend_from_slice.ensures.items) in
-    rw (p.1, p.2) (
-      c.lines.invariant.more,
-      block_stops (Asked g.A.Answerer.is_done g.A.Answerer.answers) _ held rest at _ _ _ c.lines.invariant.none found.within found.feed found.first c.lines.invariant.takes g.A.Answerer.refuses _
-          (rw piece at c.in_err-answer_line.ensures.stops),
-      c.in_err-answer_line.ensures.kept ∙ c.lines.invariant.prints,
-    )
+    let stops =
+    block_stops (Asked g.A.Answerer.is_done g.A.Answerer.answers) _ held rest at _ _ _ c.lines.invariant.none found.within found.feed found.first c.lines.invariant.takes g.A.Answerer.refuses _
+    (rw piece at c.in_err-answer_line.ensures.stops) in
+    rw (p.1, p.2) (c.lines.invariant.more, stops.0, c.in_err-answer_line.ensures.kept ∙ c.lines.invariant.prints, stops.1)
