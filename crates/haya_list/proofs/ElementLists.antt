@@ -45,19 +45,19 @@ module _ {X : Type 0} (name : X → ℕ) (loan : ℕ) (remaining : X → Option 
         → P (Some text) (lines_remaining remaining new)
     of_reader P bs read holds = subst (λ o. P (Some text) o) (lent_is new (same bs read)) (subst (λ o. P o (lent_lines new)) old_text holds)
 
-    module _ {S : Type 0} {BeginsList : List ℕ → List Tree → Type 0} {answers : S → Tree → List ℕ → S → Type 0} {is_done : S → Bool} {s : S} {before after : Option (List ℕ)} where
-      pub list_of_reader : {t : S} → AnswersList BeginsList answers is_done s t (lent_lines old) (lent_lines new) before after
-          → AnswersList BeginsList answers is_done s t (Some text) (lines_remaining remaining new) before after
-      list_of_reader {t} a = of_reader (λ unread rest. AnswersList BeginsList answers is_done s t unread rest before after) a.text a.read a
+    module _ {S : Type 0} {answers : S → Tree → List ℕ → S → Type 0} {is_done : S → Bool} {s : S} {before after : Option (List ℕ)} where
+      pub list_of_reader : {IsList : List ℕ → List Tree → Type 0} {t : S} → AnswersList IsList answers is_done s t (lent_lines old) (lent_lines new) before after
+          → AnswersList IsList answers is_done s t (Some text) (lines_remaining remaining new) before after
+      list_of_reader {IsList} {t} a = of_reader (λ unread rest. AnswersList IsList answers is_done s t unread rest before after) a.text a.read a
 
-      pub enough_of_reader : {t : S} → AnswersEnough BeginsList answers is_done s t (lent_lines old) (lent_lines new) before after
+      pub enough_of_reader : {BeginsList : Option (List ℕ) → List ℕ → List Tree → Type 0} {t : S} → AnswersEnough BeginsList answers is_done s t (lent_lines old) (lent_lines new) before after
           → AnswersEnough BeginsList answers is_done s t (Some text) (lines_remaining remaining new) before after
-      enough_of_reader {t} a = of_reader (λ unread rest. AnswersEnough BeginsList answers is_done s t unread rest before after) a.text a.read a
+      enough_of_reader {BeginsList} {t} a = of_reader (λ unread rest. AnswersEnough BeginsList answers is_done s t unread rest before after) a.text a.read a
 
-      pub part_of_reader : {L E : Type 0} {IsFault : List ℕ → L → Type 0} {refuses : S → Tree → E → Type 0} {fault : StreamFault (ListRefusal L E)}
+      pub part_of_reader : {BeginsList : Option (List ℕ) → List ℕ → List Tree → Type 0} {L E : Type 0} {IsFault : List ℕ → L → Type 0} {refuses : S → Tree → E → Type 0} {fault : StreamFault (ListRefusal L E)}
           → AnswersPart BeginsList IsFault answers is_done refuses s (lent_lines old) (lent_lines new) before after fault
           → AnswersPart BeginsList IsFault answers is_done refuses s (Some text) (lines_remaining remaining new) before after fault
-      part_of_reader {IsFault} {refuses} {fault} a =
+      part_of_reader {BeginsList} {IsFault} {refuses} {fault} a =
           of_reader (λ unread rest. AnswersPart BeginsList IsFault answers is_done refuses s unread rest before after fault) a.text a.read a
 
 -- ---- all elements

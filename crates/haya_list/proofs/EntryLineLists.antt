@@ -1,20 +1,20 @@
 -- The entries of a text of which each line says one, turn by turn.
-use Rattle.std.proofs.Common.{◌≡◌, ◌==◌, ℕ, ◌+◌, Bool, true, false, not, cond, List, [], ◌∷◌, ◌++◌, Option, None, Some, MatchBool, filter, length, length-append, map, refl, sym, ap, ◌∙◌, subst, append-nil, arith}
-use Rattle.std.specs.List.{FoldsTo}
+use Rattle.std.proofs.Common.{◌≡◌, ◌==◌, ℕ, ◌+◌, Bool, true, false, not, cond, List, [], ◌∷◌, ◌++◌, Option, None, Some, MatchBool, length, length-append, refl, sym, ap, ◌∙◌, append-nil, arith}
 use Rattle.std.specs.Str.Lines.{lines}
 use Rattle.std.proofs.lemmas.List.{map-append}
 use Rattle.std.proofs.lemmas.List.Elements.{filter-append}
 use Rattle.hayagriva.specs.Tree.{Tree}
+use Rattle.haya_elements.specs.Elements.{filled}
 use Rattle.haya_stream.proofs.Taken.{folds_on}
 use Rattle.haya_stream.specs.Answered as stream
 use Rattle.haya_stream.specs.Streamed as streamed
 use Rattle.haya_stream.specs.declared.fault.StreamFault.{StreamFault}
 use Rattle.haya_list.specs.Listed.{AnswersEnough, AnswersList, AnswersPart}
-use Rattle.haya_list.specs.EntryLines.{AnswersLine, AnswersTurn, FirstFault, IsFaultOf, ReadsFirst, ReadsLines, RefusesEntry, RefusesTurn, filled}
+use Rattle.haya_list.specs.EntryLines.{AnswersTurn, IsFaultOf, ReadsFirst, ReadsLines, RefusesTurn}
 use Rattle.haya_list.specs.declared.fault.EntryFault.{EntryFault}
 use Rattle.haya_list.specs.declared.fault.EntryFault.TheVariants as fault
 use Rattle.haya_list.specs.declared.fault.ListRefusal.{ListRefusal}
-use Rattle.haya_list.specs.declared.fault.ListRefusal.TheVariants.{Entry, Line}
+use Rattle.haya_list.specs.declared.fault.ListRefusal.TheVariants.{Line}
 use Rattle.haya_list.proofs.Inputs.{list_all, list_enough, list_part}
 use Rattle.haya_list.proofs.Lists.{Replied, no_reply, one_reply}
 
@@ -101,14 +101,14 @@ module _ {S A R : Type 0} (number : S → ℕ) (reader : S → R) (state : S →
           (λ text given. ReadsLines says (lines text) given r0 (reader t)) (λ text given whole. whole)
 
       pub entries_enough : streamed.AnswersEnough Asks (λ u. is_done (state u)) s t unread left before after
-          → AnswersEnough (λ text given. ReadsFirst says text given r0 (reader t)) answers is_done (state s) (state t) unread left before after
+          → AnswersEnough (λ _ text given. ReadsFirst says text given r0 (reader t)) answers is_done (state s) (state t) unread left before after
       entries_enough =
           list_enough state answers is_done Turn Taken Whole at_line at_end s (none_taken s zero same) t unread left before after
-          (λ text given. ReadsFirst says text given r0 (reader t)) (λ text first more given. begins text first more given t) (λ text given. ends text given t)
+          (λ _ text given. ReadsFirst says text given r0 (reader t)) (λ text first more given. begins text first more given t) (λ text given at_end. ends text given t)
 
-    module _ {L E : Type 0} (refuses_line : List ℕ → L → Type 0) (refuses : A → Tree → E → Type 0) where
+    module _ {L E : Type 0} (refuses_line : R → List ℕ → L → Type 0) (refuses : A → Tree → E → Type 0) where
       abbrev Refuses : S → Option (List ℕ) → ListRefusal (EntryFault L) E → Type 0
-      Refuses u turn e = RefusesTurn refuses_line refuses (number u + 1) (state u) turn e
+      Refuses u turn e = RefusesTurn refuses_line refuses (number u + 1) (reader u) (state u) turn e
 
       line_fault : (text : List ℕ) (first : List (List ℕ)) (line : List ℕ) (more : List (List ℕ)) (given : List Tree) (t : S) (e : EntryFault L) → lines text ≡ first ++ line ∷ more
           → Taken first given t → Refuses t (Some line) (Line e) → IsFaultOf says refuses_line r0 text e
@@ -131,8 +131,8 @@ module _ {S A R : Type 0} (number : S → ℕ) (reader : S → R) (state : S →
       end_fault text t (fault.Line at e) why = absurd why
 
       pub entries_part : (unread left before after : Option (List ℕ)) (fault : StreamFault (ListRefusal (EntryFault L) E)) → streamed.AnswersPart Asks Refuses s unread left before after fault
-          → AnswersPart (λ text given. (q : R) × ReadsFirst says text given r0 q) (IsFaultOf says refuses_line r0) answers is_done refuses (state s) unread left before after fault
+          → AnswersPart (λ _ text given. (q : R) × ReadsFirst says text given r0 q) (IsFaultOf says refuses_line r0) answers is_done refuses (state s) unread left before after fault
       entries_part =
-          list_part state answers is_done Turn Taken Whole at_line at_end s (none_taken s zero same) (λ text given. (q : R) × ReadsFirst says text given r0 q)
-          (λ text first more given t parts taken. (reader t, begins text first more given t parts taken)) (λ text given t whole. (reader t, ends text given t whole))
+          list_part state answers is_done Turn Taken Whole at_line at_end s (none_taken s zero same) (λ _ text given. (q : R) × ReadsFirst says text given r0 q)
+          (λ left text first more given t parts taken. (reader t, begins text first more given t parts taken)) (λ left text given t at_end whole. (reader t, ends text given t whole))
           (IsFaultOf says refuses_line r0) refuses Refuses line_fault end_fault (λ turn t e why. why)

@@ -1,6 +1,7 @@
 -- How the entries of an input are answered.
-use Rattle.std.proofs.Common.{◌≡◌, ◌⊎◌, inl, inr, ℕ, ◌+◌, ◌<◌, Any, Bool, false, List, [], ◌∷◌, ◌++◌, Option, None, Some, length, length-append, sym, subst, ap, ◌∙◌, arith}
+use Rattle.std.proofs.Common.{◌≡◌, inl, inr, ℕ, Any, Bool, false, List, [], ◌∷◌, ◌++◌, Option, None, Some, length, length-append, sym, ap, ◌∙◌, arith}
 use Rattle.std.proofs.Math.Seq.{get_or-append_seam}
+use Rattle.std.specs.Io.KnownBytes.{IsAtEnd}
 use Rattle.std.specs.Str.{IsUtf8}
 use Rattle.std.specs.Str.Lines.{lines}
 use Rattle.hayagriva.specs.Tree.{Tree}
@@ -9,10 +10,11 @@ use Rattle.haya_stream.specs.Streamed as streamed
 use Rattle.haya_stream.specs.Turns.{turns_in}
 use Rattle.haya_stream.specs.declared.fault.StreamFault.{StreamFault}
 use Rattle.haya_stream.specs.declared.fault.StreamFault.TheVariants.{CannotRead, CannotWrite, NotText, OutOfMemory, Refused}
+use Rattle.haya_stream.proofs.Ended.{enough_ended, part_ended}
 use Rattle.haya_list.specs.Listed.{AnswersEnough, AnswersList, AnswersPart, Why, entries_of}
 use Rattle.haya_list.specs.declared.fault.ListRefusal.{ListRefusal}
 use Rattle.haya_list.specs.declared.fault.ListRefusal.TheVariants.{Line, Entry}
-use Rattle.haya_list.proofs.Lists.{Asked, Begins, Ends, Reaches, Replied, go}
+use Rattle.haya_list.proofs.Lists.{Asked, Reaches, Replied, go}
 
 some_between : {X : Type 0} (P : X → Type 0) (xs : List X) (y : X) (ys : List X) → P y → Any P (xs ++ y ∷ ys)
 some_between P xs y ys holds = (length xs, y, (rw (length-append xs (y ∷ ys)) (omega arith)), get_or-append_seam xs y ys y, holds)
@@ -67,29 +69,32 @@ module _ {S A : Type 0} (state : S → A) (answers : A → Tree → List ℕ →
         all (inl b) = absurd (no_turn b.more b.left)
         all {given} (inr e) = is_list a.text given e.whole
 
-    pub list_enough : (BeginsList : List ℕ → List Tree → Type 0)
-        → ((text : List ℕ) (first more : List (List ℕ)) (given : List Tree) → lines text ≡ first ++ more → Taken first given t → BeginsList text given)
-        → ((text : List ℕ) (given : List Tree) → Whole (lines text) given t → BeginsList text given)
+    pub list_enough : (BeginsList : Option (List ℕ) → List ℕ → List Tree → Type 0)
+        → ((text : List ℕ) (first more : List (List ℕ)) (given : List Tree) → lines text ≡ first ++ more → Taken first given t → BeginsList left text given)
+        → ((text : List ℕ) (given : List Tree) → IsAtEnd left → Whole (lines text) given t → BeginsList left text given)
         → streamed.AnswersEnough Asks (λ u. is_done (state u)) s t unread left before after → AnswersEnough BeginsList answers is_done (state s) (state t) unread left before after
     list_enough BeginsList begins ends a =
-        let r = replied a.text a.later t a.printed a.first in
+        let e = enough_ended Asks (λ u. is_done (state u)) s t unread left before after a in
+        let r = replied e.0 e.2 t a.printed e.3 in
         record {
           text = a.text;
+          part = e.0;
           replies = r.replies;
           read = a.read;
-          list = begun r.holds;
+          of_text = e.1;
+          list = begun e.0 e.2 e.4 r.holds;
           run = r.run;
           enough = a.enough;
           prints = rw (← r.prints) a.prints;
         }
       where
-        begun : {given : List Tree} → Reached a.text a.later given t → BeginsList a.text given
-        begun {given} (inl b) = begins a.text b.first b.more given b.parts b.taken
-        begun {given} (inr e) = ends a.text given e.whole
+        begun : (part : List ℕ) (later : List (Option (List ℕ))) → (later ≡ [] → IsAtEnd left) → {given : List Tree} → Reached part later given t → BeginsList left part given
+        begun part later at_end {given} (inl b) = begins part b.first b.more given b.parts b.taken
+        begun part later at_end {given} (inr e) = ends part given (at_end e.left) e.whole
 
-  module _ {L E : Type 0} (BeginsList : List ℕ → List Tree → Type 0)
-      (begins : (text : List ℕ) (first more : List (List ℕ)) (given : List Tree) (t : S) → lines text ≡ first ++ more → Taken first given t → BeginsList text given)
-      (ends : (text : List ℕ) (given : List Tree) (t : S) → Whole (lines text) given t → BeginsList text given)
+  module _ {L E : Type 0} (BeginsList : Option (List ℕ) → List ℕ → List Tree → Type 0)
+      (begins : (left : Option (List ℕ)) (text : List ℕ) (first more : List (List ℕ)) (given : List Tree) (t : S) → lines text ≡ first ++ more → Taken first given t → BeginsList left text given)
+      (ends : (left : Option (List ℕ)) (text : List ℕ) (given : List Tree) (t : S) → IsAtEnd left → Whole (lines text) given t → BeginsList left text given)
       (IsFault : List ℕ → L → Type 0) (refuses : A → Tree → E → Type 0) (Refuses : S → Option (List ℕ) → ListRefusal L E → Type 0)
       (line_fault : (text : List ℕ) (first : List (List ℕ)) (line : List ℕ) (more : List (List ℕ)) (given : List Tree) (t : S) (e : L) → lines text ≡ first ++ line ∷ more → Taken first given t
       → Refuses t (Some line) (Line e) → IsFault text e)
@@ -98,9 +103,9 @@ module _ {S A : Type 0} (state : S → A) (answers : A → Tree → List ℕ →
     abbrev WhyIn : S → List ℕ → List ℕ → StreamFault (ListRefusal L E) → Type 0
     WhyIn t text unwritten fault = Why IsFault (λ e. (entry : Tree) × refuses (state t) entry e) text unwritten fault
 
-    begun : (text : List ℕ) (later : List (Option (List ℕ))) (given : List Tree) (t : S) → Reached text later given t → BeginsList text given
-    begun text later given t (inl b) = begins text b.first b.more given t b.parts b.taken
-    begun text later given t (inr e) = ends text given t e.whole
+    begun : (left : Option (List ℕ)) (text : List ℕ) (later : List (Option (List ℕ))) (given : List Tree) (t : S) → (later ≡ [] → IsAtEnd left) → Reached text later given t → BeginsList left text given
+    begun left text later given t at_end (inl b) = begins left text b.first b.more given t b.parts b.taken
+    begun left text later given t at_end (inr e) = ends left text given t (at_end e.left) e.whole
 
     -- the line whose turn is next isn't text
     not_text : (text : List ℕ) (turn : Option (List ℕ)) (later : List (Option (List ℕ))) (given : List Tree) (t : S) → Reached text (turn ∷ later) given t → ¬ stream.IsText turn
@@ -132,18 +137,21 @@ module _ {S A : Type 0} (state : S → A) (answers : A → Tree → List ℕ →
     pub list_part : (unread left before after : Option (List ℕ)) (fault : StreamFault (ListRefusal L E)) → streamed.AnswersPart Asks Refuses s unread left before after fault
         → AnswersPart BeginsList IsFault answers is_done refuses (state s) unread left before after fault
     list_part unread left before after fault a =
-        let w = a.writes in
-        let r = replied a.text w.later w.last (w.written ++ w.unwritten) w.first in
+        let p = part_ended Asks Refuses s unread left before after fault a in
+        let w = p.2 in
+        let r = replied p.0 w.later w.last (w.written ++ w.unwritten) w.first in
         record {
           text = a.text;
+          part = p.0;
           replies = r.replies;
           last = state w.last;
           written = w.written;
           unwritten = w.unwritten;
           read = a.read;
-          list = begun a.text w.later (entries_of r.replies) w.last r.holds;
+          of_text = p.1;
+          list = begun left p.0 w.later (entries_of r.replies) w.last p.3 r.holds;
           run = r.run;
           parts = sym r.prints;
-          why = why_part a.text w.later w.last (entries_of r.replies) w.unwritten fault r.holds w.why;
+          why = why_part p.0 w.later w.last (entries_of r.replies) w.unwritten fault r.holds w.why;
           prints = w.prints;
         }

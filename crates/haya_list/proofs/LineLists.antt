@@ -1,6 +1,7 @@
 -- The entries of a text in lines, turn by turn.
-use Rattle.std.proofs.Common.{◌≡◌, ◌⊎◌, inl, inr, ℕ, ◌+◌, Bool, false, List, [], ◌∷◌, ◌++◌, Option, None, Some, Ok, length, length-append, sym, ◌∙◌, ap, subst, arith}
+use Rattle.std.proofs.Common.{◌≡◌, inl, inr, ℕ, ◌+◌, Bool, false, List, [], ◌∷◌, ◌++◌, Option, None, Some, Ok, length, length-append, arith}
 use Rattle.std.specs.Prelude.{option_to_list}
+use Rattle.std.specs.Io.KnownBytes.{IsAtEnd}
 use Rattle.std.specs.Str.Lines.{lines}
 use Rattle.hayagriva.specs.Tree.{Tree, trees}
 use Rattle.haya_input.specs.Chain as chain
@@ -14,7 +15,7 @@ use Rattle.haya_stream.specs.declared.fault.StreamFault.{StreamFault}
 use Rattle.haya_list.specs.Listed.{AnswersEnough, AnswersList, AnswersPart}
 use Rattle.haya_list.specs.Lines.{AnswersClosed, AnswersTurn, BeginsList, IsFaultOf, IsListOf, RefusesTurn}
 use Rattle.haya_list.specs.declared.fault.ListRefusal.{ListRefusal}
-use Rattle.haya_list.specs.declared.fault.ListRefusal.TheVariants.{Entry, Line}
+use Rattle.haya_list.specs.declared.fault.ListRefusal.TheVariants.{Line}
 use Rattle.haya_list.proofs.Inputs.{list_all, list_enough, list_part}
 use Rattle.haya_list.proofs.Lists.{Replied, no_reply, one_reply}
 
@@ -54,11 +55,11 @@ module _ {S A : Type 0} (number : S → ℕ) (opened : S → Opened) (state : S 
       closes (opened t).closed (state s) (state t) printed (λ closed. Whole before (given ++ closed) t) more turn.1.closed
       (Taken-end before given (opened s).chain taken.taken (opened t) turn.1.takes)
 
-  begins : (text : List ℕ) (first more : List (List ℕ)) (given : List Tree) (t : S) → lines text ≡ first ++ more → Taken first given t → BeginsList text given
-  begins text first more given t parts taken = inl (record { first = first; more = more; open_entries = (opened t).chain; parts = parts; taken = taken.taken })
+  begins : (left : Option (List ℕ)) (text : List ℕ) (first more : List (List ℕ)) (given : List Tree) (t : S) → lines text ≡ first ++ more → Taken first given t → BeginsList left text given
+  begins left text first more given t parts taken = inl (record { first = first; more = more; open_entries = (opened t).chain; parts = parts; taken = taken.taken })
 
-  ends : (text : List ℕ) (given : List Tree) (t : S) → Whole (lines text) given t → BeginsList text given
-  ends text given t whole = inr whole
+  ends : (left : Option (List ℕ)) (text : List ℕ) (given : List Tree) (t : S) → IsAtEnd left → Whole (lines text) given t → BeginsList left text given
+  ends left text given t at_end whole = inr (at_end, whole)
 
   abbrev Asks : S → Option (List ℕ) → List ℕ → S → Type 0
   Asks = stream.Asked (λ s. is_done (state s)) Turn
@@ -73,7 +74,7 @@ module _ {S A : Type 0} (number : S → ℕ) (opened : S → Opened) (state : S 
           → AnswersEnough BeginsList answers is_done (state s) (state t) unread left before after
       lines_enough =
           list_enough state answers is_done Turn Taken Whole at_line at_end s (none_taken s zero none) t unread left before after BeginsList
-          (λ text first more given. begins text first more given t) (λ text given. ends text given t)
+          (λ text first more given. begins left text first more given t) (λ text given. ends left text given t)
 
     module _ {E : Type 0} (refuses : A → Tree → E → Type 0) where
       abbrev Refuses : S → Option (List ℕ) → ListRefusal InputFault E → Type 0

@@ -1,16 +1,13 @@
 -- The entries of a text of which each line says one.
-use Rattle.std.specs.Prelude.{◌≡◌, ◌≢◌, ◌==◌, ℕ, ◌+◌, MatchBool, List, [], ◌∷◌, ◌++◌, Option, None, Some, filter, length, map, not}
+use Rattle.std.specs.Prelude.{◌≡◌, ◌≢◌, ◌==◌, ℕ, ◌+◌, MatchBool, List, [], ◌∷◌, ◌++◌, Option, None, Some, length, map}
 use Rattle.std.specs.List.{FoldsTo}
 use Rattle.std.specs.Str.Lines.{lines}
 use Rattle.hayagriva.specs.Tree.{Tree}
+use Rattle.haya_elements.specs.Elements.{filled}
 use Rattle.haya_list.specs.declared.fault.EntryFault.{EntryFault}
 use Rattle.haya_list.specs.declared.fault.EntryFault.TheVariants as fault
 use Rattle.haya_list.specs.declared.fault.ListRefusal.{ListRefusal}
 use Rattle.haya_list.specs.declared.fault.ListRefusal.TheVariants.{Entry, Line}
-
--- the lines that aren't empty
-abbrev pub filled : List (List ℕ) → List (List ℕ)
-filled ls = filter (λ line. not (length line == 0)) ls
 
 -- a reader reads these entries from lines, one from each that isn't empty
 pub record ReadsLines {R : Type 0} (says : R → List ℕ → Tree → R → Type 0)
@@ -28,9 +25,9 @@ pub record ReadsFirst {R : Type 0} (says : R → List ℕ → Tree → R → Typ
   pub parts : lines text ≡ first ++ more
   pub reads : ReadsLines says first entries before after
 
--- the first line that says no entry, its number and why
+-- the first line that says no entry, its number, and why the reader refuses it there
 pub record FirstFault {R E : Type 0} (says : R → List ℕ → Tree → R → Type 0)
-    (refuses : List ℕ → E → Type 0) (before : R) (text : List ℕ) (number : ℕ) (e : E)
+    (refuses : R → List ℕ → E → Type 0) (before : R) (text : List ℕ) (number : ℕ) (e : E)
     : Type 0 where
   pub first : List (List ℕ)
   pub line : List ℕ
@@ -41,11 +38,11 @@ pub record FirstFault {R E : Type 0} (says : R → List ℕ → Tree → R → T
   pub reads : ReadsLines says first entries before after
   pub count : number ≡ length first + 1
   pub some : length line ≢ 0
-  pub why : refuses line e
+  pub why : refuses after line e
 
 -- what a fault says of a text
 abbrev pub IsFaultOf : {R E : Type 0} → (R → List ℕ → Tree → R → Type 0)
-    → (List ℕ → E → Type 0) → R → List ℕ → EntryFault E → Type 0
+    → (R → List ℕ → E → Type 0) → R → List ℕ → EntryFault E → Type 0
 IsFaultOf says refuses before text (fault.Line number e) =
     FirstFault says refuses before text number e
 IsFaultOf says refuses before text fault.TooMany = Unit {0}
@@ -83,7 +80,8 @@ FaultInTurn refuses number turn fault.TooMany = Unit {0}
 abbrev pub RefusesEntry : {S E : Type 0} → (S → Tree → E → Type 0) → S → E → Type 0
 RefusesEntry refuses s e = (entry : Tree) × refuses s entry e
 
-abbrev pub RefusesTurn : {S L E : Type 0} → (List ℕ → L → Type 0) → (S → Tree → E → Type 0) → ℕ
-    → S → Option (List ℕ) → ListRefusal (EntryFault L) E → Type 0
-RefusesTurn refuses_line refuses number s turn (Line e) = FaultInTurn refuses_line number turn e
-RefusesTurn refuses_line refuses number s turn (Entry e) = RefusesEntry refuses s e
+abbrev pub RefusesTurn : {R S L E : Type 0} → (R → List ℕ → L → Type 0)
+    → (S → Tree → E → Type 0) → ℕ → R → S → Option (List ℕ) → ListRefusal (EntryFault L) E → Type 0
+RefusesTurn refuses_line refuses number r s turn (Line e) =
+    FaultInTurn (refuses_line r) number turn e
+RefusesTurn refuses_line refuses number r s turn (Entry e) = RefusesEntry refuses s e

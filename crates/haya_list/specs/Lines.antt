@@ -1,5 +1,6 @@
 -- The entries that a text in lines lists.
 use Rattle.std.specs.Prelude.{◌≡◌, ◌⊎◌, ℕ, List, [], ◌++◌, Option, Some, None, Ok, length}
+use Rattle.std.specs.Io.KnownBytes.{IsAtEnd}
 use Rattle.std.specs.Str.Lines.{lines}
 use Rattle.hayagriva.specs.Tree.{Tree, trees}
 use Rattle.haya_input.specs.Chain.{LastOf, Taken, TakesLine}
@@ -23,9 +24,11 @@ pub record ClosesFirst (text : List ℕ) (entries : List Tree) : Type 0 where
   pub parts : lines text ≡ first ++ more
   pub taken : Taken first entries open_entries
 
--- these are the first entries that a text lists, or all
-abbrev pub BeginsList : List ℕ → List Tree → Type 0
-BeginsList text entries = ClosesFirst text entries ⊎ IsListOf text entries
+-- these are the first entries that a text lists, or all where the input has ended: before that
+-- the entries that are open aren't whole
+abbrev pub BeginsList : Option (List ℕ) → List ℕ → List Tree → Type 0
+BeginsList left text entries =
+    ClosesFirst text entries ⊎ (IsAtEnd left × IsListOf text entries)
 
 -- the fault of the first line that has one, or out of memory
 abbrev pub IsFaultOf : List ℕ → InputFault → Type 0

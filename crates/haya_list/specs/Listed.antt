@@ -5,6 +5,7 @@ use Rattle.std.specs.Io.KnownBytes.{Appends, Consumes, IsAtEnd}
 use Rattle.std.specs.Str.{IsUtf8}
 use Rattle.std.specs.Str.Lines.{lines}
 use Rattle.hayagriva.specs.Tree.{Tree}
+use Rattle.haya_stream.specs.Streamed.{IsEndedPart}
 use Rattle.haya_stream.specs.declared.fault.StreamFault.{StreamFault}
 use Rattle.haya_stream.specs.declared.fault.StreamFault.TheVariants.{CannotRead, CannotWrite, NotText, OutOfMemory, Refused}
 use Rattle.haya_list.specs.declared.fault.ListRefusal.{ListRefusal}
@@ -42,14 +43,18 @@ pub record AnswersList {S : Type 0} (IsList : List ℕ → List Tree → Type 0)
   pub run : Run answers is_done s replies t
   pub prints : Appends before after (printed_of replies)
 
--- a first part of the input is read, and entries that it lists are answered, which are enough
-pub record AnswersEnough {S : Type 0} (BeginsList : List ℕ → List Tree → Type 0)
+-- A first part of the input is read, and entries of those of its lines that have ended are
+-- answered, which are enough. What begins a list may depend on what is left of the input.
+pub record AnswersEnough {S : Type 0}
+    (BeginsList : Option (List ℕ) → List ℕ → List Tree → Type 0)
     (answers : S → Tree → List ℕ → S → Type 0)
     (is_done : S → Bool) (s t : S) (unread left before after : Option (List ℕ)) : Type 0 where
   pub text : List ℕ
+  pub part : List ℕ
   pub replies : Replies
   pub read : Consumes unread left text
-  pub list : BeginsList text (entries_of replies)
+  pub of_text : IsEndedPart left text part
+  pub list : BeginsList left part (entries_of replies)
   pub run : Run answers is_done s replies t
   pub enough : is_done t ≡ true
   pub prints : Appends before after (printed_of replies)
@@ -66,21 +71,24 @@ Why IsFault IsRefusal text unwritten NotText =
     Any (λ line. ¬ IsUtf8 line) (lines text) × (unwritten ≡ [])
 Why IsFault IsRefusal text unwritten OutOfMemory = unwritten ≡ []
 
--- a first part of the input is read, entries that it lists are answered, and there it stops: what
--- is printed of them is written, but where the writer fails
-pub record AnswersPart {S L E : Type 0} (BeginsList : List ℕ → List Tree → Type 0)
+-- a first part of the input is read, entries of those of its lines that have ended are answered,
+-- and there it stops: what is printed of them is written, but where the writer fails
+pub record AnswersPart {S L E : Type 0}
+    (BeginsList : Option (List ℕ) → List ℕ → List Tree → Type 0)
     (IsFault : List ℕ → L → Type 0) (answers : S → Tree → List ℕ → S → Type 0)
     (is_done : S → Bool) (refuses : S → Tree → E → Type 0) (s : S)
     (unread left before after : Option (List ℕ)) (fault : StreamFault (ListRefusal L E))
     : Type 0 where
   pub text : List ℕ
+  pub part : List ℕ
   pub replies : Replies
   pub last : S
   pub written : List ℕ
   pub unwritten : List ℕ
   pub read : Consumes unread left text
-  pub list : BeginsList text (entries_of replies)
+  pub of_text : IsEndedPart left text part
+  pub list : BeginsList left part (entries_of replies)
   pub run : Run answers is_done s replies last
   pub parts : printed_of replies ≡ written ++ unwritten
-  pub why : Why IsFault (λ e. (entry : Tree) × refuses last entry e) text unwritten fault
+  pub why : Why IsFault (λ e. (entry : Tree) × refuses last entry e) part unwritten fault
   pub prints : Appends before after written

@@ -38,12 +38,12 @@ pub fn answer_elements<L: EntryReader + Drop, A: EntryAnswerer + Drop, R: Read, 
         A.answers A.is_done answerer done.0 (R.remaining input.old)
         (R.remaining input.new) (W.contents out.old) (W.contents out.new)
         ⊎ (left : Option (List ℕ))
-        × AnswersEnough (λ part entries. ReadsFirst L.says part entries reader done.1)
+        × AnswersEnough (λ _ part entries. ReadsFirst L.says part entries reader done.1)
         A.answers A.is_done answerer done.0 (Some (element_lines brackets text)) left
         (W.contents out.old) (W.contents out.new)) }
     ensures part { (text : List ℕ) → R.remaining input.old ≡ Some text → IfErr result (λ fault.
         (left : Option (List ℕ)) × AnswersPart
-        (λ part entries. (after : L) × ReadsFirst L.says part entries reader after)
+        (λ _ part entries. (after : L) × ReadsFirst L.says part entries reader after)
         (IsFaultOf L.says L.refuses reader) A.answers A.is_done A.refuses answerer
         (Some (element_lines brackets text)) left
         (W.contents out.old) (W.contents out.new) fault) }
@@ -72,12 +72,12 @@ fn answer_lent<K: Loan, L: EntryReader + Drop, A: EntryAnswerer + Drop, R: Read,
         AnswersList (λ part entries. ReadsLines L.says (lines part) entries reader done.1)
         A.answers A.is_done answerer done.0 (Some text) (lines_left R.remaining elements.new)
         (W.contents out.old) (W.contents out.new)
-        ⊎ AnswersEnough (λ part entries. ReadsFirst L.says part entries reader done.1)
+        ⊎ AnswersEnough (λ _ part entries. ReadsFirst L.says part entries reader done.1)
         A.answers A.is_done answerer done.0 (Some text) (lines_left R.remaining elements.new)
         (W.contents out.old) (W.contents out.new)) }
     ensures part { (text : List ℕ) → lines_left R.remaining elements.old ≡ Some text
         → IfErr result (AnswersPart
-        (λ part entries. (after : L) × ReadsFirst L.says part entries reader after)
+        (λ _ part entries. (after : L) × ReadsFirst L.says part entries reader after)
         (IsFaultOf L.says L.refuses reader) A.answers A.is_done A.refuses answerer
         (Some text) (lines_left R.remaining elements.new)
         (W.contents out.old) (W.contents out.new)) }

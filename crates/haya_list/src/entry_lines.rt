@@ -30,11 +30,11 @@ pub fn answer_entry_lines<L: EntryReader + Drop, A: EntryAnswerer + Drop, R: Rea
         AnswersList (λ text entries. ReadsLines L.says (lines text) entries reader done.1)
         A.answers A.is_done answerer done.0 (R.remaining input.old)
         (R.remaining input.new) (W.contents out.old) (W.contents out.new)
-        ⊎ AnswersEnough (λ text entries. ReadsFirst L.says text entries reader done.1)
+        ⊎ AnswersEnough (λ _ text entries. ReadsFirst L.says text entries reader done.1)
         A.answers A.is_done answerer done.0 (R.remaining input.old)
         (R.remaining input.new) (W.contents out.old) (W.contents out.new)) }
     ensures part { IfErr result (AnswersPart
-        (λ text entries. (after : L) × ReadsFirst L.says text entries reader after)
+        (λ _ text entries. (after : L) × ReadsFirst L.says text entries reader after)
         (IsFaultOf L.says L.refuses reader) A.answers A.is_done A.refuses answerer
         (R.remaining input.old) (R.remaining input.new) (W.contents out.old) (W.contents out.new)) }
 {
@@ -106,7 +106,7 @@ impl<L: EntryReader, A: EntryAnswerer> Answerer for EntryLineList<L, A> {
         s.number s.reader s.answerer turn printed t.number t.reader t.answerer };
 
     ghost refuses = { λ s turn e.
-        RefusesTurn L.refuses A.refuses (s.number + 1) s.answerer turn e };
+        RefusesTurn L.refuses A.refuses (s.number + 1) s.reader s.answerer turn e };
 
     ghost is_done = { λ s. A.is_done s.answerer };
 

@@ -11,11 +11,11 @@ pub trait EntryReader {
 
     // Which entry a line says, and the state that this leaves.
     ghost says: { Self → List ℕ → Tree → Self → Type 0 };
-    // What an error says of a line.
-    ghost refuses: { List ℕ → Self.Error → Type 0 };
+    // What an error says of the line that is read in a state.
+    ghost refuses: { Self → List ℕ → Self.Error → Type 0 };
 
     /// The entry that a line says, which isn't empty and is given without its line feed.
     fn read(&mut self, line: &str) -> Result<Entry, Self::Error>
         ensures says { IfOk result (λ entry. says self.old line.now (view entry) self.new) }
-        ensures refuses { IfErr result (refuses line.now) };
+        ensures refuses { IfErr result (refuses self.old line.now) };
 }
