@@ -1,20 +1,19 @@
--- The items of a text, an item a line.
-use Rattle.std.specs.Prelude.{◌≡◌, ℕ, List, [], Option, flat_map, Ok, Result}
+-- The entries that a text lists, an item a line.
+use Rattle.std.specs.Prelude.{◌≡◌, ℕ, List, [], ◌∷◌, Option, Some, flat_map, Ok, Result, ⊤}
 use Rattle.std.specs.List.{AllZip}
 use Rattle.std.specs.Option.{option_map_or}
-use Rattle.json.specs.Json.{Json}
+use Rattle.std.specs.Str.Lines.{lines}
+use Rattle.json.specs.Json.{Items, Json, array, document, item, no_items}
 use Rattle.json.specs.Lex.{tokens}
-use Rattle.json.specs.Strict.{HasUniqueKeys}
-use Rattle.haya_elements.specs.Elements.{IsItem, elements}
+use Rattle.json.specs.Strict.{HasUniqueKeys, ItemsHaveUniqueKeys}
+use Rattle.haya_elements.specs.Elements.{IsItem, element_lines, elements, filled}
 use Rattle.haya_elements.specs.declared.place.Brackets.TheVariants.{Square}
 use Rattle.haya_entry.specs.Tree.{Tree}
 use Rattle.haya_json.specs.Alone.{value_alone}
-use Rattle.haya_json.specs.Ignored.{counts_of}
 use Rattle.haya_json.specs.Libraries.{IsErrorOfJson}
 use Rattle.haya_json.specs.Refusal.{Refusal, to_item, within}
-use Rattle.haya_json.specs.Tally.{tally}
+use Rattle.haya_json.specs.Tally.{Counts, tally}
 use Rattle.haya_json.specs.declared.error.ReadError.{ReadError}
-use Rattle.haya_json.specs.declared.ignored.Ignored.{Ignored}
 use Rattle.haya_csl.specs.Ignored.{item_passed_over}
 use Rattle.haya_csl.specs.Items.{item_of}
 
@@ -44,13 +43,31 @@ IsItemLineErrorOf place line error = IsErrorOfJson (item_at place) (item_in line
 abbrev pub line_passed_over : List ℕ → List (List ℕ)
 line_passed_over line = option_map_or item_passed_over (item_in line) []
 
+-- ---- lines
+
+-- the names of the members that are passed over of the items of lines
+abbrev pub lines_passed_over : List (List ℕ) → List (List ℕ)
+lines_passed_over ls = flat_map line_passed_over (filled ls)
+
 -- ---- a text
 
--- the entries that a text lists, in order, repeated keys and all: each item of its array says one
-abbrev pub IsListOf : List ℕ → List Tree → Type 0
-IsListOf text entries = AllZip IsItemLineOf (elements Square text) entries
+-- The items of a text, each on a line of its own, say these entries, in order, repeated keys and
+-- all. What is passed over of them comes to these counts.
+pub record LinesList (text : List ℕ) (entries : List Tree) (counts : Counts) : Type 0 where
+  pub each : AllZip IsItemLineOf (elements Square text) entries
+  pub of_passed_over : counts ≡ tally (lines_passed_over (lines (element_lines Square text)))
 
--- what is passed over of the items of a text
-abbrev pub IsPassedOver : List ℕ → Ignored → Type 0
-IsPassedOver text ignored =
-    counts_of ignored ≡ tally (flat_map line_passed_over (elements Square text))
+-- each item says an entry, as if it were the first
+abbrev pub ItemsSay : Items → List Tree → Type 0
+ItemsSay no_items [] = ⊤
+ItemsSay no_items (t ∷ ts) = ⊥
+ItemsSay (item j js) [] = ⊥
+ItemsSay (item j js) (t ∷ ts) = (item_of [] j ≡ Ok t) × ItemsSay js ts
+
+-- The text is an array in JSON. No object in an item of it has a name twice, and its items say
+-- these entries, in order, repeated keys and all.
+pub record Lists (text : List ℕ) (entries : List Tree) : Type 0 where
+  pub items : Items
+  pub parsed : document text ≡ Some (array items)
+  pub unique : ItemsHaveUniqueKeys items
+  pub read : ItemsSay items entries

@@ -5,10 +5,11 @@ use Rattle.std.specs.List.{AllZip, list_any}
 use Rattle.std.specs.Str.Lines.{lines}
 use Rattle.std.proofs.lemmas.List.Elements.{All-filter, All-head, All-tail}
 use Rattle.json.specs.Json.{Json}
+use Rattle.haya_elements.specs.Elements.{filled}
 use Rattle.haya_entry.specs.Tree.{Tree}
 use Rattle.hayagriva.specs.Library.{has_key, key_of, push, with_replacement}
 use Rattle.haya_json.specs.Entries.{entry_of}
-use Rattle.haya_json.specs.JsonLines.{Describes, IsLineOf, IsListOf, entry_in, filled}
+use Rattle.haya_json.specs.JsonLines.{Describes, IsLineOf, IsListOf, entry_in}
 use Rattle.haya_json.specs.Parts.{needed, plain_of}
 use Rattle.haya_json.specs.Readable.{EntriesAreReadable, TreeIsReadable}
 use Rattle.haya_json.proofs.EntriesRead.{EntriesWereRead, TreeWasRead, entries_readable, entry_read}

@@ -6,10 +6,11 @@ use Rattle.std.proofs.lemmas.List.{drop_more, length-take-le, take-append-drop, 
 use Rattle.std.proofs.lemmas.List.Elements.{filter-append}
 use Rattle.std.proofs.lemmas.List.Sums.{fold-append}
 use Rattle.std.proofs.lemmas.Grind.{flat_map-append}
+use Rattle.haya_elements.specs.Elements.{filled}
 use Rattle.haya_entry.specs.Tree.{Tree}
 use Rattle.hayagriva.specs.Library.{from_entries, push}
 use Rattle.hayagriva.proofs.Parts.{AllZip-append}
-use Rattle.haya_json.specs.JsonLines.{AreEntriesOf, Describes, ErrorInLine, FirstError, IsLineOf, PushesLine, filled, line_passed_over, lines_passed_over}
+use Rattle.haya_json.specs.JsonLines.{AreEntriesOf, Describes, ErrorInLine, FirstError, IsLineOf, PushesLine, line_passed_over, lines_passed_over}
 use Rattle.haya_json.specs.Tally.{Counts, all_counted, tally}
 use Rattle.haya_json.specs.declared.error.ReadError.{ReadError}
 use Rattle.haya_json.proofs.Tallies.{counted_from_none, counted_together}

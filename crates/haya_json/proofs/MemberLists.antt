@@ -1,20 +1,21 @@
--- What a text whose members are on lines of their own says as a library.
-use Rattle.std.proofs.Common.{◌≡◌, ◌≢◌, ℕ, List, [], ◌∷◌, None, Some, Ok, flat_map, refl, ap, ◌∙◌, subst, append-nil}
+-- The library of the entries that a text lists, a member a line.
+use Rattle.std.proofs.Common.{◌≡◌, ◌≢◌, ℕ, List, [], ◌∷◌, None, Some, Ok, flat_map, refl, sym, ap, ◌∙◌, subst, append-nil}
 use Rattle.std.specs.List.{AllPairs, AllZip}
 use Rattle.json.specs.Json as json
 use Rattle.json.specs.Json.{Json, Members, document, object}
 use Rattle.json.specs.Strict.{HasUniqueKeys, MembersHaveUniqueKeys}
 use Rattle.haya_elements.specs.Elements.{AreMembers, elements}
 use Rattle.haya_elements.specs.declared.place.Brackets.TheVariants.{Curly}
+use Rattle.haya_elements.proofs.Complete.{members-of-object}
+use Rattle.haya_elements.proofs.Documents.{document_of_members}
 use Rattle.haya_entry.specs.Tree.{Tree}
 use Rattle.hayagriva.specs.Library.{AreDistinct}
 use Rattle.haya_json.specs.Entries.{entry_of}
-use Rattle.haya_json.specs.Ignored as whole
-use Rattle.haya_json.specs.Ignored.{entries_passed_over}
+use Rattle.haya_json.specs.Ignored.{IsPassedOver, counts_of, entries_passed_over}
 use Rattle.haya_json.specs.Libraries.{Describes, entries_of, library_of}
-use Rattle.haya_json.specs.MemberLines.{IsListOf, IsMemberLineOf, IsPassedOver, line_passed_over}
+use Rattle.haya_json.specs.MemberLines.{IsMemberLineOf, LinesList, Lists, line_passed_over}
 use Rattle.haya_json.specs.Refusal.{to_member, within}
-use Rattle.haya_json.specs.Tally.{tally}
+use Rattle.haya_json.specs.Tally.{Counts, tally}
 use Rattle.haya_json.specs.declared.ignored.Ignored.{Ignored}
 use Rattle.haya_json.proofs.InOrder.{distinct_keys, keys_of_entries}
 use Rattle.haya_json.proofs.OneMember.{member_of_line, one_member}
@@ -23,7 +24,7 @@ use Rattle.haya_json.proofs.TextsRead.{both_ok, ok_same, within_ok}
 -- ---- the members of lines
 
 -- lines that say entries are members
-pub members_of_lines : (ls : List (List ℕ)) (entries : List Tree) → AllZip IsMemberLineOf ls entries → (ms : Members) × AreMembers ls ms
+members_of_lines : (ls : List (List ℕ)) (entries : List Tree) → AllZip IsMemberLineOf ls entries → (ms : Members) × AreMembers ls ms
 members_of_lines [] [] listed = (json.no_members, tt)
 members_of_lines [] (t ∷ ts) listed = absurd listed
 members_of_lines (l ∷ ls) [] listed = absurd listed
@@ -34,7 +35,7 @@ members_of_lines (l ∷ ls) (t ∷ ts) listed =
 
 -- the entries of the members are those that the lines say, and no object in their values has a name
 -- twice
-pub entries_of_lines : (ls : List (List ℕ)) (ms : Members) (entries : List Tree) → AreMembers ls ms → AllZip IsMemberLineOf ls entries
+entries_of_lines : (ls : List (List ℕ)) (ms : Members) (entries : List Tree) → AreMembers ls ms → AllZip IsMemberLineOf ls entries
     → MembersHaveUniqueKeys ms × (entries_of ms ≡ Ok entries)
 entries_of_lines [] json.no_members [] are listed = (tt, refl)
 entries_of_lines [] json.no_members (t ∷ ts) are listed = absurd listed
@@ -60,7 +61,7 @@ lines_of_entries (l ∷ ls) (json.member k j ms) ts are unique read =
     subst (AllZip IsMemberLineOf (l ∷ ls)) (ok_same more.then) (here, lines_of_entries ls ms more.value are.1 unique.1 more.first)
 
 -- what is passed over of lines is what is passed over of their members
-pub passed_over_of_lines : (ls : List (List ℕ)) (ms : Members) → AreMembers ls ms → flat_map line_passed_over ls ≡ entries_passed_over ms
+passed_over_of_lines : (ls : List (List ℕ)) (ms : Members) → AreMembers ls ms → flat_map line_passed_over ls ≡ entries_passed_over ms
 passed_over_of_lines [] json.no_members are = refl
 passed_over_of_lines [] (json.member k j ms) are = absurd are
 passed_over_of_lines (l ∷ ls) json.no_members are = absurd are
@@ -70,34 +71,60 @@ passed_over_of_lines (l ∷ ls) (json.member k j ms) are =
 
 -- ---- a text
 
-module _ (sound : (text : List ℕ) (ms : Members) → AreMembers (elements Curly text) ms → document text ≡ Some (object ms)) where
-  -- where no key comes twice, a text that lists entries describes the library of them
-  pub list_described : (text : List ℕ) (entries : List Tree) → IsListOf text entries → AreDistinct entries → Describes text entries
-  list_described text entries listed distinct =
-      let ms = members_of_lines (elements Curly text) entries listed in
-      let said = entries_of_lines (elements Curly text) ms.0 entries ms.1 listed in
-      record {
-        value = object ms.0;
-        parsed = sound text ms.0 ms.1;
-        unique = (subst (AllPairs (λ a b. a ≢ b)) (keys_of_entries ms.0 entries said.1) distinct, said.0);
-        read = said.1;
-      }
+-- the lines of a text that is an object are its members
+record IsObjectOf (text : List ℕ) (ms : Members) : Type 0 where
+  are : AreMembers (elements Curly text) ms
+  parsed : document text ≡ Some (object ms)
 
-  -- and what is passed over of its lines is what is passed over of the library
-  pub passed_over_described : (text : List ℕ) (entries : List Tree) (ignored : Ignored) → IsListOf text entries → IsPassedOver text ignored → whole.IsPassedOver text ignored
-  passed_over_described text entries ignored listed counted =
-      let ms = members_of_lines (elements Curly text) entries listed in
-      rw (sound text ms.0 ms.1) (counted ∙ ap tally (passed_over_of_lines (elements Curly text) ms.0 ms.1))
+object_of_lines : (text : List ℕ) (entries : List Tree) (counts : Counts) → LinesList text entries counts → (ms : Members) × IsObjectOf text ms
+object_of_lines text entries counts lines =
+    let ms = members_of_lines (elements Curly text) entries lines.each in
+    (ms.0, record { are = ms.1; parsed = document_of_members text ms.0 ms.1 })
+
+-- a text lists what its lines do
+pub list_of_lines : (text : List ℕ) (entries : List Tree) (counts : Counts) → LinesList text entries counts → Lists text entries
+list_of_lines text entries counts lines =
+    let whole = object_of_lines text entries counts lines in
+    let said = entries_of_lines (elements Curly text) whole.0 entries whole.1.are lines.each in
+    record { members = whole.0; parsed = whole.1.parsed; unique = said.0; read = said.1 }
+
+-- what is passed over of the lines is what is passed over of the whole
+pub ignored_of_lines : (text : List ℕ) (entries : List Tree) (ignored : Ignored) → LinesList text entries (counts_of ignored) → IsPassedOver text ignored
+ignored_of_lines text entries ignored lines =
+    let whole = object_of_lines text entries (counts_of ignored) lines in
+    rw whole.1.parsed (lines.of_passed_over ∙ ap tally (passed_over_of_lines (elements Curly text) whole.0 whole.1.are))
+
+-- the other way, the lines of a text list what it does, and pass over what it does
+pub lines_of_list : (text : List ℕ) (entries : List Tree) (ignored : Ignored) → Lists text entries → IsPassedOver text ignored → LinesList text entries (counts_of ignored)
+lines_of_list text entries ignored list counted =
+    let are = members-of-object text list.members list.parsed in
+    let of_members : counts_of ignored ≡ tally (entries_passed_over list.members) = rw list.parsed at counted in
+    record {
+      each = lines_of_entries (elements Curly text) list.members entries are list.unique list.read;
+      of_passed_over = of_members ∙ ap tally (sym (passed_over_of_lines (elements Curly text) list.members are));
+    }
+
+-- where no key comes twice, a text that lists entries describes the library of them
+pub library_of_list : (text : List ℕ) (entries : List Tree) → Lists text entries → AreDistinct entries → Describes text entries
+library_of_list text entries list distinct = record {
+  value = object list.members;
+  parsed = list.parsed;
+  unique = (subst (AllPairs (λ a b. a ≢ b)) (keys_of_entries list.members entries list.read) distinct, list.unique);
+  read = list.read;
+}
 
 -- the other way, a text that describes a library lists its entries
-pub described_listed : ((text : List ℕ) (ms : Members) → document text ≡ Some (object ms) → AreMembers (elements Curly text) ms)
-    → (text : List ℕ) (library : List Tree) → Describes text library → IsListOf text library × AreDistinct library
-described_listed complete text library d = (by d.value d.parsed d.unique d.read, distinct_keys d.value library d.unique d.read)
+pub list_of_library : (text : List ℕ) (library : List Tree) → Describes text library → Lists text library
+list_of_library text library d = by d.value d.parsed d.unique d.read
   where
-    by : (j : Json) → document text ≡ Some j → HasUniqueKeys j → library_of j ≡ Ok library → IsListOf text library
-    by (json.object ms) parsed unique read = lines_of_entries (elements Curly text) ms library (complete text ms parsed) unique.1 read
+    by : (j : Json) → document text ≡ Some j → HasUniqueKeys j → library_of j ≡ Ok library → Lists text library
+    by (json.object ms) parsed unique read = record { members = ms; parsed = parsed; unique = unique.1; read = read }
     by json.null parsed unique read = cc
     by (json.boolean b) parsed unique read = cc
     by (json.number s) parsed unique read = cc
     by (json.string s) parsed unique read = cc
     by (json.array js) parsed unique read = cc
+
+-- and no key comes twice in it
+pub keys_of_library : (text : List ℕ) (library : List Tree) → Describes text library → AreDistinct library
+keys_of_library text library d = distinct_keys d.value library d.unique d.read

@@ -5,7 +5,7 @@ use Rattle.json.specs.Lex.{tokens}
 use Rattle.json.specs.Token.{Token}
 use Rattle.haya_elements.specs.Elements.{IsMember}
 use Rattle.haya_json.specs.Alone.{value_alone}
-use Rattle.haya_json.specs.MemberLines.{member_in, single, single_in}
+use Rattle.haya_json.specs.MemberLines.{member_in, single_object, single_object_in}
 use Rattle.haya_json.proofs.ValuesAlone.{alone, one_read}
 
 -- a line is one member at most
@@ -17,7 +17,7 @@ one_member line n m i j a b =
     (name, one_read (value 127 a.left) i j a.said (ap (value 127) left ∙ b.said))
 
 -- the object of the member that a line is, as it is computed
-pub member_of_line : (line name : List ℕ) (j : Json) → IsMember line name j → member_in line ≡ Some (single name j)
+pub member_of_line : (line name : List ℕ) (j : Json) → IsMember line name j → member_in line ≡ Some (single_object name j)
 member_of_line line name j is = rw is.named (rw is.said refl)
 
 -- the tokens are this name and this value
@@ -27,10 +27,10 @@ record IsNamed (ts : List Token) (name : List ℕ) (j : Json) : Type 0 where
   said : value 127 left ≡ Some (j, [])
 
 -- behind a name
-named_value : (k name : List ℕ) (j : Json) (left : List Token) → option_map (single k) (value_alone left) ≡ Some (single name j) → IsNamed (Token.key k ∷ left) name j
+named_value : (k name : List ℕ) (j : Json) (left : List Token) → option_map (single_object k) (value_alone left) ≡ Some (single_object name j) → IsNamed (Token.key k ∷ left) name j
 named_value k name j left h = by (value_alone left) refl h
   where
-    by : (o : Option Json) → value_alone left ≡ o → option_map (single k) o ≡ Some (single name j) → IsNamed (Token.key k ∷ left) name j
+    by : (o : Option Json) → value_alone left ≡ o → option_map (single_object k) o ≡ Some (single_object name j) → IsNamed (Token.key k ∷ left) name j
     by None none g = cc
     by (Some i) some g =
         let same_name : k ≡ name = cc in
@@ -42,7 +42,7 @@ named_value k name j left h = by (value_alone left) refl h
         }
 
 -- tokens that are found to be a member
-named : (ts : List Token) (name : List ℕ) (j : Json) → single_in ts ≡ Some (single name j) → IsNamed ts name j
+named : (ts : List Token) (name : List ℕ) (j : Json) → single_object_in ts ≡ Some (single_object name j) → IsNamed ts name j
 named [] name j h = cc
 named (Token.begin_object ∷ ts) name j h = cc
 named (Token.end_object ∷ ts) name j h = cc
@@ -56,5 +56,5 @@ named (Token.null ∷ ts) name j h = cc
 named (Token.bad ∷ ts) name j h = cc
 
 -- the member that a line is found to be
-pub member_found : (line name : List ℕ) (j : Json) → member_in line ≡ Some (single name j) → IsMember line name j
+pub member_found : (line name : List ℕ) (j : Json) → member_in line ≡ Some (single_object name j) → IsMember line name j
 member_found line name j h = let is = named (tokens line) name j h in record { left = is.left; named = is.named; said = is.said }

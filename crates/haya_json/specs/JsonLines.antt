@@ -1,10 +1,11 @@
 -- A library as lines of JSON: each line an object of an entry and its key.
-use Rattle.std.specs.Prelude.{◌≡◌, ◌≢◌, ◌⊎◌, ◌==◌, ℕ, ◌+◌, false, not, List, [], ◌∷◌, ◌++◌, length, filter, flat_map, codes, None, Some, MatchBool, Result, Ok}
+use Rattle.std.specs.Prelude.{◌≡◌, ◌≢◌, ◌⊎◌, ◌==◌, ℕ, ◌+◌, false, List, [], ◌∷◌, ◌++◌, length, flat_map, codes, None, Some, MatchBool, Result, Ok}
 use Rattle.std.specs.List.{AllZip}
 use Rattle.std.specs.Option.{option_map_or}
 use Rattle.std.specs.Str.Lines.{lines}
 use Rattle.json.specs.Json.{Json, document}
 use Rattle.json.specs.Strict.{HasUniqueKeys}
+use Rattle.haya_elements.specs.Elements.{filled}
 use Rattle.haya_entry.specs.Tree.{Tree}
 use Rattle.hayagriva.specs.Library.{from_entries, push}
 use Rattle.haya_json.specs.Entries.{entry_of}
@@ -46,10 +47,6 @@ line_passed_over line = option_map_or value_passed_over (document line) []
 
 -- ---- lines
 
--- the lines that aren't empty
-abbrev pub filled : List (List ℕ) → List (List ℕ)
-filled ls = filter (λ line. not (length line == 0)) ls
-
 -- the entries that lines list, in order, repeated keys and all: one for each line that isn't empty
 abbrev pub AreEntriesOf : List (List ℕ) → List Tree → Type 0
 AreEntriesOf ls entries = AllZip IsLineOf (filled ls) entries
@@ -71,13 +68,6 @@ ErrorInLine line error = (error ≡ OutOfMemory) ⊎ ((length line ≢ 0) × IsL
 
 abbrev pub IsListOf : List ℕ → List Tree → Type 0
 IsListOf text entries = AreEntriesOf (lines text) entries
-
--- a first part of the lines of a text, or all, lists these entries
-pub record BeginsList (text : List ℕ) (entries : List Tree) : Type 0 where
-  pub first : List (List ℕ)
-  pub more : List (List ℕ)
-  pub parts : lines text ≡ first ++ more
-  pub listed : AreEntriesOf first entries
 
 -- the library that a text describes: the entries that it lists are pushed in turn
 pub record Describes (text : List ℕ) (library : List Tree) : Type 0 where

@@ -1,36 +1,36 @@
--- The members of a text, a member a line.
-use Rattle.std.specs.Prelude.{◌≡◌, ℕ, List, [], ◌∷◌, Option, None, option_map, flat_map, Ok}
+-- The entries that a text lists, a member a line.
+use Rattle.std.specs.Prelude.{◌≡◌, ℕ, List, [], ◌∷◌, Option, None, Some, option_map, flat_map, Ok}
 use Rattle.std.specs.List.{AllZip}
 use Rattle.std.specs.Option.{option_map_or}
-use Rattle.json.specs.Json.{Json, member, no_members, object}
+use Rattle.std.specs.Str.Lines.{lines}
+use Rattle.json.specs.Json.{Json, Members, document, member, no_members, object}
 use Rattle.json.specs.Lex.{tokens}
-use Rattle.json.specs.Strict.{HasUniqueKeys}
+use Rattle.json.specs.Strict.{HasUniqueKeys, MembersHaveUniqueKeys}
 use Rattle.json.specs.Token.{Token}
-use Rattle.haya_elements.specs.Elements.{IsMember, elements}
+use Rattle.haya_elements.specs.Elements.{IsMember, element_lines, elements, filled}
 use Rattle.haya_elements.specs.declared.place.Brackets.TheVariants.{Curly}
 use Rattle.haya_entry.specs.Tree.{Tree}
 use Rattle.haya_json.specs.Alone.{value_alone}
 use Rattle.haya_json.specs.Entries.{entry_of}
-use Rattle.haya_json.specs.Ignored.{counts_of, passed_over}
-use Rattle.haya_json.specs.Libraries.{IsErrorOfJson, library_of}
-use Rattle.haya_json.specs.Tally.{tally}
+use Rattle.haya_json.specs.Ignored.{passed_over}
+use Rattle.haya_json.specs.Libraries.{IsErrorOfJson, entries_of, library_of}
+use Rattle.haya_json.specs.Tally.{Counts, tally}
 use Rattle.haya_json.specs.declared.error.ReadError.{ReadError}
-use Rattle.haya_json.specs.declared.ignored.Ignored.{Ignored}
 
 -- ---- one line
 
 -- the object of one member
-abbrev pub single : List ℕ → Json → Json
-single name j = object (member name j no_members)
+abbrev pub single_object : List ℕ → Json → Json
+single_object name j = object (member name j no_members)
 
 -- the object of the member that these tokens are
-abbrev pub single_in : List Token → Option Json
-single_in (Token.key name ∷ ts) = option_map (single name) (value_alone ts)
-single_in _ = None
+abbrev pub single_object_in : List Token → Option Json
+single_object_in (Token.key name ∷ ts) = option_map (single_object name) (value_alone ts)
+single_object_in _ = None
 
 -- the object of the member that a line is
 abbrev pub member_in : List ℕ → Option Json
-member_in line = single_in (tokens line)
+member_in line = single_object_in (tokens line)
 
 -- the line is a member in which no object has a name twice, and it says the entry under its name
 pub record IsMemberLineOf (line : List ℕ) (entry : Tree) : Type 0 where
@@ -48,13 +48,24 @@ IsMemberLineErrorOf line error = IsErrorOfJson library_of (member_in line) error
 abbrev pub line_passed_over : List ℕ → List (List ℕ)
 line_passed_over line = option_map_or passed_over (member_in line) []
 
+-- ---- lines
+
+-- the names of the members that are passed over of the entries of lines
+abbrev pub lines_passed_over : List (List ℕ) → List (List ℕ)
+lines_passed_over ls = flat_map line_passed_over (filled ls)
+
 -- ---- a text
 
--- the entries that a text lists, in order, repeated keys and all: each member of its object says one
-abbrev pub IsListOf : List ℕ → List Tree → Type 0
-IsListOf text entries = AllZip IsMemberLineOf (elements Curly text) entries
+-- The members of a text, each on a line of its own, say these entries, in order, repeated keys and
+-- all. What is passed over of them comes to these counts.
+pub record LinesList (text : List ℕ) (entries : List Tree) (counts : Counts) : Type 0 where
+  pub each : AllZip IsMemberLineOf (elements Curly text) entries
+  pub of_passed_over : counts ≡ tally (lines_passed_over (lines (element_lines Curly text)))
 
--- what is passed over of the entries of a text
-abbrev pub IsPassedOver : List ℕ → Ignored → Type 0
-IsPassedOver text ignored =
-    counts_of ignored ≡ tally (flat_map line_passed_over (elements Curly text))
+-- The text is an object in JSON. No object in a value of it has a name twice, and its members say
+-- these entries, in order, repeated keys and all.
+pub record Lists (text : List ℕ) (entries : List Tree) : Type 0 where
+  pub members : Members
+  pub parsed : document text ≡ Some (object members)
+  pub unique : MembersHaveUniqueKeys members
+  pub read : entries_of members ≡ Ok entries

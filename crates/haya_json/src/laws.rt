@@ -12,14 +12,15 @@ ghost use Rattle.haya_people.specs.Person.{PersonView};
 ghost use Rattle.haya_time.specs.declared.date.Date.{Date};
 ghost use Rattle.haya_entry.specs.Tree.{Tree};
 ghost use Rattle.hayagriva.specs.Library.{AreDistinct};
-ghost use Rattle.haya_json.specs.Ignored.{IsPassedOver};
+ghost use Rattle.haya_json.specs.Ignored.{IsPassedOver, counts_of};
 ghost use Rattle.haya_json.specs.JsonLines as json_lines;
 ghost use Rattle.haya_json.specs.Libraries.{Describes, library_of};
-ghost use Rattle.haya_json.specs.MemberLines as member_lines;
+ghost use Rattle.haya_json.specs.MemberLines.{LinesList, Lists};
 ghost use Rattle.haya_json.specs.Printed.{date_json, library_json, person_json};
 ghost use Rattle.haya_json.specs.ReadBack.{EntriesAreBack, EntrySaysItself, ReadsBack, SaysItself};
 ghost use Rattle.haya_json.specs.Readable.{AreReadable, EntriesAreReadable, IsReadableDate};
 ghost use Rattle.haya_json.specs.Readable.{TreeIsReadable};
+ghost use Rattle.haya_json.specs.Tally.{Counts};
 ghost use Rattle.haya_json.specs.Values.{date_of, person_of};
 ghost use Rattle.haya_json.specs.declared.ignored.Ignored.{Ignored};
 
@@ -69,29 +70,31 @@ pub fn values_read_back()
     haya_text::laws::normal_form();
 }
 
-/// Where the members of the object that a text is, each on a line of its own, list entries, and no
-/// key comes twice, the text describes the library of these entries. What is passed over of the
-/// lines is what is passed over of that library.
-pub fn member_lines_are_a_library()
-    ensures library { (text : List ℕ) (entries : List Tree) → member_lines.IsListOf text entries
-        → AreDistinct entries → Describes text entries }
-    ensures ignored { (text : List ℕ) (entries : List Tree) (ignored : Ignored)
-        → member_lines.IsListOf text entries → member_lines.IsPassedOver text ignored
-        → IsPassedOver text ignored }
-{
-    haya_elements::laws::documents();
-}
+/// The members of a text, each read on a line of its own, say entries exactly where the text is an
+/// object in JSON that lists them, and what is passed over of these lines is passed over of it.
+pub fn member_lines_are_a_list()
+    ensures list { (text : List ℕ) (entries : List Tree) (counts : Counts) →
+        LinesList text entries counts → Lists text entries }
+    ensures ignored { (text : List ℕ) (entries : List Tree) (ignored : Ignored) →
+        LinesList text entries (counts_of ignored) → IsPassedOver text ignored }
+    ensures lines { (text : List ℕ) (entries : List Tree) (ignored : Ignored) →
+        Lists text entries → IsPassedOver text ignored →
+        LinesList text entries (counts_of ignored) }
+{}
 
-/// The other way, so that no library is refused by its lines: a text that describes a library lists
-/// its entries in order, and no key comes twice.
-pub fn libraries_are_member_lines()
-    ensures listed { (text : List ℕ) (library : List Tree) → Describes text library
-        → member_lines.IsListOf text library }
-    ensures distinct { (text : List ℕ) (library : List Tree) → Describes text library
-        → AreDistinct library }
-{
-    haya_elements::laws::elements_of_documents();
-}
+/// Where no key comes twice, a text that lists entries describes the library of them.
+pub fn lists_are_libraries()
+    ensures { (text : List ℕ) (entries : List Tree) →
+        Lists text entries → AreDistinct entries → Describes text entries }
+{}
+
+/// A text that describes a library lists its entries, and no key comes twice.
+pub fn libraries_are_lists()
+    ensures list { (text : List ℕ) (library : List Tree) →
+        Describes text library → Lists text library }
+    ensures distinct { (text : List ℕ) (library : List Tree) →
+        Describes text library → AreDistinct library }
+{}
 
 /// Entries that were read have values as `EntriesAreReadable` says: those of a library, those that
 /// lines of JSON list, and those of the library of such lines.

@@ -7,7 +7,7 @@ ghost use Rattle.haya_json.specs.Entries.{entry_of};
 ghost use Rattle.haya_json.specs.Ignored.{counts_of, passed_over_in};
 ghost use Rattle.haya_json.specs.Libraries.{IsErrorOfJson, library_of};
 ghost use Rattle.haya_json.specs.MemberLines.{IsMemberLineErrorOf, IsMemberLineOf};
-ghost use Rattle.haya_json.specs.MemberLines.{line_passed_over, member_in, single};
+ghost use Rattle.haya_json.specs.MemberLines.{line_passed_over, member_in, single_object};
 ghost use Rattle.haya_json.specs.Refusal.{IsFaultOf, to_member, within};
 ghost use Rattle.haya_json.specs.Tally.{all_counted};
 
@@ -58,7 +58,7 @@ fn member_in<'a>(
     scratch: &'a mut Scratch,
 ) -> Result<(&'a str, Value<'a>), ReadError>
     ensures member { IfOk result
-        (λ m. member_in line.now ≡ Some (single m.0.now (value_view m.1))) }
+        (λ m. member_in line.now ≡ Some (single_object m.0.now (value_view m.1))) }
     ensures unique { IfOk result (λ m. HasUniqueKeys (value_view m.1)) }
     ensures error { IfErr result (IsErrorOfJson library_of (member_in line.now)) }
 {
