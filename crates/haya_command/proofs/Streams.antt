@@ -12,10 +12,8 @@ use Rattle.hayagriva.specs.Query.{AreHits, IsHit, hit_entry}
 use Rattle.hayagriva.specs.Syntax.{Syntax}
 use Rattle.hayagriva.specs.Tree.{Tree}
 use Rattle.hayagriva.specs.declared.query.Hit.{Hit}
-use Rattle.haya_csl.specs.ItemLines as item_lines
-use Rattle.haya_csl.specs.Libraries.{DescribesAsCsl}
-use Rattle.haya_json.specs.Libraries as json
-use Rattle.haya_json.specs.MemberLines as member_lines
+use Rattle.haya_csl.proofs.ItemLists as item_lists
+use Rattle.haya_json.proofs.MemberLists as member_lists
 use Rattle.haya_hits.specs.Line.{AreLines, IsLineOf}
 use Rattle.haya_lines.specs.Signs.{line_feed}
 use Rattle.haya_list.specs.Listed as list
@@ -25,6 +23,7 @@ use Rattle.haya_list.specs.declared.fault.ListRefusal.TheVariants.{Entry, Line}
 use Rattle.haya_printing.specs.Printed.{entry_text}
 use Rattle.haya_printing.specs.declared.error.LinesError.{LinesError}
 use Rattle.haya_stream.proofs.Taken.{flat_map-append}
+use Rattle.haya_stream.specs.Streamed.{IsEndedPart}
 use Rattle.haya_stream.specs.declared.fault.StreamFault.{StreamFault}
 use Rattle.haya_stream.specs.declared.fault.StreamFault.TheVariants as stream
 use Rattle.haya_command.specs.Printed.{IsJsonLineOf, IsTextOf}
@@ -183,7 +182,7 @@ module _ {S : Type 0} (options : S → Options) (selector : S → Syntax) (hits 
     some_of true n both = grind (arith, nat_tests)
     some_of false n both = absurd (cc)
 
-    asks_first : (format : Format) (Begins : List ℕ → List Tree → Type 0) → ((text : List ℕ) (entries : List Tree) → Begins text entries → BeginsListIn format text entries)
+    asks_first : (format : Format) (Begins : Option (List ℕ) → List ℕ → List Tree → Type 0) → ((text : List ℕ) (entries : List Tree) → Begins left text entries → BeginsListIn format left text entries)
         → list.AnswersEnough Begins Asks is_done s t unread left before after → (options t).quiet ≡ true → 0 < hits t
         → AsksFirst format (options s) (selector s) (hits s) (hits t) unread left before after
     asks_first format Begins begins a quiet some =
@@ -191,10 +190,12 @@ module _ {S : Type 0} (options : S → Options) (selector : S → Syntax) (hits 
         let still : (options s).quiet ≡ true = rw c.same_options at quiet in
         record {
           text = a.text;
+          part = a.part;
           entries = entries_of a.replies;
           hits = c.found;
           read = a.read;
-          list = begins a.text (entries_of a.replies) a.list;
+          of_text = a.of_text;
+          list = begins a.part (entries_of a.replies) a.list;
           are = c.are;
           count = c.count;
           quiet = still;
@@ -202,7 +203,7 @@ module _ {S : Type 0} (options : S → Options) (selector : S → Syntax) (hits 
           prints = subst (Appends before after) (nothing (options s).quiet (options s).count (options s).to c.found (printed_of a.replies) still c.shows) a.prints;
         }
 
-    pub asks_enough : (format : Format) (Begins : List ℕ → List Tree → Type 0) → ((text : List ℕ) (entries : List Tree) → Begins text entries → BeginsListIn format text entries)
+    pub asks_enough : (format : Format) (Begins : Option (List ℕ) → List ℕ → List Tree → Type 0) → ((text : List ℕ) (entries : List Tree) → Begins left text entries → BeginsListIn format left text entries)
         → is_done t ≡ ((options t).quiet && nat_lt 0 (hits t)) → list.AnswersEnough Begins Asks is_done s t unread left before after
         → AsksFirst format (options s) (selector s) (hits s) (hits t) unread left before after
     asks_enough format Begins begins same a =
@@ -210,18 +211,20 @@ module _ {S : Type 0} (options : S → Options) (selector : S → Syntax) (hits 
         asks_first format Begins begins a (quiet_of (options t).quiet (nat_lt 0 (hits t)) both) (some_of (options t).quiet (hits t) both)
 
     -- the entries that were answered are asked, where it stops for this reason
-    pub asks_part : (format : Format) (name : List ℕ) (e : Fault) (text : List ℕ) (replies : Replies) (written unwritten : List ℕ) → Consumes unread left text
-        → BeginsListIn format text (entries_of replies) → Run Asks is_done s replies t → printed_of replies ≡ written ++ unwritten
-        → Why (options s) format name text unwritten e → Appends before after written → AsksPart format name (options s) (selector s) unread left before after e
-    asks_part format name e text replies written unwritten read begins run parts why prints =
+    pub asks_part : (format : Format) (name : List ℕ) (e : Fault) (text part : List ℕ) (replies : Replies) (written unwritten : List ℕ) → Consumes unread left text
+        → IsEndedPart left text part → BeginsListIn format left part (entries_of replies) → Run Asks is_done s replies t → printed_of replies ≡ written ++ unwritten
+        → Why (options s) format name part unwritten e → Appends before after written → AsksPart format name (options s) (selector s) unread left before after e
+    asks_part format name e text part replies written unwritten read of_text begins run parts why prints =
         let c = counted replies s t not run in
         record {
           text = text;
+          part = part;
           entries = entries_of replies;
           hits = c.found;
           written = written;
           unwritten = unwritten;
           read = read;
+          of_text = of_text;
           list = begins;
           are = c.are;
           told = rw (← parts) c.shows;
@@ -254,17 +257,15 @@ told_answers false true to hits printed told = rw told refl
 told_answers false false to hits printed told = rw (append-nil printed) told
 
 -- where no key comes again, the entries that a text lists are its library
-module _ (items : (text : List ℕ) (entries : List Tree) → item_lines.IsListOf text entries → AreDistinct entries → DescribesAsCsl text entries)
-    (members : (text : List ℕ) (entries : List Tree) → member_lines.IsListOf text entries → AreDistinct entries → json.Describes text entries) where
-  pub list_read : (options : Options) (text : List ℕ) (entries : List Tree) → (IsTrue options.strict → IsWhole (format_in options text) text) → IsListIn (format_in options text) text entries
-      → AreDistinct entries → IsReadAs options text entries
-  list_read options text entries whole listed distinct = record { describes = by (format_in options text) listed; whole = whole }
-    where
-      of_list : entries ≡ from_entries entries
-      of_list = sym (from_entries-distinct entries distinct)
+pub list_read : (options : Options) (text : List ℕ) (entries : List Tree) → (IsTrue options.strict → IsWhole (format_in options text) text) → IsListIn (format_in options text) text entries
+    → AreDistinct entries → IsReadAs options text entries
+list_read options text entries whole listed distinct = record { describes = by (format_in options text) listed; whole = whole }
+  where
+    of_list : entries ≡ from_entries entries
+    of_list = sym (from_entries-distinct entries distinct)
 
-      by : (f : Format) → IsListIn f text entries → Describes f text entries
-      by format.Lines listed = record { entries = entries; rows = listed; of_entries = of_list }
-      by format.JsonLines listed = record { entries = entries; listed = listed; of_entries = of_list }
-      by format.Hayagriva listed = members text entries listed distinct
-      by format.CslJson listed = items text entries listed distinct
+    by : (f : Format) → IsListIn f text entries → Describes f text entries
+    by format.Lines listed = record { entries = entries; rows = listed; of_entries = of_list }
+    by format.JsonLines listed = record { entries = entries; listed = listed; of_entries = of_list }
+    by format.Hayagriva listed = member_lists.library_of_list text entries listed distinct
+    by format.CslJson listed = item_lists.library_of_list text entries listed distinct

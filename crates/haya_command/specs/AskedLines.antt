@@ -1,24 +1,23 @@
 -- The lines of an input that are asked, an entry after another.
-use Rattle.std.specs.Prelude.{◌≡◌, ◌≢◌, ◌⊎◌, ◌-◌, ◌^◌, ℕ, IsTrue, List, [], ◌∷◌, ◌++◌, flat_map, length}
+use Rattle.std.specs.Prelude.{◌≡◌, ◌≢◌, ◌⊎◌, ◌+◌, ◌-◌, ◌^◌, ℕ, IsTrue, List, [], ◌∷◌, ◌++◌, flat_map, length, Option}
 use Rattle.std.specs.List.{AllZip}
 use Rattle.std.specs.Str.Lines.{lines}
 use Rattle.hayagriva.specs.Tree.{Tree}
 use Rattle.haya_csl.specs.ItemLines as item_lines
-use Rattle.haya_elements.specs.Elements.{element_lines}
+use Rattle.haya_elements.specs.Elements.{element_lines, filled}
 use Rattle.haya_elements.specs.declared.place.Brackets.TheVariants.{Curly, Square}
 use Rattle.haya_json.specs.Ignored.{counts_of}
 use Rattle.haya_json.specs.JsonLines as json_lines
 use Rattle.haya_json.specs.MemberLines as member_lines
-use Rattle.haya_json.specs.Tally.{all_counted, tally}
+use Rattle.haya_json.specs.Tally.{all_counted}
 use Rattle.haya_json.specs.declared.error.ElementError.{ElementError}
 use Rattle.haya_json.specs.declared.error.ReadError.{ReadError}
 use Rattle.haya_json.specs.declared.error.ReadError.TheVariants as read_error
 use Rattle.haya_json.specs.declared.ignored.Ignored.{Ignored}
-use Rattle.haya_list.specs.EntryLines.{filled}
 use Rattle.haya_list.specs.Lines as lines_list
 use Rattle.haya_list.specs.declared.fault.EntryFault.{EntryFault}
 use Rattle.haya_list.specs.declared.fault.EntryFault.TheVariants as entry_fault
-use Rattle.haya_command.specs.Reading.{IsErrorOf}
+use Rattle.haya_command.specs.Reading.{IsErrorOf, IsWhole}
 use Rattle.haya_command.specs.declared.fault.InputError.{InputError}
 use Rattle.haya_command.specs.declared.fault.InputError.TheVariants as input_error
 use Rattle.haya_command.specs.declared.format.Format.{Format}
@@ -43,8 +42,9 @@ IsLineIn Lines line entry = ⊥
 -- the entries that a text lists, in order, repeated keys and all
 abbrev pub IsListIn : Format → List ℕ → List Tree → Type 0
 IsListIn Lines text entries = lines_list.IsListOf text entries
-IsListIn format text entries =
-    AllZip (IsLineIn format) (filled (lines (asked_lines format text))) entries
+IsListIn JsonLines text entries = json_lines.IsListOf text entries
+IsListIn CslJson text entries = item_lines.Lists text entries
+IsListIn Hayagriva text entries = member_lines.Lists text entries
 
 -- a first part of lines, or all, lists these entries
 pub record BeginsLines (format : Format) (text : List ℕ) (entries : List Tree) : Type 0 where
@@ -53,9 +53,10 @@ pub record BeginsLines (format : Format) (text : List ℕ) (entries : List Tree)
   pub parts : lines text ≡ first ++ more
   pub listed : AllZip (IsLineIn format) (filled first) entries
 
-abbrev pub BeginsListIn : Format → List ℕ → List Tree → Type 0
-BeginsListIn Lines text entries = lines_list.BeginsList text entries
-BeginsListIn format text entries = BeginsLines format text entries
+-- the same of an input's text in a format, of which this is left
+abbrev pub BeginsListIn : Format → Option (List ℕ) → List ℕ → List Tree → Type 0
+BeginsListIn Lines left text entries = lines_list.BeginsList left text entries
+BeginsListIn format left text entries = BeginsLines format text entries
 
 -- ---- what is passed over
 
@@ -70,16 +71,10 @@ line_passed_over Lines line = []
 abbrev pub lines_passed_over : Format → List (List ℕ) → List (List ℕ)
 lines_passed_over format ls = flat_map (line_passed_over format) (filled ls)
 
--- nothing is passed over of a text; of lines that are no JSON nothing ever is
-abbrev pub PassesOverNothing : Format → List ℕ → Type 0
-PassesOverNothing Lines text = Unit {0}
-PassesOverNothing format text =
-    (ignored : Ignored)
-    × (counts_of ignored ≡ tally (lines_passed_over format (lines (asked_lines format text))))
-    × (counts_of ignored ≡ [])
-
+-- in a strict run nothing is passed over of a text; of lines that are no JSON nothing ever is
 abbrev pub IsAccepted : Options → Format → List ℕ → Type 0
-IsAccepted options format text = IsTrue options.strict → PassesOverNothing format text
+IsAccepted options Lines text = Unit {0}
+IsAccepted options format text = IsTrue options.strict → IsWhole format text
 
 -- something is passed over of a first part of the lines, or of all
 abbrev pub PassesOverFirst : Format → List ℕ → Type 0
@@ -93,6 +88,12 @@ pub record ReadsLine (format : Format) (before : Ignored) (line : List ℕ) (ent
   pub says : IsLineIn format line entry
   pub counts : counts_of after
       ≡ all_counted (line_passed_over format line) (counts_of before)
+
+-- the same of the element at this place, which is counted
+pub record ReadsElement (format : Format) (place : ℕ) (before : Ignored) (line : List ℕ)
+    (entry : Tree) (next : ℕ) (after : Ignored) : Type 0 where
+  pub reads : ReadsLine format before line entry after
+  pub number : next ≡ place + 1
 
 -- ---- faults of lines
 
@@ -109,16 +110,19 @@ IsElementErrorFor (entry_fault.Line number error) e = e ≡ input_error.Element 
 IsElementErrorFor entry_fault.TooMany e =
     e ≡ input_error.Element (record { number = 2 ^ 64 - 1; error = read_error.OutOfMemory })
 
--- what the error of an element says of its line; out of memory says nothing
-abbrev pub IsElementError : Format → List ℕ → ElementError → Type 0
-IsElementError CslJson line e =
-    (e.error ≡ read_error.OutOfMemory)
-    ⊎ ((place : ℕ) × item_lines.IsItemLineErrorOf place line e.error)
-IsElementError Hayagriva line e =
-    (e.error ≡ read_error.OutOfMemory) ⊎ member_lines.IsMemberLineErrorOf line e.error
-IsElementError _ line e = ⊥
+-- what is wrong with the line of the element at this place
+abbrev pub IsElementErrorOf : Format → ℕ → List ℕ → ReadError → Type 0
+IsElementErrorOf CslJson place line error = item_lines.IsItemLineErrorOf place line error
+IsElementErrorOf Hayagriva place line error = member_lines.IsMemberLineErrorOf line error
+IsElementErrorOf _ place line error = ⊥
 
--- the first line that says no entry, and its error
+-- the error of the element at this place, with its number; out of memory says nothing
+abbrev pub IsElementError : Format → ℕ → List ℕ → ElementError → Type 0
+IsElementError format place line e =
+    (e.error ≡ read_error.OutOfMemory)
+    ⊎ ((e.number ≡ place + 1) × IsElementErrorOf format place line e.error)
+
+-- the first line that says no entry, and its error: it is behind as many elements as have one
 pub record FirstElementError (format : Format) (text : List ℕ) (e : ElementError) : Type 0 where
   pub first : List (List ℕ)
   pub line : List ℕ
@@ -127,7 +131,7 @@ pub record FirstElementError (format : Format) (text : List ℕ) (e : ElementErr
   pub parts : lines text ≡ first ++ line ∷ more
   pub listed : AllZip (IsLineIn format) (filled first) entries
   pub some : length line ≢ 0
-  pub error : IsElementError format line e
+  pub error : IsElementError format (length entries) line e
 
 -- what an error says of the lines of a text
 abbrev pub IsErrorIn : Format → List ℕ → InputError → Type 0

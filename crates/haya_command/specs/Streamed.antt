@@ -1,5 +1,5 @@
 -- Entries asked one after another, as they are read.
-use Rattle.std.specs.Prelude.{◌≡◌, ◌≢◌, ◌⊎◌, ◌<◌, ◌+◌, ◌-◌, ◌^◌, ℕ, Any, IfSome, IsTrue, MatchBool, List, [], ◌∷◌, ◌++◌, Option, Some, String, decimal, length, string_bytes, true, if◌then◌else◌}
+use Rattle.std.specs.Prelude.{◌≡◌, ◌⊎◌, ◌<◌, ◌+◌, ℕ, Any, IfSome, IsTrue, MatchBool, List, [], ◌∷◌, ◌++◌, Option, Some, String, decimal, length, string_bytes, true, if◌then◌else◌}
 use Rattle.std.specs.Io.KnownBytes.{Appends, Consumes, IsAtEnd}
 use Rattle.std.specs.Str.{IsUtf8, chars}
 use Rattle.std.specs.Str.Lines.{lines}
@@ -14,6 +14,7 @@ use Rattle.haya_lines.specs.Signs.{line_feed}
 use Rattle.haya_list.specs.declared.fault.ListRefusal.{ListRefusal}
 use Rattle.haya_list.specs.declared.fault.ListRefusal.TheVariants.{Entry, Line}
 use Rattle.haya_printing.specs.declared.error.LinesError.{LinesError}
+use Rattle.haya_stream.specs.Streamed.{IsEndedPart}
 use Rattle.haya_stream.specs.declared.fault.StreamFault.{StreamFault}
 use Rattle.haya_stream.specs.declared.fault.StreamFault.TheVariants as stream
 use Rattle.haya_command.specs.AskedLines.{BeginsListIn, IsAccepted, IsErrorIn, IsListIn, PassesOverFirst, asked_lines}
@@ -76,14 +77,17 @@ pub record AsksInput (format : Format) (options : Options) (selector : Syntax) (
   pub count : after ≡ before + length hits
   pub prints : Appends out_before out_after printed
 
--- the first entries of a quiet run are asked, and one of them is a hit
+-- the first entries of a quiet run are asked, of the lines that have ended, and one of them is a
+-- hit
 pub record AsksFirst (format : Format) (options : Options) (selector : Syntax) (before after : ℕ)
     (unread left out_before out_after : Option (List ℕ)) : Type 0 where
   pub text : List ℕ
+  pub part : List ℕ
   pub entries : List Tree
   pub hits : List Hit
   pub read : Consumes unread left text
-  pub list : BeginsListIn format text entries
+  pub of_text : IsEndedPart left text part
+  pub list : BeginsListIn format left part entries
   pub are : AreHits selector entries hits
   pub count : after ≡ before + length hits
   pub quiet : options.quiet ≡ true
@@ -108,20 +112,22 @@ Why options format name text unwritten fault.CannotWrite = Unit {0}
 Why options format name text unwritten fault.OutOfMemory = Unit {0}
 Why options format name text unwritten _ = ⊥
 
--- the first entries that a text lists are asked, and what is printed of their hits is written, or
--- a first part of it
+-- the first entries that a text lists are asked, of the lines that have ended, and what is printed
+-- of their hits is written, or a first part of it
 pub record AsksPart (format : Format) (name : List ℕ) (options : Options) (selector : Syntax)
     (unread left out_before out_after : Option (List ℕ)) (e : Fault) : Type 0 where
   pub text : List ℕ
+  pub part : List ℕ
   pub entries : List Tree
   pub hits : List Hit
   pub written : List ℕ
   pub unwritten : List ℕ
   pub read : Consumes unread left text
-  pub list : BeginsListIn format text entries
+  pub of_text : IsEndedPart left text part
+  pub list : BeginsListIn format left part entries
   pub are : AreHits selector entries hits
   pub told : IsTold options hits (written ++ unwritten)
-  pub why : Why options format name text unwritten e
+  pub why : Why options format name part unwritten e
   pub prints : Appends out_before out_after written
 
 -- ---- elements of JSON

@@ -1,5 +1,5 @@
 //! An entry from each element of a text in JSON: an item of a list, or a member of an object.
-ghost use Rattle.std.specs.Prelude.{◌≡◌, IfErr};
+ghost use Rattle.std.specs.Prelude.{◌≡◌, ◌+◌, IfErr, IfOk, OnOk};
 
 use haya_csl::read_item_line;
 use haya_json::{ElementError, Ignored, ReadError, read_member_line};
@@ -23,7 +23,8 @@ impl ItemReader {
 
     /// One that has read no item. Its map hashes with the keys.
     pub(crate) fn new(alloc: Global, keys: HashKeys) -> ItemReader
-        ensures { counts_of result.ignored ≡ [] }
+        ensures number { result.number ≡ 0 }
+        ensures ignored { counts_of result.ignored ≡ [] }
     {
         ItemReader {
             alloc,
@@ -34,14 +35,15 @@ impl ItemReader {
 }
 
 impl EntryReader for ItemReader {
-    ghost use Rattle.haya_command.specs.AskedLines.{IsElementError, ReadsLine};
+    ghost use Rattle.haya_command.specs.AskedLines.{IsElementError, ReadsElement};
     ghost use Rattle.haya_command.specs.declared.format.Format.TheVariants.{CslJson};
 
     type Error = ElementError;
 
-    ghost says = { λ r line entry t. ReadsLine CslJson r.ignored line entry t.ignored };
+    ghost says = { λ r line entry t.
+        ReadsElement CslJson r.number r.ignored line entry t.number t.ignored };
 
-    ghost refuses = { IsElementError CslJson };
+    ghost refuses = { λ r line e. IsElementError CslJson r.number line e };
 
     fn read(&mut self, line: &str) -> Result<Entry, ElementError> {
         let place = self.number;
@@ -69,7 +71,8 @@ impl MemberReader {
 
     /// One that has read no member. Its map hashes with the keys.
     pub(crate) fn new(alloc: Global, keys: HashKeys) -> MemberReader
-        ensures { counts_of result.ignored ≡ [] }
+        ensures number { result.number ≡ 0 }
+        ensures ignored { counts_of result.ignored ≡ [] }
     {
         MemberReader {
             alloc,
@@ -80,14 +83,15 @@ impl MemberReader {
 }
 
 impl EntryReader for MemberReader {
-    ghost use Rattle.haya_command.specs.AskedLines.{IsElementError, ReadsLine};
+    ghost use Rattle.haya_command.specs.AskedLines.{IsElementError, ReadsElement};
     ghost use Rattle.haya_command.specs.declared.format.Format.TheVariants.{Hayagriva};
 
     type Error = ElementError;
 
-    ghost says = { λ r line entry t. ReadsLine Hayagriva r.ignored line entry t.ignored };
+    ghost says = { λ r line entry t.
+        ReadsElement Hayagriva r.number r.ignored line entry t.number t.ignored };
 
-    ghost refuses = { IsElementError Hayagriva };
+    ghost refuses = { λ r line e. IsElementError Hayagriva r.number line e };
 
     fn read(&mut self, line: &str) -> Result<Entry, ElementError> {
         let number = counted(&mut self.number)?;
@@ -101,7 +105,9 @@ impl EntryReader for MemberReader {
 // Counts one element more, and answers its number. More than can be counted are told as out of
 // memory.
 fn counted(number: &mut usize) -> Result<usize, ElementError>
-    ensures { IfErr result (λ e. e.error ≡ ReadError.OutOfMemory) }
+    ensures number { OnOk result (number.new ≡ number.old + 1) }
+    ensures count { IfOk result (λ n. n ≡ number.old + 1) }
+    ensures error { IfErr result (λ e. e.error ≡ ReadError.OutOfMemory) }
 {
     match number.checked_add(1) {
         Some(next) => {

@@ -36,7 +36,7 @@ impl EntryReader for JsonReader {
 
     ghost says = { λ r line entry t. ReadsLine JsonLines r.ignored line entry t.ignored };
 
-    ghost refuses = { IsLineErrorOf };
+    ghost refuses = { λ _ line e. IsLineErrorOf line e };
 
     fn read(&mut self, line: &str) -> Result<Entry, ReadError> {
         read_entry_line(self.alloc, line, &mut self.ignored)

@@ -48,10 +48,7 @@ pub fn distinct_lists_stand()
         IsListIn (format_in options text) text entries → AreDistinct entries →
         IsAnswer options entries printed found →
         Appends before after printed → Prints options (text ∷ []) before after found }
-{
-    haya_csl::laws::item_lines_are_a_library();
-    haya_json::laws::member_lines_are_a_library();
-}
+{}
 
 /// The library of a list is that of the entries before the last, in which the last replaces the
 /// entry of its key in its place, or follows the others.

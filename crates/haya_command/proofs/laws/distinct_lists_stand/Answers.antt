@@ -10,7 +10,7 @@ returns c = λ options text entries printed found before after whole list distin
   text = printed;
   reads = record {
     parts = entries ∷ [];
-    each = (list_read c.item_lines_are_a_library.ensures.library c.member_lines_are_a_library.ensures.library options text entries whole list distinct, tt);
+    each = (list_read options text entries whole list distinct, tt);
     pushed = sym (from_entries-distinct entries distinct) ∙ ap from_entries (sym (append-nil entries));
   };
   answers = answers;

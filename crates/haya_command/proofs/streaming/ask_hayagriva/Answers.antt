@@ -1,11 +1,11 @@
 use Rattle.haya_command.specs.declared.format.Format.TheVariants.{Hayagriva}
 use Rattle.std.proofs.lemmas.Result.{err_from_is_err_and}
-use Rattle.haya_command.proofs.ElementLists.{elements_asked, elements_noted, elements_stopped}
+use Rattle.haya_command.proofs.ElementLists.{elements_asked, elements_noted, elements_stopped, members_listed}
 use Rattle.haya_command.proofs.streaming.ask_hayagriva.Goals as goal
 
 pub returns-in-Err-clause-part : goal.returns-in-Err-clause-part
 returns-in-Err-clause-part g c = λ text known.
-    elements_stopped (λ s. s.options.now) (λ s. s.selector) (λ s. s.hits) Hayagriva (λ r. r.ignored) (λ t es h. h) (λ t h. h) (λ p es h. h) (λ p x h. h) c.args.asker c.args.asker.streams c.new.result c.new.ensures _ _ text
+    elements_stopped (λ s. s.options.now) (λ s. s.selector) (λ s. s.hits) Hayagriva (λ r. r.number) (λ r. r.ignored) members_listed (λ t o h. h) (λ l p es h. h) (λ p x h. h) c.args.asker c.args.asker.streams c.new.result c.new.ensures.number c.new.ensures.ignored _ _ text
     c.args.name.now _ _ _ c.list_fault.ensures (c.in-Err.ensures.part text known)
 
 pub returns-in_err-note_passed_over-clause-part : goal.returns-in_err-note_passed_over-clause-part
@@ -13,10 +13,10 @@ returns-in_err-note_passed_over-clause-part g c =
     let p = err_from_is_err_and c.from_residual.result c.from_residual.ensures.1 in
     rw (p.1, p.2)
     (λ text known.
-    elements_noted (λ s. s.options.now) (λ s. s.selector) (λ s. s.hits) Hayagriva (λ r. r.ignored) (λ t es h. h) (λ t h. h) (λ p es h. h) c.args.asker _ c.args.asker.streams c.new.result _ c.new.ensures _ _ _ _ text known
+    elements_noted (λ s. s.options.now) (λ s. s.selector) (λ s. s.hits) Hayagriva (λ r. r.number) (λ r. r.ignored) members_listed (λ t o h. h) (λ l p es h. h) c.args.asker _ c.args.asker.streams c.new.result _ c.new.ensures.number c.new.ensures.ignored _ _ _ _ text known
     c.args.name.now _ c.in_err-note_passed_over.ensures.fault (c.in-Ok.ensures.all text known))
 
 pub returns-clause-asks : goal.returns-clause-asks
 returns-clause-asks g c = λ text known.
-    elements_asked (λ s. s.options.now) (λ s. s.selector) (λ s. s.hits) Hayagriva (λ r. r.ignored) (λ t es h. h) (λ t h. h) (λ p es h. h) c.args.asker _ c.args.asker.streams c.new.result _ c.new.ensures _ _ _ _ text known
+    elements_asked (λ s. s.options.now) (λ s. s.selector) (λ s. s.hits) Hayagriva (λ r. r.number) (λ r. r.ignored) members_listed (λ t o h. h) (λ l p es h. h) c.args.asker _ c.args.asker.streams c.new.result _ c.new.ensures.number c.new.ensures.ignored _ _ _ _ text known
     c.in_ok-note_passed_over.ensures.none (c.in-Ok.ensures.all text known)

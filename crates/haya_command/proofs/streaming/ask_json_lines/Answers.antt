@@ -10,9 +10,9 @@ use Rattle.haya_command.proofs.streaming.ask_json_lines.Goals as goal
 pub returns-in-Err-clause-part : goal.returns-in-Err-clause-part
 returns-in-Err-clause-part g c =
     let a = c.in-Err.ensures.part in
-    asks_part (λ s. s.options.now) (λ s. s.selector) (λ s. s.hits) (λ s. s.options.now.quiet && nat_lt 0 s.hits) c.args.asker a.last c.args.asker.streams _ _ _ _ JsonLines c.args.name.now _ a.text a.replies
-    a.written a.unwritten a.read (begins_list JsonLines (λ r. r.ignored) c.new.result c.new.ensures a.text (entries_of a.replies) a.list.0 a.list.1) a.run a.parts
-    (stream_why c.args.asker.options.now JsonLines c.args.name.now _ _ _ (λ text fault e is at. line_error (λ r. r.ignored) c.new.result c.new.ensures text fault e is at) a.text a.unwritten c.in-Err.fault _ c.list_fault.ensures a.why) a.prints
+    asks_part (λ s. s.options.now) (λ s. s.selector) (λ s. s.hits) (λ s. s.options.now.quiet && nat_lt 0 s.hits) c.args.asker a.last c.args.asker.streams _ _ _ _ JsonLines c.args.name.now _ a.text a.part a.replies
+    a.written a.unwritten a.read a.of_text (begins_list JsonLines (λ r. r.ignored) _ (λ _ _ _ _ h. h) c.new.result c.new.ensures a.part (entries_of a.replies) a.list.0 a.list.1) a.run a.parts
+    (stream_why c.args.asker.options.now JsonLines c.args.name.now _ _ _ (λ text fault e is at. line_error (λ r. r.ignored) c.new.result c.new.ensures text fault e is at) a.part a.unwritten c.in-Err.fault _ c.list_fault.ensures a.why) a.prints
 
 -- a strict run, or out of memory: all that was read is asked, and what is printed of it written
 pub returns-in_err-note_passed_over-clause-part : goal.returns-in_err-note_passed_over-clause-part
@@ -22,15 +22,15 @@ returns-in_err-note_passed_over-clause-part g c =
     rw (p.1, p.2)
     (elim c.in-Ok.ensures.all [
       | inl a ↦
-          let begins = first_of_all JsonLines (λ r. r.ignored) a.text (entries_of a.replies) _ _ a.list in
-          asks_part (λ s. s.options.now) (λ s. s.selector) (λ s. s.hits) (λ s. s.options.now.quiet && nat_lt 0 s.hits) c.args.asker _ c.args.asker.streams _ _ _ _ JsonLines c.args.name.now _ a.text a.replies (printed_of a.replies) [] a.read
-          (begins_list JsonLines (λ r. r.ignored) c.new.result c.new.ensures a.text (entries_of a.replies) _ begins) a.run (sym (append-nil (printed_of a.replies)))
-          (unknown_why JsonLines (λ r. r.ignored) c.new.result c.new.ensures c.args.asker.options.now _ c.args.name.now a.text (entries_of a.replies) _ _
+          let begins = first_of_all JsonLines (λ r. r.ignored) _ (λ _ _ _ _ h. h) a.text (entries_of a.replies) _ _ a.list in
+          asks_part (λ s. s.options.now) (λ s. s.selector) (λ s. s.hits) (λ s. s.options.now.quiet && nat_lt 0 s.hits) c.args.asker _ c.args.asker.streams _ _ _ _ JsonLines c.args.name.now _ a.text a.text a.replies (printed_of a.replies) [] a.read (inl (a.at_end, refl))
+          (begins_list JsonLines (λ r. r.ignored) _ (λ _ _ _ _ h. h) c.new.result c.new.ensures a.text (entries_of a.replies) _ begins) a.run (sym (append-nil (printed_of a.replies)))
+          (unknown_why JsonLines (λ r. r.ignored) _ (λ _ _ _ _ h. h) c.new.result c.new.ensures c.args.asker.options.now _ c.args.name.now a.text (entries_of a.replies) _ _
           (options_kept (λ s. s.options.now) (λ s. s.selector) (λ s. s.hits) (λ s. s.options.now.quiet && nat_lt 0 s.hits) _ _ a.replies c.args.asker.streams a.run) begins why) a.prints
       | inr a ↦
-          asks_part (λ s. s.options.now) (λ s. s.selector) (λ s. s.hits) (λ s. s.options.now.quiet && nat_lt 0 s.hits) c.args.asker _ c.args.asker.streams _ _ _ _ JsonLines c.args.name.now _ a.text a.replies (printed_of a.replies) [] a.read
-          (begins_list JsonLines (λ r. r.ignored) c.new.result c.new.ensures a.text (entries_of a.replies) _ a.list) a.run (sym (append-nil (printed_of a.replies)))
-          (unknown_why JsonLines (λ r. r.ignored) c.new.result c.new.ensures c.args.asker.options.now _ c.args.name.now a.text (entries_of a.replies) _ _
+          asks_part (λ s. s.options.now) (λ s. s.selector) (λ s. s.hits) (λ s. s.options.now.quiet && nat_lt 0 s.hits) c.args.asker _ c.args.asker.streams _ _ _ _ JsonLines c.args.name.now _ a.text a.part a.replies (printed_of a.replies) [] a.read a.of_text
+          (begins_list JsonLines (λ r. r.ignored) _ (λ _ _ _ _ h. h) c.new.result c.new.ensures a.part (entries_of a.replies) _ a.list) a.run (sym (append-nil (printed_of a.replies)))
+          (unknown_why JsonLines (λ r. r.ignored) _ (λ _ _ _ _ h. h) c.new.result c.new.ensures c.args.asker.options.now _ c.args.name.now a.part (entries_of a.replies) _ _
           (options_kept (λ s. s.options.now) (λ s. s.selector) (λ s. s.hits) (λ s. s.options.now.quiet && nat_lt 0 s.hits) _ _ a.replies c.args.asker.streams a.run) a.list why) a.prints
     ])
 
@@ -53,8 +53,8 @@ returns-clause-asks g c =
     elim c.in-Ok.ensures.all [
       | inl a ↦
           inl (asks_input (λ s. s.options.now) (λ s. s.selector) (λ s. s.hits) (λ s. s.options.now.quiet && nat_lt 0 s.hits) _ _ c.args.asker.streams _ _ _ _ JsonLines _
-          (λ text entries reads. let all = reads_list JsonLines (λ r. r.ignored) c.new.result c.new.ensures _ entries _ reads in
+          (λ text entries reads. let all = reads_list JsonLines (λ r. r.ignored) _ (λ _ _ _ _ h. h) c.new.result c.new.ensures _ entries _ reads in
           (all.listed, (λ strict. (c.in-Ok.done.1.ignored, all.counts, c.in_ok-note_passed_over.ensures.none (rw (options_kept (λ s. s.options.now) (λ s. s.selector) (λ s. s.hits) (λ s. s.options.now.quiet && nat_lt 0 s.hits) _ _ a.replies c.args.asker.streams a.run) strict))))) a)
       | inr a ↦
-          inr (asks_enough (λ s. s.options.now) (λ s. s.selector) (λ s. s.hits) (λ s. s.options.now.quiet && nat_lt 0 s.hits) _ _ c.args.asker.streams _ _ _ _ JsonLines _ (λ text entries begins. begins_list JsonLines (λ r. r.ignored) c.new.result c.new.ensures text entries _ begins) refl a)
+          inr (asks_enough (λ s. s.options.now) (λ s. s.selector) (λ s. s.hits) (λ s. s.options.now.quiet && nat_lt 0 s.hits) _ _ c.args.asker.streams _ _ _ _ JsonLines _ (λ text entries begins. begins_list JsonLines (λ r. r.ignored) _ (λ _ _ _ _ h. h) c.new.result c.new.ensures text entries _ begins) refl a)
     ]

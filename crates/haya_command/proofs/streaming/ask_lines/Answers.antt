@@ -8,7 +8,7 @@ use Rattle.haya_command.proofs.streaming.ask_lines.Goals as goal
 pub returns-in-Ok-clause-asks : goal.returns-in-Ok-clause-asks
 returns-in-Ok-clause-asks g c =
     elim c.in-Ok.ensures.all [
-      | inl a ↦ inl (asks_input (λ s. s.options.now) (λ s. s.selector) (λ s. s.hits) (λ s. s.options.now.quiet && nat_lt 0 s.hits) _ _ c.args.asker.streams _ _ _ _ Lines IsListOf (λ text entries listed. (listed, (λ strict. tt))) a)
+      | inl a ↦ inl (asks_input (λ s. s.options.now) (λ s. s.selector) (λ s. s.hits) (λ s. s.options.now.quiet && nat_lt 0 s.hits) _ _ c.args.asker.streams _ _ _ _ Lines IsListOf (λ text entries listed. (listed, tt)) a)
       | inr a ↦ inr (asks_enough (λ s. s.options.now) (λ s. s.selector) (λ s. s.hits) (λ s. s.options.now.quiet && nat_lt 0 s.hits) _ _ c.args.asker.streams _ _ _ _ Lines BeginsList (λ text entries begins. begins) refl a)
     ]
 
@@ -29,6 +29,6 @@ returns-in-Ok-clause-selector g c =
 pub returns-in-Err-clause-part : goal.returns-in-Err-clause-part
 returns-in-Err-clause-part g c =
     let a = c.in-Err.ensures.part in
-    asks_part (λ s. s.options.now) (λ s. s.selector) (λ s. s.hits) (λ s. s.options.now.quiet && nat_lt 0 s.hits) c.args.asker a.last c.args.asker.streams _ _ _ _ Lines c.args.name.now _ a.text a.replies
-    a.written a.unwritten a.read a.list a.run a.parts
-    (stream_why c.args.asker.options.now Lines c.args.name.now IsFaultOf _ _ (λ text fault e is at. rw is at) a.text a.unwritten c.in-Err.fault _ c.list_fault.ensures a.why) a.prints
+    asks_part (λ s. s.options.now) (λ s. s.selector) (λ s. s.hits) (λ s. s.options.now.quiet && nat_lt 0 s.hits) c.args.asker a.last c.args.asker.streams _ _ _ _ Lines c.args.name.now _ a.text a.part a.replies
+    a.written a.unwritten a.read a.of_text a.list a.run a.parts
+    (stream_why c.args.asker.options.now Lines c.args.name.now IsFaultOf _ _ (λ text fault e is at. rw is at) a.part a.unwritten c.in-Err.fault _ c.list_fault.ensures a.why) a.prints
