@@ -16,3 +16,5 @@ mod open_entries;
 mod printing;
 #[cfg(test)]
 mod runs;
+#[cfg(test)]
+mod streams;
