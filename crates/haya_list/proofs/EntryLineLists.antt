@@ -112,7 +112,8 @@ module _ {S A R : Type 0} (number : S → ℕ) (reader : S → R) (state : S →
 
       line_fault : (text : List ℕ) (first : List (List ℕ)) (line : List ℕ) (more : List (List ℕ)) (given : List Tree) (t : S) (e : EntryFault L) → lines text ≡ first ++ line ∷ more
           → Taken first given t → Refuses t (Some line) (Line e) → IsFaultOf says refuses_line r0 text e
-      line_fault text first line more given t fault.TooMany parts taken why = tt
+      line_fault text first line more given t fault.TooMany parts taken why =
+          rw (parts, length-append first (line ∷ more)) (let count = taken.count in omega arith)
       line_fault text first line more given t (fault.Line at e) parts taken why = record {
         first = first;
         line = line;
@@ -127,8 +128,7 @@ module _ {S A R : Type 0} (number : S → ℕ) (reader : S → R) (state : S →
       }
 
       end_fault : (text : List ℕ) (t : S) (e : EntryFault L) → Refuses t None (Line e) → IsFaultOf says refuses_line r0 text e
-      end_fault text t fault.TooMany why = tt
-      end_fault text t (fault.Line at e) why = absurd why
+      end_fault text t e why = absurd why
 
       pub entries_part : (unread left before after : Option (List ℕ)) (fault : StreamFault (ListRefusal (EntryFault L) E)) → streamed.AnswersPart Asks Refuses s unread left before after fault
           → AnswersPart (λ _ text given. (q : R) × ReadsFirst says text given r0 q) (IsFaultOf says refuses_line r0) answers is_done refuses (state s) unread left before after fault

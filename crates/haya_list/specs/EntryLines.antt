@@ -1,5 +1,5 @@
 -- The entries of a text of which each line says one.
-use Rattle.std.specs.Prelude.{◌≡◌, ◌≢◌, ◌==◌, ℕ, ◌+◌, MatchBool, List, [], ◌∷◌, ◌++◌, Option, None, Some, length, map}
+use Rattle.std.specs.Prelude.{◌≡◌, ◌≢◌, ◌≤◌, ◌==◌, ℕ, ◌+◌, ◌^◌, MatchBool, List, [], ◌∷◌, ◌++◌, Option, None, Some, length, map}
 use Rattle.std.specs.List.{FoldsTo}
 use Rattle.std.specs.Str.Lines.{lines}
 use Rattle.hayagriva.specs.Tree.{Tree}
@@ -45,7 +45,7 @@ abbrev pub IsFaultOf : {R E : Type 0} → (R → List ℕ → Tree → R → Typ
     → (R → List ℕ → E → Type 0) → R → List ℕ → EntryFault E → Type 0
 IsFaultOf says refuses before text (fault.Line number e) =
     FirstFault says refuses before text number e
-IsFaultOf says refuses before text fault.TooMany = Unit {0}
+IsFaultOf says refuses before text fault.TooMany = 2 ^ 64 ≤ length (lines text)
 
 -- ---- a turn of one who reads lines
 
@@ -73,8 +73,8 @@ pub record FaultInLine {E : Type 0} (refuses : List ℕ → E → Type 0) (numbe
 abbrev pub FaultInTurn : {E : Type 0} → (List ℕ → E → Type 0) → ℕ → Option (List ℕ)
     → EntryFault E → Type 0
 FaultInTurn refuses number (Some line) (fault.Line at e) = FaultInLine refuses number line at e
-FaultInTurn refuses number None (fault.Line at e) = ⊥
-FaultInTurn refuses number turn fault.TooMany = Unit {0}
+FaultInTurn refuses number (Some line) fault.TooMany = number ≡ 2 ^ 64
+FaultInTurn refuses number None e = ⊥
 
 -- the entry that a turn's line says is refused
 abbrev pub RefusesEntry : {S E : Type 0} → (S → Tree → E → Type 0) → S → E → Type 0
