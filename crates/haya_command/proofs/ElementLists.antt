@@ -13,7 +13,7 @@ use Rattle.haya_json.specs.MemberLines as member_lines
 use Rattle.haya_json.proofs.MemberLists as member_lists
 use Rattle.haya_json.specs.Tally.{tally}
 use Rattle.haya_json.specs.declared.ignored.Ignored.{Ignored}
-use Rattle.haya_elements.specs.Elements.{filled}
+use Rattle.haya_elements.specs.Elements.{nonempty_lines}
 use Rattle.haya_list.specs.EntryLines.{IsFaultOf, ReadsFirst, ReadsLines}
 use Rattle.haya_list.specs.Listed.{AnswersEnough, AnswersList, AnswersPart, entries_of, printed_of}
 use Rattle.haya_list.specs.declared.fault.EntryFault.{EntryFault}
@@ -46,13 +46,13 @@ whole_text unread left text bytes known read ends = by left (subst (λ u. Consum
     by (Some rest) read ends = sym (append-nil bytes) ∙ sym (rw ends at read)
 
 -- the lines of an array, or of an object, say what it lists, and what is passed over of it
-pub items_listed : (text : List ℕ) (entries : List Tree) (passed : Ignored) → AllZip (IsLineIn CslJson) (filled (lines (asked_lines CslJson text))) entries
+pub items_listed : (text : List ℕ) (entries : List Tree) (passed : Ignored) → AllZip (IsLineIn CslJson) (nonempty_lines (lines (asked_lines CslJson text))) entries
     → counts_of passed ≡ tally (lines_passed_over CslJson (lines (asked_lines CslJson text))) → IsListIn CslJson text entries × PassesOver CslJson text passed
 items_listed text entries passed each counted =
     let said : item_lines.LinesList text entries (counts_of passed) = record { each = each; of_passed_over = counted } in
     (item_lists.list_of_lines text entries (counts_of passed) said, item_lists.ignored_of_lines text entries passed said)
 
-pub members_listed : (text : List ℕ) (entries : List Tree) (passed : Ignored) → AllZip (IsLineIn format.Hayagriva) (filled (lines (asked_lines format.Hayagriva text))) entries
+pub members_listed : (text : List ℕ) (entries : List Tree) (passed : Ignored) → AllZip (IsLineIn format.Hayagriva) (nonempty_lines (lines (asked_lines format.Hayagriva text))) entries
     → counts_of passed ≡ tally (lines_passed_over format.Hayagriva (lines (asked_lines format.Hayagriva text)))
     → IsListIn format.Hayagriva text entries × PassesOver format.Hayagriva text passed
 members_listed text entries passed each counted =
@@ -60,7 +60,7 @@ members_listed text entries passed each counted =
     (member_lists.list_of_lines text entries (counts_of passed) said, member_lists.ignored_of_lines text entries passed said)
 
 module _ {S R : Type 0} (options : S → Options) (selector : S → Syntax) (hits : S → ℕ) (format : Format) (number : R → ℕ) (ignored : R → Ignored)
-    (listed_in : (text : List ℕ) (entries : List Tree) (passed : Ignored) → AllZip (IsLineIn format) (filled (lines (asked_lines format text))) entries
+    (listed_in : (text : List ℕ) (entries : List Tree) (passed : Ignored) → AllZip (IsLineIn format) (nonempty_lines (lines (asked_lines format text))) entries
     → counts_of passed ≡ tally (lines_passed_over format (lines (asked_lines format text))) → IsListIn format text entries × PassesOver format text passed)
     (accepted_in : (text : List ℕ) (o : Options) → (IsTrue o.strict → IsWhole format text) → IsAccepted o format text)
     (begins_in : (left : Option (List ℕ)) (part : List ℕ) (entries : List Tree) → BeginsLines format part entries → BeginsListIn format left part entries) where

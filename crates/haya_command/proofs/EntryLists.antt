@@ -12,7 +12,7 @@ use Rattle.haya_json.specs.declared.error.ReadError.{ReadError}
 use Rattle.haya_json.specs.declared.error.ReadError.TheVariants.{OutOfMemory}
 use Rattle.haya_json.specs.declared.ignored.Ignored.{Ignored}
 use Rattle.haya_json.proofs.Tallies.{counted_from_none, counted_together}
-use Rattle.haya_elements.specs.Elements.{filled}
+use Rattle.haya_elements.specs.Elements.{nonempty_lines}
 use Rattle.haya_list.specs.EntryLines.{IsFaultOf, ReadsFirst, ReadsLines}
 use Rattle.haya_list.specs.declared.fault.EntryFault.{EntryFault}
 use Rattle.haya_list.specs.declared.fault.EntryFault.TheVariants as entry_fault
@@ -46,7 +46,7 @@ module _ (format : Format) {R : Type 0} (ignored : R → Ignored) (says : R → 
 
   -- the entries of lines, and what is passed over of them
   pub record ReadsList (ls : List (List ℕ)) (entries : List Tree) (q : R) : Type 0 where
-    pub listed : AllZip (IsLineIn format) (filled ls) entries
+    pub listed : AllZip (IsLineIn format) (nonempty_lines ls) entries
     pub counts : counts_of (ignored q) ≡ tally (lines_passed_over format ls)
 
   pub first_of_all : (text : List ℕ) (entries : List Tree) (r q : R) → ReadsLines says (lines text) entries r q → ReadsFirst says text entries r q

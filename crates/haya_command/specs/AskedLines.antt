@@ -4,7 +4,7 @@ use Rattle.std.specs.List.{AllZip}
 use Rattle.std.specs.Str.Lines.{lines}
 use Rattle.hayagriva.specs.Tree.{Tree}
 use Rattle.haya_csl.specs.ItemLines as item_lines
-use Rattle.haya_elements.specs.Elements.{element_lines, filled}
+use Rattle.haya_elements.specs.Elements.{element_lines, nonempty_lines}
 use Rattle.haya_elements.specs.declared.place.Brackets.TheVariants.{Curly, Square}
 use Rattle.haya_json.specs.Ignored.{counts_of}
 use Rattle.haya_json.specs.JsonLines as json_lines
@@ -51,7 +51,7 @@ pub record BeginsLines (format : Format) (text : List ℕ) (entries : List Tree)
   pub first : List (List ℕ)
   pub more : List (List ℕ)
   pub parts : lines text ≡ first ++ more
-  pub listed : AllZip (IsLineIn format) (filled first) entries
+  pub listed : AllZip (IsLineIn format) (nonempty_lines first) entries
 
 -- the same of an input's text in a format, of which this is left
 abbrev pub BeginsListIn : Format → Option (List ℕ) → List ℕ → List Tree → Type 0
@@ -69,7 +69,7 @@ line_passed_over Lines line = []
 
 -- of the entries of lines
 abbrev pub lines_passed_over : Format → List (List ℕ) → List (List ℕ)
-lines_passed_over format ls = flat_map (line_passed_over format) (filled ls)
+lines_passed_over format ls = flat_map (line_passed_over format) (nonempty_lines ls)
 
 -- in a strict run nothing is passed over of a text; of lines that are no JSON nothing ever is
 abbrev pub IsAccepted : Options → Format → List ℕ → Type 0
@@ -129,7 +129,7 @@ pub record FirstElementError (format : Format) (text : List ℕ) (e : ElementErr
   pub more : List (List ℕ)
   pub entries : List Tree
   pub parts : lines text ≡ first ++ line ∷ more
-  pub listed : AllZip (IsLineIn format) (filled first) entries
+  pub listed : AllZip (IsLineIn format) (nonempty_lines first) entries
   pub some : length line ≢ 0
   pub error : IsElementError format (length entries) line e
 

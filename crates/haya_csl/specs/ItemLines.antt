@@ -6,7 +6,7 @@ use Rattle.std.specs.Str.Lines.{lines}
 use Rattle.json.specs.Json.{Items, Json, array, document, item, no_items}
 use Rattle.json.specs.Lex.{tokens}
 use Rattle.json.specs.Strict.{HasUniqueKeys, ItemsHaveUniqueKeys}
-use Rattle.haya_elements.specs.Elements.{IsItem, element_lines, elements, filled}
+use Rattle.haya_elements.specs.Elements.{IsItem, element_lines, elements, nonempty_lines}
 use Rattle.haya_elements.specs.declared.place.Brackets.TheVariants.{Square}
 use Rattle.haya_entry.specs.Tree.{Tree}
 use Rattle.haya_json.specs.Alone.{value_alone}
@@ -47,7 +47,7 @@ line_passed_over line = option_map_or item_passed_over (item_in line) []
 
 -- the names of the members that are passed over of the items of lines
 abbrev pub lines_passed_over : List (List ℕ) → List (List ℕ)
-lines_passed_over ls = flat_map line_passed_over (filled ls)
+lines_passed_over ls = flat_map line_passed_over (nonempty_lines ls)
 
 -- ---- a text
 

@@ -11,7 +11,7 @@ use Rattle.haya_elements.specs.declared.place.Mode.{Mode}
 use Rattle.haya_elements.specs.declared.place.Mode.TheVariants.{Between, Word, Text, Escape}
 use Rattle.haya_elements.specs.declared.place.Place.{Place}
 use Rattle.haya_elements.specs.declared.place.Place.TheVariants.{Front, Opened, Next, Element, Closed, Lost}
-use Rattle.haya_elements.proofs.Pieces.{HasNo, filled-lines, pieces}
+use Rattle.haya_elements.proofs.Pieces.{HasNo, nonempty_lines-pieces, pieces}
 use Rattle.haya_elements.proofs.Words.{is_word_end}
 
 -- the tests that make a class: of a quote, a backslash, an operator and a space
@@ -209,4 +209,4 @@ no_return b p (x ∷ xs) = (step_return b p x, no_return b (step b p x).0 xs)
 -- The elements of a text are the pieces of its lines.
 pub elements-pieces : (b : Brackets) (text : List ℕ)
     → elements b text ≡ pieces (lines_from b Front text)
-elements-pieces b text = filled-lines (lines_from b Front text) (no_return b Front text)
+elements-pieces b text = nonempty_lines-pieces (lines_from b Front text) (no_return b Front text)

@@ -6,7 +6,7 @@ use Rattle.json.specs.Text.{content, plain}
 use Rattle.json.specs.Word.{is_operator, is_space, head, ends_word}
 use Rattle.json.specs.Lex.{Class, class, quote, backslash, operator, space, other}
 use Rattle.haya_elements.specs.Steps.{Step, operator_step, blank_byte, element_step, text_byte}
-use Rattle.haya_elements.specs.Elements.{filled, lines_from}
+use Rattle.haya_elements.specs.Elements.{nonempty_lines, lines_from}
 use Rattle.haya_elements.specs.declared.place.Brackets.{Brackets}
 use Rattle.haya_elements.specs.declared.place.Mode.{Mode}
 use Rattle.haya_elements.specs.declared.place.Mode.TheVariants.{Between, Word, Text, Escape}
@@ -27,7 +27,7 @@ line_from b p xs = first_line (lines_from b p xs)
 
 -- the elements behind it
 abbrev pub more_from : Brackets → Place → List ℕ → List (List ℕ)
-more_from b p xs = filled (later_lines (lines_from b p xs))
+more_from b p xs = nonempty_lines (later_lines (lines_from b p xs))
 
 -- the rest of the line where a step has been made
 abbrev pub line_at : Brackets → Step → List ℕ → List ℕ
@@ -35,7 +35,7 @@ line_at b s xs = first_line (lines_at b s xs)
 
 -- the elements behind it
 abbrev pub more_at : Brackets → Step → List ℕ → List (List ℕ)
-more_at b s xs = filled (later_lines (lines_at b s xs))
+more_at b s xs = nonempty_lines (later_lines (lines_at b s xs))
 
 -- ---- strings
 
@@ -74,7 +74,7 @@ line_on b p y xs e = ap (λ t. cond t [] (y ∷ line_from b p xs)) e
 pub more_on : (b : Brackets) (p : Place) (y : ℕ) (xs : List ℕ) → (y == 10) ≡ false
     → more_at b (p, y) xs ≡ more_from b p xs
 more_on b p y xs e =
-    ap (λ t. filled (cond t (line_from b p xs ∷ later_lines (lines_from b p xs))
+    ap (λ t. nonempty_lines (cond t (line_from b p xs ∷ later_lines (lines_from b p xs))
     (later_lines (lines_from b p xs)))) e
 
 module _ (b : Brackets) (d : ℕ) where

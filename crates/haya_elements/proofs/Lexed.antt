@@ -5,7 +5,7 @@ use Rattle.std.specs.Prelude.{⊤}
 use Rattle.json.specs.Align.{is_blank}
 use Rattle.json.specs.Lex.{Lexeme, token, comma, Class, class, quote, backslash, operator, space, other, between, fresh, lex_byte, lex, punctuate}
 use Rattle.haya_elements.specs.Steps.{start_step, closing_bracket, lost_step, space_step, opening_bracket, opening_step}
-use Rattle.haya_elements.specs.Elements.{elements, filled, lines_from}
+use Rattle.haya_elements.specs.Elements.{elements, nonempty_lines, lines_from}
 use Rattle.haya_elements.specs.declared.place.Brackets.{Brackets}
 use Rattle.haya_elements.specs.declared.place.Brackets.TheVariants.{Square, Curly}
 use Rattle.haya_elements.specs.declared.place.Mode.{Mode}
@@ -16,7 +16,7 @@ use Rattle.haya_elements.proofs.Classes.{apart, elements-pieces}
 use Rattle.haya_elements.proofs.Copied.{line_from, lines_at, line_on, more_from, more_on}
 use Rattle.haya_elements.proofs.Faults.{AreFine, fine}
 use Rattle.haya_elements.proofs.Bracketed.{close_token, open_token, tail_of, body_of, in_brackets}
-use Rattle.haya_elements.proofs.Pieces.{filled-some, later_lines, pieces}
+use Rattle.haya_elements.proofs.Pieces.{nonempty_lines-some, later_lines, pieces}
 use Rattle.haya_elements.proofs.Within.{AllGood, IsKnown, SaysAt, SaysFrom, at_byte, at_end, line_lexemes, lost_line, reads_opened}
 
 -- an element begins, and others follow
@@ -48,7 +48,7 @@ lost_says : (b : Brackets) (xs : List ℕ) (P : Type 0) → AllGood (pieces (lin
     → P
 unfolding lex punctuate
 lost_says b xs P good =
-    absurd (subst AllGood (ap (λ l. filled (l ∷ later_lines (lines_from b Lost xs)))
+    absurd (subst AllGood (ap (λ l. nonempty_lines (l ∷ later_lines (lines_from b Lost xs)))
     (lost_line b xs)) good).0.0
 
 end_says : (P : Type 0) → AllGood ((44 ∷ []) ∷ []) → P
@@ -63,8 +63,8 @@ IsBegun-element : (b : Brackets) (m : Mode) (d y : ℕ) (xs : List ℕ) (text : 
 IsBegun-element b m d y xs text feed says good =
     let p = Element m d in
     let whole : pieces (lines_at b (p, y) xs) ≡ (y ∷ line_from b p xs) ∷ more_from b p xs =
-    (λ i. filled (line_on b p y xs feed i ∷ later_lines (y ∷ lines_from b p xs)))
-    ∙ filled-some y (line_from b p xs) (later_lines (y ∷ lines_from b p xs))
+    (λ i. nonempty_lines (line_on b p y xs feed i ∷ later_lines (y ∷ lines_from b p xs)))
+    ∙ nonempty_lines-some y (line_from b p xs) (later_lines (y ∷ lines_from b p xs))
     ∙ ap (λ ls. (y ∷ line_from b p xs) ∷ ls) (more_on b p y xs feed) in
     let each = subst AllGood whole good in
     let first = line_on b p y xs feed in

@@ -10,6 +10,7 @@ mod Fronts
 mod Items
 mod Lexed
 mod Line
+pub mod NonemptyLines
 mod Outside
 mod Pieces
 mod Punctuated

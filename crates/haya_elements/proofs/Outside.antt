@@ -7,14 +7,14 @@ use Rattle.json.specs.Text.{content, plain}
 use Rattle.json.specs.Word.{word}
 use Rattle.json.specs.Lex.{Lexeme, token, Class, class, quote, backslash, operator, space, other, between, operator_lexeme, string_token, lex_byte, lex}
 use Rattle.haya_elements.specs.Steps.{start_step, closing_bracket, element_step, space_step, opening_bracket, step}
-use Rattle.haya_elements.specs.Elements.{filled, lines_from}
+use Rattle.haya_elements.specs.Elements.{nonempty_lines, lines_from}
 use Rattle.haya_elements.specs.declared.place.Brackets.{Brackets}
 use Rattle.haya_elements.specs.declared.place.Brackets.TheVariants.{Square, Curly}
 use Rattle.haya_elements.specs.declared.place.Mode.TheVariants.{Between}
 use Rattle.haya_elements.specs.declared.place.Place.{Place}
 use Rattle.haya_elements.specs.declared.place.Place.TheVariants.{Front, Opened, Next, Element, Closed, Lost}
 use Rattle.haya_elements.proofs.Bracketed.{open_token, close_token}
-use Rattle.haya_elements.proofs.Pieces.{HasNo, first_line, first_line-append, later_lines, pieces, filled-some}
+use Rattle.haya_elements.proofs.Pieces.{HasNo, first_line, first_line-append, later_lines, pieces, nonempty_lines-some}
 use Rattle.haya_elements.proofs.Classes.{class_tells, lex_class}
 use Rattle.haya_elements.proofs.Copied.{lines_at}
 use Rattle.haya_elements.proofs.TokenKinds.{kind}
@@ -38,12 +38,12 @@ later_of (x ∷ line) out h =
 pub pieces_line : (line out : List ℕ) → HasNo 10 line → 0 < length line
     → pieces (line ++ 10 ∷ out) ≡ line ∷ pieces out
 pieces_line line out h some =
-    (λ i. filled (first_of line out h i ∷ later_of line out h i)) ∙ by line some
+    (λ i. nonempty_lines (first_of line out h i ∷ later_of line out h i)) ∙ by line some
   where
     by : (l : List ℕ) → 0 < length l
-        → filled (l ∷ (first_line out ∷ later_lines out)) ≡ l ∷ pieces out
+        → nonempty_lines (l ∷ (first_line out ∷ later_lines out)) ≡ l ∷ pieces out
     by [] none = absurd (omega arith)
-    by (x ∷ l) some = filled-some x l (first_line out ∷ later_lines out)
+    by (x ∷ l) some = nonempty_lines-some x l (first_line out ∷ later_lines out)
 
 -- ---- white space
 

@@ -1,7 +1,7 @@
 -- The lines of a text with no carriage return, by recursion over its bytes.
 use Rattle.std.proofs.Common.{◌≡◌, ℕ, zero, suc, ◌-◌, Bool, true, false, not, ◌==◌, cond, List, [], ◌∷◌, ◌++◌, length, take, slice_index, refl, sym, ap, ◌∙◌, arith}
 use Rattle.std.specs.List.{AllByRecursion, onto_first, slice_split}
-use Rattle.haya_elements.specs.Elements.{filled}
+use Rattle.haya_elements.specs.Elements.{nonempty_lines}
 use Rattle.std.specs.Str.Lines.{lines, lines_of_parts, strip_carriage_return}
 use Rattle.std.proofs.lemmas.Bool.{cond_both, ne_eqb}
 
@@ -17,13 +17,13 @@ later_lines (x ∷ xs) = cond (x == 10) (first_line xs ∷ later_lines xs) (late
 
 -- those of all lines that aren't empty
 abbrev pub pieces : List ℕ → List (List ℕ)
-pieces xs = filled (first_line xs ∷ later_lines xs)
+pieces xs = nonempty_lines (first_line xs ∷ later_lines xs)
 
-pub filled-some : (x : ℕ) (l : List ℕ) (ls : List (List ℕ))
-    → filled ((x ∷ l) ∷ ls) ≡ (x ∷ l) ∷ filled ls
-filled-some x l ls =
+pub nonempty_lines-some : (x : ℕ) (l : List ℕ) (ls : List (List ℕ))
+    → nonempty_lines ((x ∷ l) ∷ ls) ≡ (x ∷ l) ∷ nonempty_lines ls
+nonempty_lines-some x l ls =
     let some : (length (x ∷ l) == 0) ≡ false = ne_eqb (length (x ∷ l)) 0 (λ e. omega arith) in
-    ap (λ b. cond (not b) ((x ∷ l) ∷ filled ls) (filled ls)) some
+    ap (λ b. cond (not b) ((x ∷ l) ∷ nonempty_lines ls) (nonempty_lines ls)) some
 
 -- the byte appears nowhere in the text
 abbrev pub HasNo : ℕ → List ℕ → Type 0
@@ -75,20 +75,20 @@ later_no_return (x ∷ xs) h =
     cond_both (x == 10) (first_line xs ∷ later_lines xs) (later_lines xs) HaveNoReturn
     (λ e. (first_no_return xs h.1, later_no_return xs h.1)) (λ e. later_no_return xs h.1)
 
-filled_parts : (l : List ℕ) (ls : List (List ℕ)) → HasNo 13 l → HaveNoReturn ls
-    → filled (lines_of_parts (l ∷ ls)) ≡ filled (l ∷ ls)
-filled_parts l [] h k = by (length l == 0) refl
+nonempty_parts : (l : List ℕ) (ls : List (List ℕ)) → HasNo 13 l → HaveNoReturn ls
+    → nonempty_lines (lines_of_parts (l ∷ ls)) ≡ nonempty_lines (l ∷ ls)
+nonempty_parts l [] h k = by (length l == 0) refl
   where
     by : (b : Bool) → (length l == 0) ≡ b
-        → filled (cond b [] (l ∷ [])) ≡ cond (not (length l == 0)) (l ∷ []) []
+        → nonempty_lines (cond b [] (l ∷ [])) ≡ cond (not (length l == 0)) (l ∷ []) []
     by true e = sym (ap (λ c. cond (not c) (l ∷ []) []) e)
     by false e = refl
-filled_parts l (m ∷ ls) h k =
+nonempty_parts l (m ∷ ls) h k =
     (λ i. cond (not (length (strips_none l h i) == 0))
-    (strips_none l h i ∷ filled_parts m ls k.0 k.1 i) (filled_parts m ls k.0 k.1 i))
+    (strips_none l h i ∷ nonempty_parts m ls k.0 k.1 i) (nonempty_parts m ls k.0 k.1 i))
 
 -- The lines of a text that aren't empty are its pieces.
-pub filled-lines : (xs : List ℕ) → HasNo 13 xs → filled (lines xs) ≡ pieces xs
-filled-lines xs h =
-    ap (λ ps. filled (lines_of_parts ps)) (splits xs)
-    ∙ filled_parts (first_line xs) (later_lines xs) (first_no_return xs h) (later_no_return xs h)
+pub nonempty_lines-pieces : (xs : List ℕ) → HasNo 13 xs → nonempty_lines (lines xs) ≡ pieces xs
+nonempty_lines-pieces xs h =
+    ap (λ ps. nonempty_lines (lines_of_parts ps)) (splits xs)
+    ∙ nonempty_parts (first_line xs) (later_lines xs) (first_no_return xs h) (later_no_return xs h)

@@ -30,12 +30,12 @@ abbrev pub element_lines : Brackets → List ℕ → List ℕ
 element_lines b text = lines_from b Front text
 
 -- the lines that aren't empty
-abbrev pub filled : List (List ℕ) → List (List ℕ)
-filled ls = filter (λ line. not (length line == 0)) ls
+abbrev pub nonempty_lines : List (List ℕ) → List (List ℕ)
+nonempty_lines ls = filter (λ line. not (length line == 0)) ls
 
 -- the lines of a text that have an element
 abbrev pub elements : Brackets → List ℕ → List (List ℕ)
-elements b text = filled (lines (element_lines b text))
+elements b text = nonempty_lines (lines (element_lines b text))
 
 -- ---- what an element says
 

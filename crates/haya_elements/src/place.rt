@@ -37,10 +37,10 @@ impl Brackets {
     }
 }
 
-/// What a byte in an element stands in.
+/// What a byte in an element is part of.
 #[derive(Clone, Copy, Debug, Drop, PartialEq, Eq)]
 pub enum Mode {
-    /// Nothing: it stands between two tokens.
+    /// Nothing: it is between two tokens.
     Between,
     /// A number, or `true`, `false` or `null`.
     Word,

@@ -5,7 +5,7 @@ use Rattle.std.specs.List.{AllZip, list_any}
 use Rattle.std.specs.Str.Lines.{lines}
 use Rattle.std.proofs.lemmas.List.Elements.{All-filter, All-head, All-tail}
 use Rattle.json.specs.Json.{Json}
-use Rattle.haya_elements.specs.Elements.{filled}
+use Rattle.haya_elements.specs.Elements.{nonempty_lines}
 use Rattle.haya_entry.specs.Tree.{Tree}
 use Rattle.hayagriva.specs.Library.{has_key, key_of, push, with_replacement}
 use Rattle.haya_json.specs.Entries.{entry_of}
@@ -37,7 +37,7 @@ module _ (again : ReadAgain) where
   -- the entries that a text lists
   pub list_readable : (text : List ℕ) (entries : List Tree) → IsUtf8 text → IsListOf text entries → EntriesAreReadable entries
   list_readable text entries utf8 list =
-      entries_readable entries (all_read (filled (lines text)) entries (All-filter (λ line. not (length line == 0)) IsUtf8 (lines text) (lines_utf8 text utf8)) list)
+      entries_readable entries (all_read (nonempty_lines (lines text)) entries (All-filter (λ line. not (length line == 0)) IsUtf8 (lines text) (lines_utf8 text utf8)) list)
 
 -- ---- their library
 

@@ -3,10 +3,10 @@ use Rattle.std.proofs.Common.{◌≡◌, ◌==◌, ℕ, ◌+◌, ◌<◌, Bool, 
 use Rattle.std.specs.List.{AllZip}
 use Rattle.std.specs.Str.Lines.{lines}
 use Rattle.std.proofs.lemmas.List.{drop_more, length-take-le, take-append-drop, take_all, take_more}
-use Rattle.std.proofs.lemmas.List.Elements.{filter-append}
 use Rattle.std.proofs.lemmas.List.Sums.{fold-append}
 use Rattle.std.proofs.lemmas.Grind.{flat_map-append}
-use Rattle.haya_elements.specs.Elements.{filled}
+use Rattle.haya_elements.specs.Elements.{nonempty_lines}
+use Rattle.haya_elements.proofs.NonemptyLines.{nonempty_lines-append}
 use Rattle.haya_entry.specs.Tree.{Tree}
 use Rattle.hayagriva.specs.Library.{from_entries, push}
 use Rattle.hayagriva.proofs.Parts.{AllZip-append}
@@ -17,15 +17,12 @@ use Rattle.haya_json.proofs.Tallies.{counted_from_none, counted_together}
 
 -- ---- some lines, and then others
 
-filled-append : (ls more : List (List ℕ)) → filled (ls ++ more) ≡ filled ls ++ filled more
-filled-append ls more = filter-append (λ line. not (length line == 0)) ls more
-
 pub AreEntriesOf-append : (ls more : List (List ℕ)) (entries others : List Tree) → AreEntriesOf ls entries → AreEntriesOf more others → AreEntriesOf (ls ++ more) (entries ++ others)
 AreEntriesOf-append ls more entries others listed then =
-    subst (λ fs. AllZip IsLineOf fs (entries ++ others)) (sym (filled-append ls more)) (AllZip-append IsLineOf (filled ls) (filled more) entries others listed then)
+    subst (λ fs. AllZip IsLineOf fs (entries ++ others)) (sym (nonempty_lines-append ls more)) (AllZip-append IsLineOf (nonempty_lines ls) (nonempty_lines more) entries others listed then)
 
 pub lines_passed_over-append : (ls more : List (List ℕ)) → lines_passed_over (ls ++ more) ≡ lines_passed_over ls ++ lines_passed_over more
-lines_passed_over-append ls more = ap (flat_map line_passed_over) (filled-append ls more) ∙ flat_map-append line_passed_over (filled ls) (filled more)
+lines_passed_over-append ls more = ap (flat_map line_passed_over) (nonempty_lines-append ls more) ∙ flat_map-append line_passed_over (nonempty_lines ls) (nonempty_lines more)
 
 -- ---- a line
 

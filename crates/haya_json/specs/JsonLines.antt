@@ -5,7 +5,7 @@ use Rattle.std.specs.Option.{option_map_or}
 use Rattle.std.specs.Str.Lines.{lines}
 use Rattle.json.specs.Json.{Json, document}
 use Rattle.json.specs.Strict.{HasUniqueKeys}
-use Rattle.haya_elements.specs.Elements.{filled}
+use Rattle.haya_elements.specs.Elements.{nonempty_lines}
 use Rattle.haya_entry.specs.Tree.{Tree}
 use Rattle.hayagriva.specs.Library.{from_entries, push}
 use Rattle.haya_json.specs.Entries.{entry_of}
@@ -49,10 +49,10 @@ line_passed_over line = option_map_or value_passed_over (document line) []
 
 -- the entries that lines list, in order, repeated keys and all: one for each line that isn't empty
 abbrev pub AreEntriesOf : List (List ℕ) → List Tree → Type 0
-AreEntriesOf ls entries = AllZip IsLineOf (filled ls) entries
+AreEntriesOf ls entries = AllZip IsLineOf (nonempty_lines ls) entries
 
 abbrev pub lines_passed_over : List (List ℕ) → List (List ℕ)
-lines_passed_over ls = flat_map line_passed_over (filled ls)
+lines_passed_over ls = flat_map line_passed_over (nonempty_lines ls)
 
 -- the entry of a line is pushed to a library; an empty line has none
 abbrev pub PushesLine : List ℕ → List Tree → List Tree → Type 0

@@ -7,7 +7,7 @@ use Rattle.json.specs.Json.{Json, Members, document, member, no_members, object}
 use Rattle.json.specs.Lex.{tokens}
 use Rattle.json.specs.Strict.{HasUniqueKeys, MembersHaveUniqueKeys}
 use Rattle.json.specs.Token.{Token}
-use Rattle.haya_elements.specs.Elements.{IsMember, element_lines, elements, filled}
+use Rattle.haya_elements.specs.Elements.{IsMember, element_lines, elements, nonempty_lines}
 use Rattle.haya_elements.specs.declared.place.Brackets.TheVariants.{Curly}
 use Rattle.haya_entry.specs.Tree.{Tree}
 use Rattle.haya_json.specs.Alone.{value_alone}
@@ -52,7 +52,7 @@ line_passed_over line = option_map_or passed_over (member_in line) []
 
 -- the names of the members that are passed over of the entries of lines
 abbrev pub lines_passed_over : List (List ℕ) → List (List ℕ)
-lines_passed_over ls = flat_map line_passed_over (filled ls)
+lines_passed_over ls = flat_map line_passed_over (nonempty_lines ls)
 
 -- ---- a text
 

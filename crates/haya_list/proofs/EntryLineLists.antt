@@ -1,10 +1,10 @@
 -- The entries of a text of which each line says one, turn by turn.
-use Rattle.std.proofs.Common.{◌≡◌, ◌==◌, ℕ, ◌+◌, Bool, true, false, not, cond, List, [], ◌∷◌, ◌++◌, Option, None, Some, MatchBool, length, length-append, refl, sym, ap, ◌∙◌, append-nil, arith}
+use Rattle.std.proofs.Common.{◌≡◌, ◌==◌, ℕ, ◌+◌, Bool, true, false, cond, List, [], ◌∷◌, ◌++◌, Option, None, Some, MatchBool, length, length-append, refl, sym, ap, ◌∙◌, append-nil, arith}
 use Rattle.std.specs.Str.Lines.{lines}
 use Rattle.std.proofs.lemmas.List.{map-append}
-use Rattle.std.proofs.lemmas.List.Elements.{filter-append}
 use Rattle.hayagriva.specs.Tree.{Tree}
-use Rattle.haya_elements.specs.Elements.{filled}
+use Rattle.haya_elements.specs.Elements.{nonempty_lines}
+use Rattle.haya_elements.proofs.NonemptyLines.{nonempty_lines-append}
 use Rattle.haya_stream.proofs.Taken.{folds_on}
 use Rattle.haya_stream.specs.Answered as stream
 use Rattle.haya_stream.specs.Streamed as streamed
@@ -18,18 +18,15 @@ use Rattle.haya_list.specs.declared.fault.ListRefusal.TheVariants.{Line}
 use Rattle.haya_list.proofs.Inputs.{list_all, list_enough, list_part}
 use Rattle.haya_list.proofs.Lists.{Replied, no_reply, one_reply}
 
-filled-append : (ls more : List (List ℕ)) → filled (ls ++ more) ≡ filled ls ++ filled more
-filled-append ls more = filter-append (λ line. not (length line == 0)) ls more
-
-filled_one : (line : List ℕ) (empty : Bool) → (length line == 0) ≡ empty → filled (line ∷ []) ≡ cond empty [] (line ∷ [])
-filled_one line true is = rw is refl
-filled_one line false is = rw is refl
+nonempty_lines_one : (line : List ℕ) (empty : Bool) → (length line == 0) ≡ empty → nonempty_lines (line ∷ []) ≡ cond empty [] (line ∷ [])
+nonempty_lines_one line true is = rw is refl
+nonempty_lines_one line false is = rw is refl
 
 module _ {R : Type 0} (says : R → List ℕ → Tree → R → Type 0) (before : List (List ℕ)) (given : List Tree) (r0 r : R) (so_far : ReadsLines says before given r0 r) (line : List ℕ) where
   reads_none : (length line == 0) ≡ true → ReadsLines says (before ++ line ∷ []) (given ++ []) r0 r
   reads_none empty = record {
     parts = so_far.parts;
-    of_lines = so_far.of_lines ∙ sym (filled-append before (line ∷ []) ∙ ap (λ l. filled before ++ l) (filled_one line true empty) ∙ append-nil (filled before));
+    of_lines = so_far.of_lines ∙ sym (nonempty_lines-append before (line ∷ []) ∙ ap (λ l. nonempty_lines before ++ l) (nonempty_lines_one line true empty) ∙ append-nil (nonempty_lines before));
     of_entries = so_far.of_entries ∙ sym (append-nil given);
     run = so_far.run;
   }
@@ -39,7 +36,7 @@ module _ {R : Type 0} (says : R → List ℕ → Tree → R → Type 0) (before 
     parts = so_far.parts ++ (line, entry) ∷ [];
     of_lines =
         map-append (λ p. p.0) so_far.parts ((line, entry) ∷ []) ∙ ap (λ l. l ++ line ∷ []) so_far.of_lines
-        ∙ sym (filled-append before (line ∷ []) ∙ ap (λ l. filled before ++ l) (filled_one line false some));
+        ∙ sym (nonempty_lines-append before (line ∷ []) ∙ ap (λ l. nonempty_lines before ++ l) (nonempty_lines_one line false some));
     of_entries = map-append (λ p. p.1) so_far.parts ((line, entry) ∷ []) ∙ ap (λ l. l ++ entry ∷ []) so_far.of_entries;
     run = folds_on (λ p part next. says p part.0 part.1 next) r0 so_far.parts r ((line, entry) ∷ []) q so_far.run (q, read, refl);
   }

@@ -3,7 +3,7 @@ use Rattle.std.specs.Prelude.{◌≡◌, ◌≢◌, ◌≤◌, ◌==◌, ℕ, �
 use Rattle.std.specs.List.{FoldsTo}
 use Rattle.std.specs.Str.Lines.{lines}
 use Rattle.hayagriva.specs.Tree.{Tree}
-use Rattle.haya_elements.specs.Elements.{filled}
+use Rattle.haya_elements.specs.Elements.{nonempty_lines}
 use Rattle.haya_list.specs.declared.fault.EntryFault.{EntryFault}
 use Rattle.haya_list.specs.declared.fault.EntryFault.TheVariants as fault
 use Rattle.haya_list.specs.declared.fault.ListRefusal.{ListRefusal}
@@ -13,7 +13,7 @@ use Rattle.haya_list.specs.declared.fault.ListRefusal.TheVariants.{Entry, Line}
 pub record ReadsLines {R : Type 0} (says : R → List ℕ → Tree → R → Type 0)
     (ls : List (List ℕ)) (entries : List Tree) (before after : R) : Type 0 where
   pub parts : List (List ℕ × Tree)
-  pub of_lines : map (λ p. p.0) parts ≡ filled ls
+  pub of_lines : map (λ p. p.0) parts ≡ nonempty_lines ls
   pub of_entries : map (λ p. p.1) parts ≡ entries
   pub run : FoldsTo (λ p part q. says p part.0 part.1 q) before parts after
 
