@@ -9,6 +9,3 @@ mod place;
 mod search;
 
 pub use assignment::{Assignment, least_assignment};
-
-#[cfg(test)]
-mod tests;

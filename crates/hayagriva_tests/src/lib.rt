@@ -5,6 +5,8 @@
 #[cfg(test)]
 mod apply;
 #[cfg(test)]
+mod assignment;
+#[cfg(test)]
 mod copies;
 #[cfg(test)]
 mod deep;

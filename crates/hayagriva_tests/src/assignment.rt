@@ -1,8 +1,7 @@
+//! Members that are assigned to parents: worked rows, and each small table tried out.
 ghost use Rattle.std.specs.Prelude.{◌≡◌, All, IfOk, vec_len};
 
-use crate::{Assignment, least_assignment};
-use haya_entry::Steps;
-use haya_text::OutOfMemory;
+use hayagriva::{Assignment, OutOfMemory, Steps, least_assignment};
 use std::alloc::Global;
 use std::process::Abort;
 

@@ -1,5 +1,5 @@
 use Rattle.std.proofs.Common.{◌≡◌, vec_len}
-use Rattle.haya_assignment.proofs.tests.row_of_digits.Given as goal
+use Rattle.hayagriva_tests.proofs.assignment.row_of_digits.Given as goal
 
 abbrev pub invariant-row : goal.invariant-row
 invariant-row l = vec_len l.row ≡ l.counter
