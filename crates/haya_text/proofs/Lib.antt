@@ -9,3 +9,4 @@ mod Normals
 mod Pushes
 mod Scans
 mod Serials
+pub mod Turns

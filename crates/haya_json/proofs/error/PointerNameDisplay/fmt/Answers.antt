@@ -1,9 +1,12 @@
-use Rattle.std.proofs.Common.{◌≡◌, sym, ◌∙◌, map-id}
+use Rattle.std.proofs.Common.{◌≡◌, [], ◌∷◌, ◌++◌, true, flat_map, refl, sym, ◌∙◌, map-id}
+use Rattle.std.proofs.lemmas.Grind.{put_two}
 use Rattle.std.proofs.lemmas.Iterator.{YieldsList-from_chars}
 use Rattle.std.proofs.lemmas.Iterator.Consumers.{YieldsList-end}
 use Rattle.std.proofs.lemmas.Str.{IsUtf8-string_bytes}
 use Rattle.std.specs.Str.{chars}
 use Rattle.std.specs.String.{string_bytes}
+use Rattle.haya_text.proofs.Turns.{flat_map-turn}
+use Rattle.haya_json.specs.Messages.{pointer_char}
 use Rattle.haya_json.proofs.error.PointerNameDisplay.fmt.Goals as goal
 
 pub returns-clause-writes : goal.returns-clause-writes
@@ -11,3 +14,12 @@ returns-clause-writes g c =
     let end = YieldsList-end (YieldsList-from_chars (string_bytes c.args.self.now.0.now) (IsUtf8-string_bytes c.args.self.now.0.now) cc) c.loop-c.yielded _ c.loop-c.yielded_by _ _ c.in-None.is c.next.ensures.steps in
     let all : c.loop-c.yielded ≡ chars (string_bytes c.args.self.now.0.now) = sym (map-id c.loop-c.yielded) ∙ end.0 in
     λ plain _. rw (← all) (c.loop-c.invariant plain)
+
+pub loop-c-preserved : goal.loop-c-preserved
+loop-c-preserved g c = λ plain.
+    let before = c.loop-c.invariant plain in
+    let now = c.in_ok-write.ensures.writes before.plain (refl {a = true}) in
+    put_two g.W.Write.write_str_gives c.args.f.now c.loop-c.f c.write.new.self
+    (flat_map pointer_char c.loop-c.yielded) (pointer_char c.in-Some.c)
+    (flat_map pointer_char (c.loop-c.yielded ++ c.in-Some.c ∷ [])) before now
+    (flat_map-turn pointer_char c.loop-c.yielded c.in-Some.c (pointer_char c.in-Some.c) refl)
