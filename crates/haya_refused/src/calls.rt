@@ -1,15 +1,14 @@
 //! The ways in which a call is tried. What a call answers is told by `Ok(true)` for the wanted
 //! value, by `Ok(false)` for any other, and by the refusal. After a refusal the call is made once
-//! more, memory being there. The calls are functions with names, and have what they need handed in:
-//! a closure takes three proofs more.
-use crate::marks::Memory::NotTaken;
-use crate::marks::{Row, begin, end, normal, out_of_memory};
+//! more, memory being there. Each way is a macro, which writes the call in both places: a function
+//! that is handed on takes two proofs more.
+use crate::marks::{Row, end, normal, out_of_memory};
 use haya_text::{OutOfMemory, TryClone};
 use std::alloc::Global;
 use std::io::Print;
 use std::process::Abort;
 
-// Whether the call was refused. Where it was not, it has its normal answer.
+/// Whether the call was refused. Where it was not, it has its normal answer.
 pub(crate) fn is_refused(
     rt: &(impl Abort + AllocGlobal),
     heard: bool,
@@ -26,8 +25,8 @@ pub(crate) fn is_refused(
     }
 }
 
-// The call that was refused gives its normal answer.
-fn told(rt: &(impl Abort + AllocGlobal), heard: bool, again: Result<bool, OutOfMemory>) {
+/// The call that was refused gives its normal answer.
+pub(crate) fn told(rt: &(impl Abort + AllocGlobal), heard: bool, again: Result<bool, OutOfMemory>) {
     assert!(rt;
         matches!(again, Ok(true)),
         "not the wanted answer after a refusal"
@@ -35,52 +34,41 @@ fn told(rt: &(impl Abort + AllocGlobal), heard: bool, again: Result<bool, OutOfM
     out_of_memory(rt, heard);
 }
 
+/// A call that uses up its argument, which is made before, and the same call of an equal one.
+macro_rules! makes {
+    ($rt:expr, $row:expr, $call:expr, $again:expr) => {{
+        let heard = $crate::marks::begin($rt, $row);
+        let answer = $call;
+        if $crate::calls::is_refused($rt, heard, answer) {
+            let again = $again;
+            $crate::calls::told($rt, heard, again);
+        }
+    }};
+}
+
+pub(crate) use makes;
+
 /// A call that changes nothing.
-pub(crate) fn asks<
-    R: Abort + AllocGlobal + Print,
-    A: Copy,
-    F: FnMut(Global, A) -> Result<bool, OutOfMemory>,
->(rt: &R, row: Row<'_>, given: A, mut ask: F)
-    requires { F.IsAlwaysCallable ask }
-{
-    let heard = begin(rt, row);
-    let answer = ask(rt.alloc(), given);
-    if is_refused(rt, heard, answer) {
-        let again = ask(rt.alloc(), given);
-        told(rt, heard, again);
-    }
+macro_rules! asks {
+    ($rt:expr, $row:expr, $call:expr) => {
+        $crate::calls::makes!($rt, $row, $call, $call)
+    };
 }
 
-/// A call that uses up its argument.
-pub(crate) fn makes<
-    R: Abort + AllocGlobal + Print,
-    A: Drop,
-    F: FnMut(Global, A) -> Result<bool, OutOfMemory>,
->(rt: &R, row: Row<'_>, first: A, second: A, mut make: F)
-    requires { F.IsAlwaysCallable make }
-{
-    let heard = begin(rt, row);
-    let answer = make(rt.alloc(), first);
-    if is_refused(rt, heard, answer) {
-        let again = make(rt.alloc(), second);
-        told(rt, heard, again);
-    }
+pub(crate) use asks;
+
+/// Calls that take no memory, by their names with a blank between two, and whether they answer
+/// right.
+macro_rules! takes_none {
+    ($rt:expr, $calls:expr, $is_right:expr) => {{
+        let row = $crate::marks::Row($calls, "no memory", $crate::marks::Memory::NotTaken);
+        let heard = $crate::marks::begin($rt, row);
+        let is_right = $is_right;
+        $crate::calls::is_refused($rt, heard, Ok(is_right));
+    }};
 }
 
-/// Calls that take no memory, by their names with a blank between two: whether they answer right.
-pub(crate) fn takes_none<R: Abort + AllocGlobal + Print, A: Copy, F: FnMut(A) -> bool>(
-    rt: &R,
-    calls: &str,
-    given: A,
-    mut is_right: F,
-)
-    requires { F.IsAlwaysCallable is_right }
-{
-    let row = Row(calls, "no memory", NotTaken);
-    let heard = begin(rt, row);
-    let answer = is_right(given);
-    is_refused(rt, heard, Ok(answer));
-}
+pub(crate) use takes_none;
 
 fn is_copied<T: TryClone + PartialEq + Drop>(
     alloc: Global,
@@ -98,7 +86,7 @@ pub(crate) fn copies<R: Abort + AllocGlobal + Print, T: TryClone + PartialEq + D
     row: Row<'_>,
     original: T,
 ) {
-    asks(rt, row, &original, is_copied::<T>);
+    asks!(rt, row, is_copied(rt.alloc(), &original));
     drop(original);
 }
 
@@ -117,35 +105,44 @@ pub(crate) struct Change<V> {
     pub(crate) after: V,
 }
 
-/// A call that changes a value by an argument. Where it is refused, the value is as before, and the
-/// call that is made once more has its effect.
-pub(crate) fn changes<
-    R: Abort + AllocGlobal + Print,
-    V: PartialEq + Drop,
-    A: Drop,
-    F: FnMut(&mut V, A) -> Result<bool, OutOfMemory>,
->(rt: &R, row: Row<'_>, given: Change<V>, first: A, second: A, mut change: F)
-    requires { F.IsAlwaysCallable change }
-{
-    let Change {
-        mut value,
-        before,
-        after,
-    } = given;
-    let heard = begin(rt, row);
-    let answer = change(&mut value, first);
+/// Whether the call that changes a value was refused. Where it was, the value is as before.
+pub(crate) fn is_unchanged<V: PartialEq + Drop>(
+    rt: &(impl Abort + AllocGlobal),
+    heard: bool,
+    answer: Result<bool, OutOfMemory>,
+    given: &Change<V>,
+) -> bool {
     end(rt, heard);
     match answer {
-        Ok(is_wanted) => {
-            is_refused(rt, heard, Ok(is_wanted && value == after));
-        }
+        Ok(is_wanted) => is_refused(rt, heard, Ok(is_wanted && given.value == given.after)),
         Err(OutOfMemory) => {
-            assert!(rt; value == before, "a change at a refusal");
-            let again = matches!(change(&mut value, second), Ok(true)) && value == after;
-            told(rt, heard, Ok(again));
+            assert!(rt; given.value == given.before, "a change at a refusal");
+            true
         }
     }
-    drop(value);
-    drop(before);
-    drop(after);
 }
+
+/// Whether the call that is made once more has its effect.
+pub(crate) fn is_changed<V: PartialEq + Drop>(
+    again: Result<bool, OutOfMemory>,
+    given: &Change<V>,
+) -> Result<bool, OutOfMemory> {
+    Ok(again? && given.value == given.after)
+}
+
+/// A call that changes a value by an argument, and the same call by an equal argument. Where it is
+/// refused, the value is as before, and the call that is made once more has its effect.
+macro_rules! changes {
+    ($rt:expr, $row:expr, $given:ident, $call:expr, $again:expr) => {{
+        let heard = $crate::marks::begin($rt, $row);
+        let answer = $call;
+        if $crate::calls::is_unchanged($rt, heard, answer, &$given) {
+            let again = $again;
+            let is_done = $crate::calls::is_changed(again, &$given);
+            $crate::calls::told($rt, heard, is_done);
+        }
+        drop($given);
+    }};
+}
+
+pub(crate) use changes;

@@ -41,10 +41,14 @@ fn is_made(alloc: Global, key: &str) -> Result<bool, OutOfMemory> {
 
 #[test]
 fn made(rt: HostRuntime) {
-    asks(&rt, Row("Entry::new", "a key", Taken), "a key", is_made);
+    asks!(
+        &rt,
+        Row("Entry::new", "a key", Taken),
+        is_made(rt.alloc(), "a key")
+    );
 }
 
-fn lets_go(_alloc: Global, entry: Entry) -> Result<bool, OutOfMemory> {
+fn lets_go(entry: Entry) -> Result<bool, OutOfMemory> {
     drop(entry);
     Ok(true)
 }
@@ -52,12 +56,11 @@ fn lets_go(_alloc: Global, entry: Entry) -> Result<bool, OutOfMemory> {
 #[test]
 fn let_go(rt: HostRuntime) {
     let (one, other) = (with_parents(&rt, 3), with_parents(&rt, 3));
-    makes(
+    makes!(
         &rt,
         Row("Entry::drop", "three parents", NotTaken),
-        one,
-        other,
-        lets_go,
+        lets_go(one),
+        lets_go(other)
     );
 }
 
@@ -77,7 +80,7 @@ const KEPT: &[(&str, &str, &str)] = &[
     ),
 ];
 
-fn keeps(entry: &mut Entry, (key, number): (&str, String)) -> Result<bool, OutOfMemory> {
+fn keeps(entry: &mut Entry, key: &str, number: String) -> Result<bool, OutOfMemory> {
     entry.set_keyed_serial_number(key, number)?;
     Ok(true)
 }
@@ -86,13 +89,19 @@ fn keeps(entry: &mut Entry, (key, number): (&str, String)) -> Result<bool, OutOf
 fn keyed_serial_numbers(rt: HostRuntime) {
     for (from, key, to) in KEPT {
         let row = Row("Entry::set_keyed_serial_number", *key, Taken);
-        let given = to_become(&rt, *from, *to);
-        let first = (*key, string(&rt, "10.1/a"));
-        changes(&rt, row, given, first, (*key, string(&rt, "10.1/a")), keeps);
+        let mut given = to_become(&rt, *from, *to);
+        let first = string(&rt, "10.1/a");
+        changes!(
+            &rt,
+            row,
+            given,
+            keeps(&mut given.value, *key, first),
+            keeps(&mut given.value, *key, string(&rt, "10.1/a"))
+        );
     }
 }
 
-fn sets(entry: &mut Entry, (key, number): (&str, String)) -> Result<bool, OutOfMemory> {
+fn sets(entry: &mut Entry, key: &str, number: String) -> Result<bool, OutOfMemory> {
     match key {
         "doi" => entry.set_doi(number)?,
         "isbn" => entry.set_isbn(number)?,
@@ -125,15 +134,14 @@ const NAMED: &[(&str, &str, &str)] = &[
 #[test]
 fn named_serial_numbers(rt: HostRuntime) {
     for (call, key, to) in NAMED {
-        let given = to_become(&rt, "0\tk\tbook\turl=x", *to);
-        let first = (*key, string(&rt, "10.1/a"));
-        changes(
+        let mut given = to_become(&rt, "0\tk\tbook\turl=x", *to);
+        let first = string(&rt, "10.1/a");
+        changes!(
             &rt,
             Row(*call, *key, Taken),
             given,
-            first,
-            (*key, string(&rt, "10.1/a")),
-            sets,
+            sets(&mut given.value, *key, first),
+            sets(&mut given.value, *key, string(&rt, "10.1/a"))
         );
     }
 }
@@ -153,7 +161,8 @@ fn with_parents(rt: &(impl Abort + AllocGlobal), count: usize) -> Entry {
 /// Adds a parent. Where it is refused, the parent comes back.
 pub(crate) fn adds_parent(
     child: &mut Entry,
-    (parent, original): (Entry, &Entry),
+    parent: Entry,
+    original: &Entry,
 ) -> Result<bool, OutOfMemory> {
     match child.add_parent(parent) {
         Ok(()) => Ok(true),
@@ -167,20 +176,19 @@ const COUNTS: &[usize] = &[0, 4];
 fn add_parent(rt: HostRuntime) {
     let original = parent(&rt);
     for count in COUNTS {
-        let given = Change {
+        let mut given = Change {
             value: with_parents(&rt, *count),
             before: with_parents(&rt, *count),
             after: with_parents(&rt, count.saturating_add(1)),
         };
         let row = Row("Entry::add_parent", "behind none or four", Taken);
-        let first = (parent(&rt), &original);
-        changes(
+        let first = parent(&rt);
+        changes!(
             &rt,
             row,
             given,
-            first,
-            (parent(&rt), &original),
-            adds_parent,
+            adds_parent(&mut given.value, first, &original),
+            adds_parent(&mut given.value, parent(&rt), &original)
         );
     }
     drop(original);
@@ -196,7 +204,8 @@ fn affiliated(rt: &(impl Abort + AllocGlobal)) -> Affiliated {
 // Where it is refused, the persons and the role come back.
 fn adds_affiliated(
     entry: &mut Entry,
-    (persons, original): (Affiliated, &Affiliated),
+    persons: Affiliated,
+    original: &Affiliated,
 ) -> Result<bool, OutOfMemory> {
     match entry.add_affiliated_persons(persons) {
         Ok(()) => Ok(true),
@@ -227,15 +236,14 @@ fn add_affiliated_persons(rt: HostRuntime) {
             "behind none or four",
             Taken,
         );
-        let given = to_become(&rt, *from, *to);
-        let first = (affiliated(&rt), &original);
-        changes(
+        let mut given = to_become(&rt, *from, *to);
+        let first = affiliated(&rt);
+        changes!(
             &rt,
             row,
             given,
-            first,
-            (affiliated(&rt), &original),
-            adds_affiliated,
+            adds_affiliated(&mut given.value, first, &original),
+            adds_affiliated(&mut given.value, affiliated(&rt), &original)
         );
     }
     drop(original);
@@ -272,11 +280,11 @@ fn serials(mut entry: Entry) -> Option<SerialNumber> {
 fn copied(rt: HostRuntime) {
     let original = below(&rt, entry(&rt, FULL), entry(&rt, FULL));
     let row = Row("Entry::try_clone", "all fields and a parent", Taken);
-    asks(&rt, row, &original, is_copied);
+    asks!(&rt, row, is_copied(rt.alloc(), &original));
     drop(original);
     let serial = serials(entry(&rt, FULL)).expect(&rt, "numbers");
     let row = Row("SerialNumber::try_clone", "all keys", Taken);
-    asks(&rt, row, &serial, serial_is_copied);
+    asks!(&rt, row, serial_is_copied(rt.alloc(), &serial));
 }
 
 fn told(fault: LineFault) -> Result<bool, OutOfMemory> {
@@ -287,7 +295,7 @@ fn told(fault: LineFault) -> Result<bool, OutOfMemory> {
 }
 
 /// Whether a line reads as this entry.
-pub(crate) fn is_line(alloc: Global, (line, wanted): (&str, &Entry)) -> Result<bool, OutOfMemory> {
+pub(crate) fn is_line(alloc: Global, line: &str, wanted: &Entry) -> Result<bool, OutOfMemory> {
     match read_line(alloc, line, 500) {
         Ok((depth, found)) => {
             let is_equal = depth == 0 && found == *wanted;
@@ -318,7 +326,7 @@ pub(crate) fn try_line(
 ) {
     let wanted = entry(rt, line);
     let row = Row("read_line", about, memory);
-    asks(rt, row, (line, &wanted), is_line);
+    asks!(rt, row, is_line(rt.alloc(), line, &wanted));
     drop(wanted);
 }
 
@@ -336,7 +344,7 @@ fn fills(alloc: Global, entry: &mut Entry, line: &str) -> Result<(), LineFault> 
     read_fields(alloc, entry, items)
 }
 
-fn is_filled(alloc: Global, (line, wanted): (&str, &Entry)) -> Result<bool, OutOfMemory> {
+fn is_filled(alloc: Global, line: &str, wanted: &Entry) -> Result<bool, OutOfMemory> {
     let mut made = Entry::new(alloc, "k", EntryType::Book)?;
     let filled = fills(alloc, &mut made, line);
     let is_equal = made == *wanted;
@@ -351,6 +359,6 @@ fn is_filled(alloc: Global, (line, wanted): (&str, &Entry)) -> Result<bool, OutO
 fn fields(rt: HostRuntime) {
     let wanted = entry(&rt, FULL);
     let row = Row("read_fields", "all fields", Optional);
-    asks(&rt, row, (FULL, &wanted), is_filled);
+    asks!(&rt, row, is_filled(rt.alloc(), FULL, &wanted));
     drop(wanted);
 }

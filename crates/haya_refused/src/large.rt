@@ -24,10 +24,7 @@ fn repeated(rt: &(impl Abort + AllocGlobal), piece: &str, count: usize) -> Strin
     text
 }
 
-fn is_serialized(
-    alloc: Global,
-    (read, wanted): (&ChunkedString, &str),
-) -> Result<bool, OutOfMemory> {
+fn is_serialized(alloc: Global, read: &ChunkedString, wanted: &str) -> Result<bool, OutOfMemory> {
     Ok(read.to_serialized(alloc)?.as_str() == wanted)
 }
 
@@ -41,10 +38,10 @@ fn a_long_text(rt: HostRuntime) {
     let long = repeated(&rt, PIECE, PIECES);
     let text = long.as_str();
     let row = Row("ChunkedString::from_str", "a long text", Often);
-    asks(&rt, row, (text, text), is_read::<ChunkedString>);
+    asks!(&rt, row, is_read::<ChunkedString>(rt.alloc(), (text, text)));
     let read = text_of(&rt, text);
     let row = Row("ChunkedString::to_serialized", "a long text", Taken);
-    asks(&rt, row, (&read, text), is_serialized);
+    asks!(&rt, row, is_serialized(rt.alloc(), &read, text));
     copies(
         &rt,
         Row("ChunkedString::try_clone", "a long text", Taken),
@@ -58,14 +55,20 @@ fn a_long_text_pushed(rt: HostRuntime) {
     let long = repeated(&rt, PIECE, PIECES);
     let text = long.as_str();
     let after = repeated(&rt, text, 2);
-    let given = Change {
+    let mut given = Change {
         value: text_of(&rt, text),
         before: text_of(&rt, text),
         after: text_of(&rt, after.as_str()),
     };
     drop(after);
     let row = Row("ChunkedString::push_str", "a long text", Taken);
-    changes(&rt, row, given, text, text, pushes);
+    changes!(
+        &rt,
+        row,
+        given,
+        pushes(&mut given.value, text),
+        pushes(&mut given.value, text)
+    );
     drop(long);
 }
 
@@ -74,7 +77,7 @@ fn many_chunks(rt: HostRuntime) {
     let long = repeated(&rt, "a{b}", 70_000);
     let text = long.as_str();
     let row = Row("ChunkedString::from_str", "140,000 chunks", Often);
-    asks(&rt, row, (text, text), is_read::<ChunkedString>);
+    asks!(&rt, row, is_read::<ChunkedString>(rt.alloc(), (text, text)));
     let row = Row("ChunkedString::try_clone", "140,000 chunks", Often);
     copies(&rt, row, text_of(&rt, text));
     drop(long);
@@ -93,7 +96,7 @@ fn numbered(rt: &(impl Abort + AllocGlobal), count: usize) -> Entry {
     made
 }
 
-fn keeps(entry: &mut Entry, (key, number): (&str, String)) -> Result<bool, OutOfMemory> {
+fn keeps(entry: &mut Entry, key: &str, number: String) -> Result<bool, OutOfMemory> {
     entry.set_keyed_serial_number(key, number)?;
     Ok(true)
 }
@@ -103,7 +106,7 @@ const COUNTS: &[usize] = &[0, 64, 65, 80];
 #[test]
 fn serial_numbers(rt: HostRuntime) {
     for count in COUNTS {
-        let given = Change {
+        let mut given = Change {
             value: numbered(&rt, *count),
             before: numbered(&rt, *count),
             after: numbered(&rt, count.saturating_add(1)),
@@ -114,17 +117,22 @@ fn serial_numbers(rt: HostRuntime) {
             "a long number of many",
             Taken,
         );
-        let first = (key.as_str(), repeated(&rt, key.as_str(), 5_000));
-        let second = (key.as_str(), repeated(&rt, key.as_str(), 5_000));
-        changes(&rt, row, given, first, second, keeps);
+        let first = repeated(&rt, key.as_str(), 5_000);
+        let second = repeated(&rt, key.as_str(), 5_000);
+        changes!(
+            &rt,
+            row,
+            given,
+            keeps(&mut given.value, key.as_str(), first),
+            keeps(&mut given.value, key.as_str(), second)
+        );
         drop(key);
     }
     let many = numbered(&rt, 80);
-    asks(
+    asks!(
         &rt,
         Row("Entry::try_clone", "80 long serial numbers", Taken),
-        &many,
-        is_copied,
+        is_copied(rt.alloc(), &many)
     );
     drop(many);
 }
@@ -143,22 +151,27 @@ fn with_parents(rt: &(impl Abort + AllocGlobal)) -> Entry {
 fn many_parents(rt: HostRuntime) {
     let child = with_parents(&rt);
     let row = Row("Entry::try_clone", "65,536 parents", Often);
-    asks(&rt, row, &child, is_copied);
+    asks!(&rt, row, is_copied(rt.alloc(), &child));
     drop(child);
 }
 
 #[test]
 fn one_parent_more(rt: HostRuntime) {
     let last = entry(&rt, "0\tlast\tweb");
-    let given = Change {
+    let mut given = Change {
         value: with_parents(&rt),
         before: with_parents(&rt),
         after: below(&rt, with_parents(&rt), entry(&rt, "0\tlast\tweb")),
     };
     let row = Row("Entry::add_parent", "behind 65,536", Taken);
-    let first = (entry(&rt, "0\tlast\tweb"), &last);
-    let second = (entry(&rt, "0\tlast\tweb"), &last);
-    changes(&rt, row, given, first, second, adds_parent);
+    let (first, second) = (entry(&rt, "0\tlast\tweb"), entry(&rt, "0\tlast\tweb"));
+    changes!(
+        &rt,
+        row,
+        given,
+        adds_parent(&mut given.value, first, &last),
+        adds_parent(&mut given.value, second, &last)
+    );
     drop(last);
 }
 

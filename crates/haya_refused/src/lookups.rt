@@ -58,10 +58,10 @@ fn ancestors(rt: HostRuntime) {
     let child = chapter(&rt);
     let works = "Entry::get_container Entry::get_collection Entry::get_full Entry::get_original \
         Entry::dfs_parent";
-    takes_none(&rt, works, &child, finds_works);
-    takes_none(&rt, "Entry::date_any Entry::url_any", &child, finds_values);
+    takes_none!(&rt, works, finds_works(&child));
+    takes_none!(&rt, "Entry::date_any Entry::url_any", finds_values(&child));
     let mapped = "Entry::map Entry::map_parents Entry::map_parents_counted Steps::new Steps::seen";
-    takes_none(&rt, mapped, &child, maps);
+    takes_none!(&rt, mapped, maps(&child));
     drop(child);
 }
 
@@ -78,7 +78,9 @@ fn role_of(text: &str) -> PersonRole {
 
 fn are_affiliated(
     alloc: Global,
-    (work, role, number): (&Entry, &str, usize),
+    work: &Entry,
+    role: &str,
+    number: usize,
 ) -> Result<bool, OutOfMemory> {
     let found = work.affiliated_with_role(alloc, role_of(role))?;
     Ok(found.len() == number)
@@ -92,7 +94,7 @@ fn affiliated(rt: HostRuntime) {
     let work = entry(&rt, line);
     for (about, role, memory, number) in ROLES {
         let row = Row("Entry::affiliated_with_role", *about, *memory);
-        asks(&rt, row, (&work, *role, *number), are_affiliated);
+        asks!(&rt, row, are_affiliated(rt.alloc(), &work, *role, *number));
     }
     drop(work);
 }

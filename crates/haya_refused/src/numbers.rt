@@ -66,7 +66,7 @@ fn is_page(
 // A number, and the page that it is, if it is in range.
 type Page = (i64, Option<&'static str>);
 
-fn from_i32(alloc: Global, (number, wanted): (i32, &str)) -> Result<bool, OutOfMemory> {
+fn from_i32(alloc: Global, number: i32, wanted: &str) -> Result<bool, OutOfMemory> {
     is_page(PageRanges::from_i32(alloc, number), Some(wanted))
 }
 
@@ -74,59 +74,57 @@ fn try_from_i64(alloc: Global, (number, wanted): Page) -> Result<bool, OutOfMemo
     is_page(PageRanges::try_from_i64(alloc, number), wanted)
 }
 
-fn try_from_u32(alloc: Global, (number, wanted): (u32, Option<&str>)) -> Result<bool, OutOfMemory> {
+fn try_from_u32(alloc: Global, number: u32, wanted: Option<&str>) -> Result<bool, OutOfMemory> {
     is_page(PageRanges::try_from_u32(alloc, number), wanted)
 }
 
-fn try_from_u64(alloc: Global, (number, wanted): (u64, Option<&str>)) -> Result<bool, OutOfMemory> {
+fn try_from_u64(alloc: Global, number: u64, wanted: Option<&str>) -> Result<bool, OutOfMemory> {
     is_page(PageRanges::try_from_u64(alloc, number), wanted)
 }
 
 #[test]
 fn pages_of_a_number(rt: HostRuntime) {
-    asks(
+    asks!(
         &rt,
         Row("PageRanges::from_i32", "-7", Taken),
-        (-7, "-7"),
-        from_i32,
+        from_i32(rt.alloc(), -7, "-7")
     );
     let row = Row("PageRanges::try_from_u32", "7", Taken);
-    asks(&rt, row, (7, Some("7")), try_from_u32);
+    asks!(&rt, row, try_from_u32(rt.alloc(), 7, Some("7")));
     let row = Row("PageRanges::try_from_u64", "7", Taken);
-    asks(&rt, row, (7, Some("7")), try_from_u64);
+    asks!(&rt, row, try_from_u64(rt.alloc(), 7, Some("7")));
     let row = Row("PageRanges::try_from_i64", "-7", Taken);
-    asks(&rt, row, (-7, Some("-7")), try_from_i64);
+    asks!(&rt, row, try_from_i64(rt.alloc(), (-7, Some("-7"))));
 }
 
 #[test]
 fn pages_out_of_range(rt: HostRuntime) {
     let row = Row("PageRanges::try_from_u32", "out of range", NotTaken);
-    asks(&rt, row, (2_147_483_648, None), try_from_u32);
+    asks!(&rt, row, try_from_u32(rt.alloc(), 2_147_483_648, None));
     let row = Row("PageRanges::try_from_u64", "out of range", NotTaken);
-    asks(&rt, row, (2_147_483_648, None), try_from_u64);
+    asks!(&rt, row, try_from_u64(rt.alloc(), 2_147_483_648, None));
     let row = Row("PageRanges::try_from_i64", "out of range", NotTaken);
-    asks(&rt, row, (-2_147_483_649, None), try_from_i64);
+    asks!(&rt, row, try_from_i64(rt.alloc(), (-2_147_483_649, None)));
 }
 
-fn from_range(alloc: Global, _given: ()) -> Result<bool, OutOfMemory> {
+fn from_range(alloc: Global) -> Result<bool, OutOfMemory> {
     Ok(Numeric::from_range(alloc, 1..4)?.is_told("1–4"))
 }
 
 #[test]
 fn a_range(rt: HostRuntime) {
-    asks(
+    asks!(
         &rt,
         Row("Numeric::from_range", "1 to 4", Taken),
-        (),
-        from_range,
+        from_range(rt.alloc())
     );
 }
 
-fn number_text(alloc: Global, (number, wanted): (&Numeric, &str)) -> Result<bool, OutOfMemory> {
+fn number_text(alloc: Global, number: &Numeric, wanted: &str) -> Result<bool, OutOfMemory> {
     Ok(number.round_trip_text(alloc)?.as_str() == wanted)
 }
 
-fn pages_text(alloc: Global, (pages, wanted): (&PageRanges, &str)) -> Result<bool, OutOfMemory> {
+fn pages_text(alloc: Global, pages: &PageRanges, wanted: &str) -> Result<bool, OutOfMemory> {
     Ok(pages.round_trip_text(alloc)?.as_str() == wanted)
 }
 
@@ -141,13 +139,13 @@ fn texts_to_read_again(rt: HostRuntime) {
     for (text, wanted) in NUMBER_TEXTS {
         let number = number(&rt, *text);
         let row = Row("Numeric::round_trip_text", *text, Taken);
-        asks(&rt, row, (&number, *wanted), number_text);
+        asks!(&rt, row, number_text(rt.alloc(), &number, *wanted));
         drop(number);
     }
     for (text, wanted) in PAGES_TEXTS {
         let pages = PageRanges::from_str(rt.alloc(), *text).expect(&rt, "pages");
         let row = Row("PageRanges::round_trip_text", *text, Taken);
-        asks(&rt, row, (&pages, *wanted), pages_text);
+        asks!(&rt, row, pages_text(rt.alloc(), &pages, *wanted));
         drop(pages);
     }
 }
@@ -179,19 +177,17 @@ fn display_year_opt(
 #[test]
 fn years(rt: HostRuntime) {
     for given in YEARS {
-        asks(
+        asks!(
             &rt,
             Row("Date::display_year", given.1, Taken),
-            *given,
-            display_year,
+            display_year(rt.alloc(), *given)
         );
     }
     for given in OPTIONS {
-        asks(
+        asks!(
             &rt,
             Row("Date::display_year_opt", given.2, Taken),
-            *given,
-            display_year_opt,
+            display_year_opt(rt.alloc(), *given)
         );
     }
 }

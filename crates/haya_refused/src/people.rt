@@ -52,7 +52,13 @@ fn parts(rt: &(impl Abort + AllocGlobal)) -> Vec<&'static str> {
 #[test]
 fn of_parts(rt: HostRuntime) {
     let row = Row("Person::from_strings", "three parts", Taken);
-    makes(&rt, row, parts(&rt), parts(&rt), from_strings);
+    let first = parts(&rt);
+    makes!(
+        &rt,
+        row,
+        from_strings(rt.alloc(), first),
+        from_strings(rt.alloc(), parts(&rt))
+    );
 }
 
 // A person, the two flags of `name_first`, and the form.
@@ -102,13 +108,21 @@ fn forms(rt: HostRuntime) {
     for (text, initials, prefix, wanted) in NAME_FIRST {
         let person = person(&rt, *text);
         let row = Row("Person::name_first", *wanted, Taken);
-        asks(&rt, row, (&person, *initials, *prefix, *wanted), name_first);
+        asks!(
+            &rt,
+            row,
+            name_first(rt.alloc(), (&person, *initials, *prefix, *wanted))
+        );
         drop(person);
     }
     for (text, initials, wanted) in GIVEN_FIRST {
         let person = person(&rt, *text);
         let row = Row("Person::given_first", *wanted, Taken);
-        asks(&rt, row, (&person, *initials, *wanted), given_first);
+        asks!(
+            &rt,
+            row,
+            given_first(rt.alloc(), (&person, *initials, *wanted))
+        );
         drop(person);
     }
 }
@@ -123,7 +137,7 @@ const SERIALIZED: &[(&str, &str)] = &[
     ("Dissmer", "Dissmer"),
 ];
 
-fn to_serialized(alloc: Global, (person, wanted): (&Person, &str)) -> Result<bool, OutOfMemory> {
+fn to_serialized(alloc: Global, person: &Person, wanted: &str) -> Result<bool, OutOfMemory> {
     Ok(person.to_serialized(alloc)?.as_str() == wanted)
 }
 
@@ -132,7 +146,7 @@ fn serialized(rt: HostRuntime) {
     for (text, wanted) in SERIALIZED {
         let person = person(&rt, *text);
         let row = Row("Person::to_serialized", *wanted, Taken);
-        asks(&rt, row, (&person, *wanted), to_serialized);
+        asks!(&rt, row, to_serialized(rt.alloc(), &person, *wanted));
         drop(person);
     }
 }
@@ -146,18 +160,19 @@ const PARTED: &[(&str, &str, &str, &str)] = &[
     ("Al Rashid", "Al", "Rashid", "Al"),
 ];
 
-fn name_particle(alloc: Global, (person, wanted): (&Person, &str)) -> Result<bool, OutOfMemory> {
+fn name_particle(alloc: Global, person: &Person, wanted: &str) -> Result<bool, OutOfMemory> {
     Ok(person.name_particle(alloc, PARTICLES)? == Some(wanted))
 }
 
 fn name_without_particle(
     alloc: Global,
-    (person, wanted): (&Person, &str),
+    person: &Person,
+    wanted: &str,
 ) -> Result<bool, OutOfMemory> {
     Ok(person.name_without_particle(alloc, PARTICLES)? == wanted)
 }
 
-fn name_particles(alloc: Global, (person, wanted): (&Person, &str)) -> Result<bool, OutOfMemory> {
+fn name_particles(alloc: Global, person: &Person, wanted: &str) -> Result<bool, OutOfMemory> {
     match person.name_particles(alloc, PARTICLES)? {
         Some(found) => Ok(found.as_str() == wanted),
         None => Ok(false),
@@ -169,11 +184,11 @@ fn particles(rt: HostRuntime) {
     for (text, particle, name, all) in PARTED {
         let person = person(&rt, *text);
         let row = Row("Person::name_particle", *text, Taken);
-        asks(&rt, row, (&person, *particle), name_particle);
+        asks!(&rt, row, name_particle(rt.alloc(), &person, *particle));
         let row = Row("Person::name_without_particle", *text, Taken);
-        asks(&rt, row, (&person, *name), name_without_particle);
+        asks!(&rt, row, name_without_particle(rt.alloc(), &person, *name));
         let row = Row("Person::name_particles", *text, Taken);
-        asks(&rt, row, (&person, *all), name_particles);
+        asks!(&rt, row, name_particles(rt.alloc(), &person, *all));
         drop(person);
     }
 }
@@ -207,7 +222,9 @@ fn is_cjk(c: char) -> bool {
 
 fn csl_cmp(
     alloc: Global,
-    (left, right, how): (&Person, &Person, Compared),
+    left: &Person,
+    right: &Person,
+    how: Compared,
 ) -> Result<bool, OutOfMemory> {
     let Compared(form, is_demoted, wanted) = how;
     let found = left.csl_cmp(alloc, right, form, is_demoted, PARTICLES, is_cjk)?;
@@ -218,11 +235,10 @@ fn csl_cmp(
 fn orders(rt: HostRuntime) {
     for (left, right, how, memory) in ORDERED {
         let (mine, theirs) = (person(&rt, *left), person(&rt, *right));
-        asks(
+        asks!(
             &rt,
             Row("Person::csl_cmp", *right, *memory),
-            (&mine, &theirs, *how),
-            csl_cmp,
+            csl_cmp(rt.alloc(), &mine, &theirs, *how)
         );
         drop(mine);
         drop(theirs);

@@ -55,15 +55,27 @@ const URLS: &[Text] = &[
 fn texts(rt: HostRuntime) {
     for (text, memory, wanted) in CHUNKS {
         let row = Row("ChunkedString::from_str", *text, *memory);
-        asks(&rt, row, (*text, *wanted), is_read::<ChunkedString>);
+        asks!(
+            &rt,
+            row,
+            is_read::<ChunkedString>(rt.alloc(), (*text, *wanted))
+        );
         let row = Row("FormatString::from_str", *text, *memory);
-        asks(&rt, row, (*text, *wanted), is_read::<FormatString>);
+        asks!(
+            &rt,
+            row,
+            is_read::<FormatString>(rt.alloc(), (*text, *wanted))
+        );
         let row = Row("Publisher::from_str", *text, *memory);
-        asks(&rt, row, (*text, *wanted), is_read::<Publisher>);
+        asks!(&rt, row, is_read::<Publisher>(rt.alloc(), (*text, *wanted)));
     }
     for (text, memory, wanted) in URLS {
         let row = Row("QualifiedUrl::from_str", *text, *memory);
-        asks(&rt, row, (*text, *wanted), is_read::<QualifiedUrl>);
+        asks!(
+            &rt,
+            row,
+            is_read::<QualifiedUrl>(rt.alloc(), (*text, *wanted))
+        );
     }
 }
 
@@ -113,11 +125,15 @@ const TYPED_NUMBERS: &[Text] = &[
 fn numbers(rt: HostRuntime) {
     for (text, memory, wanted) in NUMBERS {
         let row = Row("Numeric::from_str", *text, *memory);
-        asks(&rt, row, (*text, *wanted), is_read::<Numeric>);
+        asks!(&rt, row, is_read::<Numeric>(rt.alloc(), (*text, *wanted)));
     }
     for (text, memory, wanted) in TYPED_NUMBERS {
         let row = Row("MaybeTyped::from_str", *text, *memory);
-        asks(&rt, row, (*text, *wanted), is_read::<MaybeTyped<Numeric>>);
+        asks!(
+            &rt,
+            row,
+            is_read::<MaybeTyped<Numeric>>(rt.alloc(), (*text, *wanted))
+        );
     }
 }
 
@@ -160,19 +176,26 @@ const TYPED_PAGES: &[Text] = &[
 fn pages(rt: HostRuntime) {
     for (text, memory, wanted) in PAGES {
         let row = Row("PageRanges::from_str", *text, *memory);
-        asks(&rt, row, (*text, *wanted), is_read::<PageRanges>);
+        asks!(
+            &rt,
+            row,
+            is_read::<PageRanges>(rt.alloc(), (*text, *wanted))
+        );
     }
     for (text, memory, wanted) in PARTS {
         let row = Row("PageRangesPart::from_str", *text, *memory);
-        asks(&rt, row, (*text, *wanted), is_read::<PageRangesPart>);
+        asks!(
+            &rt,
+            row,
+            is_read::<PageRangesPart>(rt.alloc(), (*text, *wanted))
+        );
     }
     for (text, memory, wanted) in TYPED_PAGES {
         let row = Row("MaybeTyped::from_str", *text, *memory);
-        asks(
+        asks!(
             &rt,
             row,
-            (*text, *wanted),
-            is_read::<MaybeTyped<PageRanges>>,
+            is_read::<MaybeTyped<PageRanges>>(rt.alloc(), (*text, *wanted))
         );
     }
 }
@@ -191,11 +214,10 @@ const LETTERED: &[&str] = &["A1-4", "1-A4", "A1\\-A4", "A1"];
 #[test]
 fn a_number_lacks_no_memory_in_a_part(rt: HostRuntime) {
     for text in LETTERED {
-        asks(
+        asks!(
             &rt,
             Row("PageRangesPart::from_str", *text, Taken),
-            *text,
-            is_part,
+            is_part(rt.alloc(), *text)
         );
     }
 }
@@ -225,23 +247,30 @@ const TYPED_RANGES: &[Text] = &[
 fn durations(rt: HostRuntime) {
     for (text, memory, wanted) in DURATIONS {
         let row = Row("Duration::from_str", *text, *memory);
-        asks(&rt, row, (*text, *wanted), is_read::<Duration>);
+        asks!(&rt, row, is_read::<Duration>(rt.alloc(), (*text, *wanted)));
     }
     for (text, memory, wanted) in RANGES {
         let row = Row("DurationRange::from_str", *text, *memory);
-        asks(&rt, row, (*text, *wanted), is_read::<DurationRange>);
+        asks!(
+            &rt,
+            row,
+            is_read::<DurationRange>(rt.alloc(), (*text, *wanted))
+        );
     }
     for (text, memory, wanted) in TYPED_DURATIONS {
         let row = Row("MaybeTyped::from_str", *text, *memory);
-        asks(&rt, row, (*text, *wanted), is_read::<MaybeTyped<Duration>>);
+        asks!(
+            &rt,
+            row,
+            is_read::<MaybeTyped<Duration>>(rt.alloc(), (*text, *wanted))
+        );
     }
     for (text, memory, wanted) in TYPED_RANGES {
         let row = Row("MaybeTyped::from_str", *text, *memory);
-        asks(
+        asks!(
             &rt,
             row,
-            (*text, *wanted),
-            is_read::<MaybeTyped<DurationRange>>,
+            is_read::<MaybeTyped<DurationRange>>(rt.alloc(), (*text, *wanted))
         );
     }
 }
@@ -264,6 +293,6 @@ const PERSONS: &[Text] = &[
 fn persons(rt: HostRuntime) {
     for (text, memory, wanted) in PERSONS {
         let row = Row("Person::from_str", *text, *memory);
-        asks(&rt, row, (*text, *wanted), is_read::<Person>);
+        asks!(&rt, row, is_read::<Person>(rt.alloc(), (*text, *wanted)));
     }
 }

@@ -51,10 +51,7 @@ const PUSHED: &[(&str, &str, ChunkKind, &str)] = &[
     ("a{b}c{d}", "e", Normal, "a{b}c{d}e"),
 ];
 
-fn pushes(
-    text: &mut ChunkedString,
-    (pushed, kind): (&str, ChunkKind),
-) -> Result<bool, OutOfMemory> {
+fn pushes(text: &mut ChunkedString, pushed: &str, kind: ChunkKind) -> Result<bool, OutOfMemory> {
     text.push_str(pushed, kind)?;
     Ok(true)
 }
@@ -63,8 +60,14 @@ fn pushes(
 fn push_str(rt: HostRuntime) {
     for (from, pushed, kind, to) in PUSHED {
         let row = Row("ChunkedString::push_str", *to, Taken);
-        let given = to_become(&rt, *from, *to);
-        changes(&rt, row, given, (*pushed, *kind), (*pushed, *kind), pushes);
+        let mut given = to_become(&rt, *from, *to);
+        changes!(
+            &rt,
+            row,
+            given,
+            pushes(&mut given.value, *pushed, *kind),
+            pushes(&mut given.value, *pushed, *kind)
+        );
     }
 }
 
@@ -83,13 +86,13 @@ fn pushes_char(text: &mut ChunkedString, kind: ChunkKind) -> Result<bool, OutOfM
 fn push_char(rt: HostRuntime) {
     for (from, kind, to) in PUSHED_CHARS {
         let row = Row("ChunkedString::push_char", *to, Taken);
-        changes(
+        let mut given = to_become(&rt, *from, *to);
+        changes!(
             &rt,
             row,
-            to_become(&rt, *from, *to),
-            *kind,
-            *kind,
-            pushes_char,
+            given,
+            pushes_char(&mut given.value, *kind),
+            pushes_char(&mut given.value, *kind)
         );
     }
 }
@@ -107,13 +110,13 @@ fn push_chunk(rt: HostRuntime) {
     for (from, to) in PUSHED_CHUNKS {
         let row = Row("ChunkedString::push_chunk", *to, Taken);
         let (first, second) = (math(&rt, "x"), math(&rt, "x"));
-        changes(
+        let mut given = to_become(&rt, *from, *to);
+        changes!(
             &rt,
             row,
-            to_become(&rt, *from, *to),
-            first,
-            second,
-            pushes_chunk,
+            given,
+            pushes_chunk(&mut given.value, first),
+            pushes_chunk(&mut given.value, second)
         );
     }
 }
@@ -135,7 +138,14 @@ fn extend(rt: HostRuntime) {
     for (from, to) in EXTENDED {
         let row = Row("ChunkedString::extend", *to, Taken);
         let (first, second) = (text_of(&rt, "{b}$x$c"), text_of(&rt, "{b}$x$c"));
-        changes(&rt, row, to_become(&rt, *from, *to), first, second, extends);
+        let mut given = to_become(&rt, *from, *to);
+        changes!(
+            &rt,
+            row,
+            given,
+            extends(&mut given.value, first),
+            extends(&mut given.value, second)
+        );
     }
 }
 
@@ -154,16 +164,28 @@ const WRITTEN: &[(&str, &str)] = &[("{a}", "{a}x"), ("sixteen letters.", "sixtee
 fn write_str(rt: HostRuntime) {
     for (from, to) in WRITTEN {
         let row = Row("ChunkedString::write_str", *to, Taken);
-        let given = to_become(&rt, *from, *to);
-        changes(&rt, row, given, "x", "x", writes::<ChunkedString>);
+        let mut given = to_become(&rt, *from, *to);
+        changes!(
+            &rt,
+            row,
+            given,
+            writes::<ChunkedString>(&mut given.value, "x"),
+            writes::<ChunkedString>(&mut given.value, "x")
+        );
     }
-    let given = Change {
+    let mut given = Change {
         value: math(&rt, "sixteen letters."),
         before: math(&rt, "sixteen letters."),
         after: math(&rt, "sixteen letters.x"),
     };
     let row = Row("StringChunk::write_str", "sixteen letters", Taken);
-    changes(&rt, row, given, "x", "x", writes::<StringChunk>);
+    changes!(
+        &rt,
+        row,
+        given,
+        writes::<StringChunk>(&mut given.value, "x"),
+        writes::<StringChunk>(&mut given.value, "x")
+    );
 }
 
 fn row(call: &str) -> Row<'_> {
@@ -204,14 +226,11 @@ fn copied_of_texts(rt: HostRuntime) {
     copies(&rt, row("Vec::try_clone"), list);
 }
 
-fn is_str(alloc: Global, (text, wanted): (&ChunkedString, &str)) -> Result<bool, OutOfMemory> {
+fn is_str(alloc: Global, text: &ChunkedString, wanted: &str) -> Result<bool, OutOfMemory> {
     Ok(text.to_str(alloc)?.as_str() == wanted)
 }
 
-fn is_serialized(
-    alloc: Global,
-    (text, wanted): (&ChunkedString, &str),
-) -> Result<bool, OutOfMemory> {
+fn is_serialized(alloc: Global, text: &ChunkedString, wanted: &str) -> Result<bool, OutOfMemory> {
     Ok(text.to_serialized(alloc)?.as_str() == wanted)
 }
 
@@ -233,9 +252,9 @@ fn shown(rt: HostRuntime) {
     for (serialized, wanted, to_serialize, to_show) in SHOWN {
         let text = text_of(&rt, *serialized);
         let row = Row("ChunkedString::to_str", *serialized, *to_show);
-        asks(&rt, row, (&text, *wanted), is_str);
+        asks!(&rt, row, is_str(rt.alloc(), &text, *wanted));
         let row = Row("ChunkedString::to_serialized", *serialized, *to_serialize);
-        asks(&rt, row, (&text, *serialized), is_serialized);
+        asks!(&rt, row, is_serialized(rt.alloc(), &text, *serialized));
         drop(text);
     }
 }
@@ -252,7 +271,7 @@ fn with_value(alloc: Global, text: String) -> Result<bool, OutOfMemory> {
     Ok(FormatString::with_value(alloc, text)?.is_told("a\\{b"))
 }
 
-fn with_short(alloc: Global, (long, short): (String, String)) -> Result<bool, OutOfMemory> {
+fn with_short(alloc: Global, long: String, short: String) -> Result<bool, OutOfMemory> {
     let made = FormatString::with_short(alloc, long, short)?;
     Ok(made.value.is_told("a\\{b") && made.select(LongShortForm::Short).is_told("S"))
 }
@@ -269,27 +288,56 @@ fn format_from_chunk(alloc: Global, chunk: StringChunk) -> Result<bool, OutOfMem
 fn made_from_texts(rt: HostRuntime) {
     let texts = (string(&rt, "a{b"), string(&rt, "a{b"));
     let called = row("ChunkedString::from_string");
-    makes(&rt, called, texts.0, texts.1, from_string);
+    makes!(
+        &rt,
+        called,
+        from_string(rt.alloc(), texts.0),
+        from_string(rt.alloc(), texts.1)
+    );
     let texts = (string(&rt, "a{b"), string(&rt, "a{b"));
     let called = row("FormatString::from_string");
-    makes(&rt, called, texts.0, texts.1, format_from_string);
+    makes!(
+        &rt,
+        called,
+        format_from_string(rt.alloc(), texts.0),
+        format_from_string(rt.alloc(), texts.1)
+    );
     let texts = (string(&rt, "a{b"), string(&rt, "a{b"));
     let called = row("FormatString::with_value");
-    makes(&rt, called, texts.0, texts.1, with_value);
-    let first = (string(&rt, "a{b"), string(&rt, "S"));
-    let second = (string(&rt, "a{b"), string(&rt, "S"));
+    makes!(
+        &rt,
+        called,
+        with_value(rt.alloc(), texts.0),
+        with_value(rt.alloc(), texts.1)
+    );
+    let (long, short) = (string(&rt, "a{b"), string(&rt, "S"));
     let called = row("FormatString::with_short");
-    makes(&rt, called, first, second, with_short);
+    makes!(
+        &rt,
+        called,
+        with_short(rt.alloc(), long, short),
+        with_short(rt.alloc(), string(&rt, "a{b"), string(&rt, "S"))
+    );
 }
 
 #[test]
 fn made_from_chunks(rt: HostRuntime) {
     let (first, second) = (math(&rt, "a{b"), math(&rt, "a{b"));
     let called = row("ChunkedString::from_chunk");
-    makes(&rt, called, first, second, from_chunk);
+    makes!(
+        &rt,
+        called,
+        from_chunk(rt.alloc(), first),
+        from_chunk(rt.alloc(), second)
+    );
     let (first, second) = (math(&rt, "a{b"), math(&rt, "a{b"));
     let called = row("FormatString::from_chunk");
-    makes(&rt, called, first, second, format_from_chunk);
+    makes!(
+        &rt,
+        called,
+        format_from_chunk(rt.alloc(), first),
+        format_from_chunk(rt.alloc(), second)
+    );
 }
 
 // What is folded, or not, and both of its forms.
@@ -305,7 +353,7 @@ fn is_equal<T: PartialEq + Drop>(made: T, wanted: &T) -> Result<bool, OutOfMemor
     Ok(is_same)
 }
 
-fn folds(alloc: Global, (text, forms): (ChunkedString, Forms<'_>)) -> Result<bool, OutOfMemory> {
+fn folds(alloc: Global, text: ChunkedString, forms: Forms<'_>) -> Result<bool, OutOfMemory> {
     match FoldableChunkedString::try_from_chunked(alloc, text) {
         Ok(made) => is_equal(made, forms.folded),
         Err(FoldError::OutOfMemory(back)) => handed_back(back, forms.plain),
@@ -318,7 +366,8 @@ fn folds(alloc: Global, (text, forms): (ChunkedString, Forms<'_>)) -> Result<boo
 
 fn unfolds(
     alloc: Global,
-    (text, forms): (FoldableChunkedString, Forms<'_>),
+    text: FoldableChunkedString,
+    forms: Forms<'_>,
 ) -> Result<bool, OutOfMemory> {
     match ChunkedString::from_foldable(alloc, text) {
         Ok(made) => is_equal(made, forms.plain),
@@ -335,14 +384,21 @@ fn handed_back_whole(rt: HostRuntime) {
         folded: &wanted,
     };
     let row = Row("FoldableChunkedString::try_from_chunked", "a{b}c", Taken);
-    let (first, second) = (
-        (text_of(&rt, "a{b}c"), forms),
-        (text_of(&rt, "a{b}c"), forms),
+    let (first, second) = (text_of(&rt, "a{b}c"), text_of(&rt, "a{b}c"));
+    makes!(
+        &rt,
+        row,
+        folds(rt.alloc(), first, forms),
+        folds(rt.alloc(), second, forms)
     );
-    makes(&rt, row, first, second, folds);
     let row = Row("ChunkedString::from_foldable", "a{b}c", Taken);
-    let (first, second) = ((folded(&rt, "a{b}c"), forms), (folded(&rt, "a{b}c"), forms));
-    makes(&rt, row, first, second, unfolds);
+    let (first, second) = (folded(&rt, "a{b}c"), folded(&rt, "a{b}c"));
+    makes!(
+        &rt,
+        row,
+        unfolds(rt.alloc(), first, forms),
+        unfolds(rt.alloc(), second, forms)
+    );
     drop(plain);
     drop(wanted);
 }
@@ -358,11 +414,11 @@ fn keeps_math(alloc: Global, text: ChunkedString) -> Result<bool, OutOfMemory> {
 #[test]
 fn refuses_math(rt: HostRuntime) {
     let row = Row("FoldableChunkedString::try_from_chunked", "a$x$", NotTaken);
-    makes(
+    let (first, second) = (text_of(&rt, "a$x$"), text_of(&rt, "a$x$"));
+    makes!(
         &rt,
         row,
-        text_of(&rt, "a$x$"),
-        text_of(&rt, "a$x$"),
-        keeps_math,
+        keeps_math(rt.alloc(), first),
+        keeps_math(rt.alloc(), second)
     );
 }

@@ -46,32 +46,27 @@ fn is_text(alloc: Global, value: &MaybeTyped<Numeric>) -> Result<bool, OutOfMemo
     Ok(matches!(value.to_cow(alloc)?, MaybeTyped::String(_)))
 }
 
-fn is_str(
-    alloc: Global,
-    (value, wanted): (&MaybeTyped<Numeric>, &str),
-) -> Result<bool, OutOfMemory> {
+fn is_str(alloc: Global, value: &MaybeTyped<Numeric>, wanted: &str) -> Result<bool, OutOfMemory> {
     Ok(value.to_str(alloc)?.as_str() == wanted)
 }
 
 #[test]
 fn borrowed(rt: HostRuntime) {
     let (typed, text) = (number(&rt, "34,37--39"), number(&rt, "a few"));
-    asks(
+    asks!(
         &rt,
         Row("MaybeTyped::to_cow", "a typed value", NotTaken),
-        &typed,
-        is_typed,
+        is_typed(rt.alloc(), &typed)
     );
-    asks(
+    asks!(
         &rt,
         Row("MaybeTyped::to_cow", "a text", Taken),
-        &text,
-        is_text,
+        is_text(rt.alloc(), &text)
     );
     let row = Row("MaybeTyped::to_str", "a typed value", Taken);
-    asks(&rt, row, (&typed, "34, 37–39"), is_str);
+    asks!(&rt, row, is_str(rt.alloc(), &typed, "34, 37–39"));
     let row = Row("MaybeTyped::to_str", "a text", NotTaken);
-    asks(&rt, row, (&text, "a few"), is_str);
+    asks!(&rt, row, is_str(rt.alloc(), &text, "a few"));
     drop(typed);
     drop(text);
 }
@@ -87,7 +82,8 @@ fn many(rt: &(impl Abort + AllocGlobal)) -> OneOrMany<u32> {
 // Where it is refused, the value comes back.
 fn lists_one(
     alloc: Global,
-    (values, original): (OneOrMany<String>, &OneOrMany<String>),
+    values: OneOrMany<String>,
+    original: &OneOrMany<String>,
 ) -> Result<bool, OutOfMemory> {
     match values.into_vec(alloc) {
         Ok(items) => Ok(items.len() == 1 && items[0].as_str() == "a"),
@@ -104,16 +100,21 @@ fn lists_many(alloc: Global, values: OneOrMany<u32>) -> Result<bool, OutOfMemory
 
 #[test]
 fn listed(rt: HostRuntime) {
-    let original = one(&rt);
+    let (original, first) = (one(&rt), one(&rt));
     let row = Row("OneOrMany::into_vec", "one", Taken);
-    makes(
+    makes!(
         &rt,
         row,
-        (one(&rt), &original),
-        (one(&rt), &original),
-        lists_one,
+        lists_one(rt.alloc(), first, &original),
+        lists_one(rt.alloc(), one(&rt), &original)
     );
     drop(original);
     let row = Row("OneOrMany::into_vec", "a list", NotTaken);
-    makes(&rt, row, many(&rt), many(&rt), lists_many);
+    let first = many(&rt);
+    makes!(
+        &rt,
+        row,
+        lists_many(rt.alloc(), first),
+        lists_many(rt.alloc(), many(&rt))
+    );
 }

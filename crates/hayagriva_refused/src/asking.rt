@@ -41,7 +41,9 @@ const FORMS: &[(Form, &str, &str)] = &[
 // Whether a hit is told so. Where that is refused, no hit is counted, and nothing is printed.
 fn is_told(
     alloc: Global,
-    (options, entry, wanted): (&Options, &Entry, &str),
+    options: &Options,
+    entry: &Entry,
+    wanted: &str,
 ) -> Result<bool, OutOfMemory> {
     let mut asker = match Asker::new(alloc, keys(), options) {
         Ok(asker) => asker,
@@ -64,7 +66,7 @@ fn hits(rt: HostRuntime) {
     for (form, wanted, about) in FORMS {
         let options = options(&rt, *form);
         let row = Row(ASKER, *about, Optional);
-        asks(&rt, row, (&options, work, *wanted), is_told);
+        asks!(&rt, row, is_told(rt.alloc(), &options, work, *wanted));
         drop(options);
     }
     drop(library);
@@ -85,7 +87,7 @@ fn a_large_hit(rt: HostRuntime) {
     let library = read_library(rt.alloc(), keys(), text.as_str()).expect(&rt, "a library");
     let work = library.nth(0).expect(&rt, "a work");
     let row = Row(ASKER, "a field of 100,000 characters", Optional);
-    asks(&rt, row, (&options, work, text.as_str()), is_told);
+    asks!(&rt, row, is_told(rt.alloc(), &options, work, text.as_str()));
     drop(library);
     drop(options);
 }
@@ -144,7 +146,8 @@ const FORMATS: &[(Format, &str, &str)] = &[
     ),
     (
         Format::CslJson,
-        "[{\"id\":\"a\",\"type\":\"book\",\"title\":\"T\"},\n{\"id\":\"b\",\"type\":\"webpage\",\"x\":1}]",
+        "[{\"id\":\"a\",\"type\":\"book\",\"title\":\"T\"},\n\
+        {\"id\":\"b\",\"type\":\"webpage\",\"x\":1}]",
         "two items",
     ),
     (
@@ -226,7 +229,7 @@ fn many_items(rt: HostRuntime) {
     drop(options);
 }
 
-fn is_from_line(_given: ()) -> bool {
+fn is_from_line() -> bool {
     let fault = EntryFault::Line(3, ReadError::OutOfMemory);
     matches!(
         InputError::from(fault),
@@ -237,7 +240,7 @@ fn is_from_line(_given: ()) -> bool {
     )
 }
 
-fn is_from_element(_given: ()) -> bool {
+fn is_from_element() -> bool {
     let error = ElementError {
         number: 2,
         error: ReadError::OutOfMemory,
@@ -253,8 +256,8 @@ fn is_from_element(_given: ()) -> bool {
 
 #[test]
 fn errors_of_lines(rt: HostRuntime) {
-    takes_none(&rt, "InputError::from", (), is_from_line);
-    takes_none(&rt, "InputError::from", (), is_from_element);
+    takes_none!(&rt, "InputError::from", is_from_line());
+    takes_none!(&rt, "InputError::from", is_from_element());
 }
 
 // Several blocks of input.

@@ -39,7 +39,7 @@ fn begins_with_a(library: &Library, number: usize) -> bool {
     library.len() == number && library.nth(0).is_some_and(|entry| entry.key() == "a")
 }
 
-fn is_read(alloc: Global, (format, text): (Format, &str)) -> Result<bool, OutOfMemory> {
+fn is_read(alloc: Global, format: Format, text: &str) -> Result<bool, OutOfMemory> {
     match read(alloc, keys(), format, text) {
         Ok((library, ignored)) => {
             let is_right = begins_with_a(&library, 2);
@@ -53,7 +53,7 @@ fn is_read(alloc: Global, (format, text): (Format, &str)) -> Result<bool, OutOfM
     }
 }
 
-fn are_formats(_given: ()) -> bool {
+fn are_formats() -> bool {
     format_of(FILE) == Format::Hayagriva
         && format_of(ITEMS) == Format::CslJson
         && format_of(LINES) == Format::Lines
@@ -62,9 +62,13 @@ fn are_formats(_given: ()) -> bool {
 #[test]
 fn formats(rt: HostRuntime) {
     for (format, text) in TEXTS {
-        asks(&rt, Row("read", *text, Optional), (*format, *text), is_read);
+        asks!(
+            &rt,
+            Row("read", *text, Optional),
+            is_read(rt.alloc(), *format, *text)
+        );
     }
-    takes_none(&rt, "format_of", (), are_formats);
+    takes_none!(&rt, "format_of", are_formats());
 }
 
 /// Whether a fault is that memory was refused.
@@ -92,7 +96,7 @@ pub(crate) fn told(fault: Fault) -> Result<bool, OutOfMemory> {
 }
 
 // Whether an input is read under its name.
-fn is_input(alloc: Global, (name, text): (&str, &str)) -> Result<bool, OutOfMemory> {
+fn is_input(alloc: Global, name: &str, text: &str) -> Result<bool, OutOfMemory> {
     match Input::read(alloc, name, &mut text.as_bytes(), &mut ()) {
         Ok(input) => {
             let is_wanted = input.name.as_str() == name && input.text.as_str() == text;
@@ -105,18 +109,17 @@ fn is_input(alloc: Global, (name, text): (&str, &str)) -> Result<bool, OutOfMemo
 
 #[test]
 fn inputs_read(rt: HostRuntime) {
-    asks(
+    asks!(
         &rt,
         Row("Input::read", "lines", Optional),
-        ("a file", LINES),
-        is_input,
+        is_input(rt.alloc(), "a file", LINES)
     );
     let mut text = string(&rt, "");
     for _ in 0..20_000 {
         text.push_str(LINES).expect(&rt, "memory");
     }
     let row = Row("Input::read", "40,000 lines", Optional);
-    asks(&rt, row, ("a file", text.as_str()), is_input);
+    asks!(&rt, row, is_input(rt.alloc(), "a file", text.as_str()));
 }
 
 /// What is asked, and in which form it is answered.
@@ -145,10 +148,7 @@ fn inputs(rt: &(impl Abort + AllocGlobal), texts: &[&str]) -> Vec<Input> {
     inputs
 }
 
-fn are_collected(
-    alloc: Global,
-    (options, inputs): (&Options, &[Input]),
-) -> Result<bool, OutOfMemory> {
+fn are_collected(alloc: Global, options: &Options, inputs: &[Input]) -> Result<bool, OutOfMemory> {
     match read_inputs(alloc, keys(), options, inputs) {
         Ok(Collected { library, notes }) => {
             let is_right = begins_with_a(&library, 2) && !notes.is_empty();
@@ -165,14 +165,20 @@ fn collected(rt: HostRuntime) {
     let options = options(&rt, Form::Keys);
     let inputs = inputs(&rt, &[FILE, LINES]);
     let row = Row("read_inputs", "two inputs", Optional);
-    asks(&rt, row, (&options, inputs.as_slice()), are_collected);
+    asks!(
+        &rt,
+        row,
+        are_collected(rt.alloc(), &options, inputs.as_slice())
+    );
     drop(inputs);
     drop(options);
 }
 
 fn is_answered(
     alloc: Global,
-    (library, options, wanted): (&Library, &Options, &str),
+    library: &Library,
+    options: &Options,
+    wanted: &str,
 ) -> Result<bool, OutOfMemory> {
     match ask(alloc, library, options) {
         Ok(answer) => Ok(answer.found && answer.text.as_str() == wanted),
@@ -192,7 +198,11 @@ fn answered(rt: HostRuntime) {
     for (form, wanted) in ANSWERS {
         let options = options(&rt, *form);
         let row = Row("ask", *wanted, Optional);
-        asks(&rt, row, (&library, &options, *wanted), is_answered);
+        asks!(
+            &rt,
+            row,
+            is_answered(rt.alloc(), &library, &options, *wanted)
+        );
         drop(options);
     }
     drop(library);

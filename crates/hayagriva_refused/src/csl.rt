@@ -50,7 +50,7 @@ fn is_read(alloc: Global, wanted: &Library) -> Result<bool, OutOfMemory> {
     }
 }
 
-fn is_refused(alloc: Global, (text, wanted): (&str, &str)) -> Result<bool, OutOfMemory> {
+fn is_refused(alloc: Global, text: &str, wanted: &str) -> Result<bool, OutOfMemory> {
     match read_csl_json(alloc, text) {
         Ok((read, ignored)) => {
             drop(read);
@@ -68,7 +68,7 @@ fn items(rt: HostRuntime) {
     drop(ignored);
     assert!(&rt; wanted.len() == 2);
     let row = Row(READS, "members of every kind", Optional);
-    asks(&rt, row, &wanted, is_read);
+    asks!(&rt, row, is_read(rt.alloc(), &wanted));
     drop(wanted);
 }
 
@@ -76,6 +76,6 @@ fn items(rt: HostRuntime) {
 fn faults(rt: HostRuntime) {
     for (text, wanted) in FAULTY {
         let row = Row(READS, *text, Maybe);
-        asks(&rt, row, (*text, *wanted), is_refused);
+        asks!(&rt, row, is_refused(rt.alloc(), *text, *wanted));
     }
 }

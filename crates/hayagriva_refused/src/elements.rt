@@ -53,17 +53,15 @@ fn is_member_read(alloc: Global, line: &str) -> Result<bool, OutOfMemory> {
 
 #[test]
 fn items_and_members(rt: HostRuntime) {
-    asks(
+    asks!(
         &rt,
         Row("read_item_line", "members of every kind", Optional),
-        ITEM,
-        is_item_read,
+        is_item_read(rt.alloc(), ITEM)
     );
-    asks(
+    asks!(
         &rt,
         Row("read_member_line", "values of many kinds", Optional),
-        MEMBER,
-        is_member_read,
+        is_member_read(rt.alloc(), MEMBER)
     );
 }
 
@@ -78,21 +76,19 @@ fn large_items_and_members(rt: HostRuntime) {
     item.push_str("\"}").expect(&rt, "memory");
     member.push_str("\"}").expect(&rt, "memory");
     let about = "a text of 100,000 characters";
-    asks(
+    asks!(
         &rt,
         Row("read_item_line", about, Optional),
-        item.as_str(),
-        is_item_read,
+        is_item_read(rt.alloc(), item.as_str())
     );
-    asks(
+    asks!(
         &rt,
         Row("read_member_line", about, Optional),
-        member.as_str(),
-        is_member_read,
+        is_member_read(rt.alloc(), member.as_str())
     );
 }
 
-fn is_item_refused(alloc: Global, (line, wanted): (&str, &str)) -> Result<bool, OutOfMemory> {
+fn is_item_refused(alloc: Global, line: &str, wanted: &str) -> Result<bool, OutOfMemory> {
     match read_item_line(alloc, 2, line, &mut Ignored::new(alloc)) {
         Ok(entry) => {
             drop(entry);
@@ -117,7 +113,7 @@ const FAULTY: &[(&str, &str)] = &[
 fn faults(rt: HostRuntime) {
     for (line, wanted) in FAULTY {
         let row = Row("read_item_line", *line, Maybe);
-        asks(&rt, row, (*line, *wanted), is_item_refused);
+        asks!(&rt, row, is_item_refused(rt.alloc(), *line, *wanted));
     }
 }
 
@@ -132,7 +128,7 @@ fn an_error_of_an_element(rt: HostRuntime) {
         number: 3,
         error: ReadError::NotJson(position),
     };
-    takes_none(&rt, "ElementError::fmt", &fault, is_element_shown_so);
+    takes_none!(&rt, "ElementError::fmt", is_element_shown_so(&fault));
     drop(fault);
 }
 
@@ -148,5 +144,5 @@ fn are_lines_given(text: &str) -> bool {
 #[test]
 fn lines(rt: HostRuntime) {
     let row = "ElementLines::new ElementLines::read";
-    takes_none(&rt, row, "[1,[2,3]]", are_lines_given);
+    takes_none!(&rt, row, are_lines_given("[1,[2,3]]"));
 }

@@ -55,7 +55,7 @@ fn is_read(alloc: Global, wanted: &Library) -> Result<bool, OutOfMemory> {
     }
 }
 
-fn is_refused(alloc: Global, (text, wanted): (&str, &str)) -> Result<bool, OutOfMemory> {
+fn is_refused(alloc: Global, text: &str, wanted: &str) -> Result<bool, OutOfMemory> {
     match read_library(alloc, text) {
         Ok((read, ignored)) => {
             drop(read);
@@ -67,7 +67,7 @@ fn is_refused(alloc: Global, (text, wanted): (&str, &str)) -> Result<bool, OutOf
     }
 }
 
-fn are_lines_read(alloc: Global, (text, wanted): (&str, &Library)) -> Result<bool, OutOfMemory> {
+fn are_lines_read(alloc: Global, text: &str, wanted: &Library) -> Result<bool, OutOfMemory> {
     match read_json_lines(alloc, keys(), text) {
         Ok((read, ignored)) => {
             let is_equal = read == *wanted && ignored.is_empty();
@@ -109,7 +109,7 @@ const SMALL: &str = r#"{"l":{"type":"misc"}}"#;
 
 const SMALL_LINES: &str = "{\n  \"l\": {\n    \"type\": \"misc\"\n  }\n}";
 
-fn is_laid_out(alloc: Global, (text, wanted): (&str, &str)) -> Result<bool, OutOfMemory> {
+fn is_laid_out(alloc: Global, text: &str, wanted: &str) -> Result<bool, OutOfMemory> {
     Ok(lay_out(alloc, text)?.as_slice() == wanted.as_bytes())
 }
 
@@ -125,33 +125,33 @@ fn is_read_back(alloc: Global, library: &Library) -> Result<bool, OutOfMemory> {
 fn libraries(rt: HostRuntime) {
     let (library, ignored) = read_library(rt.alloc(), PRINTED).expect(&rt, "a library");
     drop(ignored);
-    asks(
+    asks!(
         &rt,
         Row(READS, "values of every kind", Optional),
-        &library,
-        is_read,
+        is_read(rt.alloc(), &library)
     );
-    asks(
+    asks!(
         &rt,
         Row("to_json", "values of every kind", Optional),
-        &library,
-        is_printed,
+        is_printed(rt.alloc(), &library)
     );
-    asks(
+    asks!(
         &rt,
         Row("reads_back", "values of every kind", Optional),
-        &library,
-        is_read_back,
+        is_read_back(rt.alloc(), &library)
     );
-    asks(
+    asks!(
         &rt,
         Row("write_entry", "values of every kind", Optional),
-        &library,
-        is_written,
+        is_written(rt.alloc(), &library)
     );
     drop(library);
     for (text, wanted) in FAULTY {
-        asks(&rt, Row(READS, *text, Maybe), (*text, *wanted), is_refused);
+        asks!(
+            &rt,
+            Row(READS, *text, Maybe),
+            is_refused(rt.alloc(), *text, *wanted)
+        );
     }
 }
 
@@ -163,7 +163,7 @@ fn lines(rt: HostRuntime) {
     drop(ignored);
     let row = Row(READS_LINES, "a line", Optional);
     let line = "{\"key\":\"l\",\"entry\":{\"type\":\"misc\"}}";
-    asks(&rt, row, (line, &library), are_lines_read);
+    asks!(&rt, row, are_lines_read(rt.alloc(), line, &library));
     drop(library);
     let (library, ignored) = read_library(rt.alloc(), PRINTED).expect(&rt, "a library");
     drop(ignored);
@@ -172,7 +172,11 @@ fn lines(rt: HostRuntime) {
         &rt, "memory",
     );
     let row = Row(READS_LINES, "values of every kind", Optional);
-    asks(&rt, row, (text.as_str(), &library), are_lines_read);
+    asks!(
+        &rt,
+        row,
+        are_lines_read(rt.alloc(), text.as_str(), &library)
+    );
     drop(library);
 }
 
@@ -186,7 +190,7 @@ fn an_error_of_a_line(rt: HostRuntime) {
     let fault = read_json_lines(rt.alloc(), keys(), text)
         .err()
         .expect(&rt, "a fault");
-    takes_none(&rt, "LineError::fmt", &fault, is_line_shown_so);
+    takes_none!(&rt, "LineError::fmt", is_line_shown_so(&fault));
     drop(fault);
 }
 
@@ -195,10 +199,10 @@ fn laid_out(rt: HostRuntime) {
     let (library, ignored) = read_library(rt.alloc(), SMALL).expect(&rt, "a library");
     drop(ignored);
     let row = Row("to_json_pretty", "an entry", Optional);
-    asks(&rt, row, &library, is_pretty);
+    asks!(&rt, row, is_pretty(rt.alloc(), &library));
     drop(library);
     let row = Row("lay_out", "an entry", Optional);
-    asks(&rt, row, (SMALL, SMALL_LINES), is_laid_out);
+    asks!(&rt, row, is_laid_out(rt.alloc(), SMALL, SMALL_LINES));
 }
 
 fn is_shown_so(fault: &ReadError) -> bool {
@@ -217,7 +221,7 @@ const POSITIONS: &[(Position, &str)] = &[
     ),
 ];
 
-fn are_positions_shown(_given: ()) -> bool {
+fn are_positions_shown() -> bool {
     POSITIONS
         .iter()
         .all(|(position, wanted)| is_shown(position, *wanted))
@@ -225,15 +229,14 @@ fn are_positions_shown(_given: ()) -> bool {
 
 #[test]
 fn errors(rt: HostRuntime) {
-    takes_none(&rt, "Position::fmt", (), are_positions_shown);
+    takes_none!(&rt, "Position::fmt", are_positions_shown());
     let fault = read_library(rt.alloc(), r#"{"a/b~c": {}}"#)
         .err()
         .expect(&rt, "a fault");
-    takes_none(
+    takes_none!(
         &rt,
         "ReadError::fmt Step::fmt Why::fmt",
-        &fault,
-        is_shown_so,
+        is_shown_so(&fault)
     );
     drop(fault);
 }
@@ -268,22 +271,21 @@ fn is_new(alloc: Global) -> bool {
 
 #[test]
 fn ignored(rt: HostRuntime) {
-    let given = Change {
+    let mut given = Change {
         value: ignored_of(&rt, &["a"]),
         before: ignored_of(&rt, &["a"]),
         after: ignored_of(&rt, &["a", "b"]),
     };
-    changes(
+    changes!(
         &rt,
         Row("Ignored::add", "a name", Taken),
         given,
-        "b",
-        "b",
-        adds,
+        adds(&mut given.value, "b"),
+        adds(&mut given.value, "b")
     );
-    takes_none(&rt, "Ignored::new", rt.alloc(), is_new);
+    takes_none!(&rt, "Ignored::new", is_new(rt.alloc()));
     let twice = ignored_of(&rt, &["a", "a"]);
     let calls = "Ignored::iter Ignored::count Ignored::is_empty IgnoredNames::next";
-    takes_none(&rt, calls, &twice, counts);
+    takes_none!(&rt, calls, counts(&twice));
     drop(twice);
 }

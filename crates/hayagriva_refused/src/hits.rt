@@ -58,14 +58,14 @@ fn hits(rt: HostRuntime) {
     let library = library(&rt);
     let asked = selector(&rt, ASKED);
     let row = Row("Library::hits", ASKED, Taken);
-    asks(&rt, row, (&library, &asked), are_hits);
+    asks!(&rt, row, are_hits(rt.alloc(), (&library, &asked)));
     drop(asked);
     let keys: &[&str] = &["x"];
     let row = Row("picks", ASKED, Taken);
-    asks(&rt, row, (&library, false, keys), are_picked);
+    asks!(&rt, row, are_picked(rt.alloc(), (&library, false, keys)));
     let keys: &[&str] = &["y", "z"];
     let row = Row("picks", "what is not picked", Taken);
-    asks(&rt, row, (&library, true, keys), are_picked);
+    asks!(&rt, row, are_picked(rt.alloc(), (&library, true, keys)));
     drop(library);
 }
 
@@ -111,7 +111,7 @@ const FORMS: &[(Form, &str, &str)] = &[
     ),
 ];
 
-fn is_text(alloc: Global, (hits, form, wanted): (&[Hit], Form, &str)) -> Result<bool, OutOfMemory> {
+fn is_text(alloc: Global, hits: &[Hit], form: Form, wanted: &str) -> Result<bool, OutOfMemory> {
     match hits_text(alloc, hits, form) {
         Ok(text) => Ok(text.as_str() == wanted),
         Err(LinesError::OutOfMemory) => Err(OutOfMemory),
@@ -122,16 +122,19 @@ fn is_text(alloc: Global, (hits, form, wanted): (&[Hit], Form, &str)) -> Result<
 fn print_each(rt: &(impl Abort + AllocGlobal + Print), hits: &[Hit]) {
     for (form, wanted, about) in FORMS {
         let row = Row("hits_text", *about, Optional);
-        asks(rt, row, (hits, *form, *wanted), is_text);
+        asks!(rt, row, is_text(rt.alloc(), hits, *form, *wanted));
     }
     if let Some(hit) = hits.first() {
-        asks(
+        asks!(
             rt,
             Row("bindings", "two names", Optional),
-            hit,
-            are_bindings,
+            are_bindings(rt.alloc(), hit)
         );
-        asks(rt, Row("push_line", "two names", Optional), hit, is_line);
+        asks!(
+            rt,
+            Row("push_line", "two names", Optional),
+            is_line(rt.alloc(), hit)
+        );
     }
 }
 

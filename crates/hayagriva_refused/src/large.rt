@@ -11,7 +11,7 @@ use std::alloc::Global;
 use std::io::Print;
 use std::process::Abort;
 
-fn is_matched(alloc: Global, (selector, entry): (&Selector, &Entry)) -> Result<bool, OutOfMemory> {
+fn is_matched(alloc: Global, selector: &Selector, entry: &Entry) -> Result<bool, OutOfMemory> {
     selector.matches(alloc, entry)
 }
 
@@ -19,29 +19,25 @@ fn is_matched(alloc: Global, (selector, entry): (&Selector, &Entry)) -> Result<b
 fn try_nodes(rt: &(impl Abort + AllocGlobal + Print), text: &str, book: &Entry) {
     let wanted = selector(rt, text);
     let about = "65,538 nodes";
-    asks(
+    asks!(
         rt,
         Row("Selector::parse", about, Often),
-        (text, &wanted),
-        is_read,
+        is_read(rt.alloc(), text, &wanted)
     );
-    asks(
+    asks!(
         rt,
         Row("Selector::try_clone", about, Taken),
-        &wanted,
-        is_copied,
+        is_copied(rt.alloc(), &wanted)
     );
-    asks(
+    asks!(
         rt,
         Row("PreparedSelector::new", about, Taken),
-        &wanted,
-        is_prepared,
+        is_prepared(rt.alloc(), &wanted)
     );
-    asks(
+    asks!(
         rt,
         Row("Selector::matches", about, Taken),
-        (&wanted, book),
-        is_matched,
+        is_matched(rt.alloc(), &wanted, book)
     );
     drop(wanted);
 }
@@ -89,23 +85,20 @@ fn bind_names(
     let text = nested(rt, names);
     let wanted = selector(rt, text.as_str());
     let about = "many names";
-    asks(
+    asks!(
         rt,
         Row("Selector::parse", about, memory),
-        (text.as_str(), &wanted),
-        is_read,
+        is_read(rt.alloc(), text.as_str(), &wanted)
     );
-    asks(
+    asks!(
         rt,
         Row("Selector::try_clone", about, memory),
-        &wanted,
-        is_copied,
+        is_copied(rt.alloc(), &wanted)
     );
-    asks(
+    asks!(
         rt,
         Row("Selector::apply", about, memory),
-        (&wanted, entry, names),
-        binds,
+        binds(rt.alloc(), (&wanted, entry, names))
     );
     drop(wanted);
 }
@@ -132,11 +125,10 @@ fn members(rt: &(impl Abort + AllocGlobal), count: usize) -> String {
 fn assign_members(rt: &(impl Abort + AllocGlobal + Print), entry: &Entry) {
     let text = members(rt, 17);
     let wanted = selector(rt, text.as_str());
-    asks(
+    asks!(
         rt,
         Row("Selector::apply", "17 members of &", Optional),
-        (&wanted, entry, 17),
-        binds,
+        binds(rt.alloc(), (&wanted, entry, 17))
     );
     drop(wanted);
 }

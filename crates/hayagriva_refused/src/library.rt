@@ -83,15 +83,14 @@ fn pushes(library: &mut Library, site: &Entry) -> Result<bool, OutOfMemory> {
     Ok(is_last(library, site.key()))
 }
 
-fn push_each(rt: &(impl Abort + AllocGlobal + Print), key: &str, given: Change<Library>) {
+fn push_each(rt: &(impl Abort + AllocGlobal + Print), key: &str, mut given: Change<Library>) {
     let site = in_blog(rt, key, Web);
-    changes(
+    changes!(
         rt,
         Row("Library::push", key, Taken),
         given,
-        &site,
-        &site,
-        pushes,
+        pushes(&mut given.value, &site),
+        pushes(&mut given.value, &site)
     );
     drop(site);
 }
@@ -103,7 +102,7 @@ fn pushed(rt: HostRuntime) {
     }
 }
 
-fn inserts(library: &mut Library, (key, site): (&str, Entry)) -> Result<bool, OutOfMemory> {
+fn inserts(library: &mut Library, key: &str, site: Entry) -> Result<bool, OutOfMemory> {
     library.insert(site)?;
     Ok(is_last(library, key))
 }
@@ -111,16 +110,14 @@ fn inserts(library: &mut Library, (key, site): (&str, Entry)) -> Result<bool, Ou
 #[test]
 fn inserted(rt: HostRuntime) {
     for (from, key, to) in TAKEN {
-        let given = to_become(&rt, *from, *to);
-        let first = (*key, in_blog(&rt, *key, Web));
-        let second = (*key, in_blog(&rt, *key, Web));
-        changes(
+        let mut given = to_become(&rt, *from, *to);
+        let (first, second) = (in_blog(&rt, *key, Web), in_blog(&rt, *key, Web));
+        changes!(
             &rt,
             Row("Library::insert", *key, Taken),
             given,
-            first,
-            second,
-            inserts,
+            inserts(&mut given.value, *key, first),
+            inserts(&mut given.value, *key, second)
         );
     }
 }
@@ -134,7 +131,8 @@ fn is_copied(alloc: Global, library: &Library) -> Result<bool, OutOfMemory> {
 
 fn is_collected(
     alloc: Global,
-    (entries, library): (IntoEntries, &Library),
+    entries: IntoEntries,
+    library: &Library,
 ) -> Result<bool, OutOfMemory> {
     let made = Library::from_entries(alloc, entries)?;
     let is_equal = made == *library && is_last(&made, "7");
@@ -143,31 +141,28 @@ fn is_collected(
 }
 
 fn collect(rt: &(impl Abort + AllocGlobal + Print), library: &Library) {
-    let first = (library_of(rt, FULL).into_iter(), library);
-    let second = (library_of(rt, FULL).into_iter(), library);
-    makes(
+    let (first, second) = (library_of(rt, FULL), library_of(rt, FULL));
+    makes!(
         rt,
         Row("Library::from_entries", "seven entries", Taken),
-        first,
-        second,
-        is_collected,
+        is_collected(rt.alloc(), first.into_iter(), library),
+        is_collected(rt.alloc(), second.into_iter(), library)
     );
 }
 
 #[test]
 fn copied(rt: HostRuntime) {
     let library = library_of(&rt, FULL);
-    asks(
+    asks!(
         &rt,
         Row("Library::try_clone", "seven entries", Taken),
-        &library,
-        is_copied,
+        is_copied(rt.alloc(), &library)
     );
     collect(&rt, &library);
     drop(library);
 }
 
-fn is_two((library, other): (&Library, &Library)) -> bool {
+fn is_two(library: &Library, other: &Library) -> bool {
     let first = library.iter().next().map(Entry::key);
     let last = library.get("b").map(Entry::entry_type);
     (library.keys().next(), first, last) == (Some("a"), Some("a"), Some(Web))
@@ -182,12 +177,12 @@ fn asked(rt: HostRuntime) {
     let (library, other) = (library_of(&rt, TWO), library_of(&rt, SWAPPED));
     let asks = "Library::keys Keys::next Library::iter Entries::next Library::len \
         Library::is_empty Library::get Library::into_iter Library::nth Library::eq";
-    takes_none(&rt, asks, (&library, &other), is_two);
+    takes_none!(&rt, asks, is_two(&library, &other));
     drop(library);
     drop(other);
 }
 
-fn begins_by_a(_alloc: Global, mut entries: IntoEntries) -> Result<bool, OutOfMemory> {
+fn begins_by_a(mut entries: IntoEntries) -> Result<bool, OutOfMemory> {
     let first = entries.next();
     let is_first = first.as_ref().is_some_and(|first| first.key() == "a");
     drop(first);
@@ -199,14 +194,19 @@ fn begins_by_a(_alloc: Global, mut entries: IntoEntries) -> Result<bool, OutOfMe
 fn walked(rt: HostRuntime) {
     let (first, second) = (library_of(&rt, TWO), library_of(&rt, TWO));
     let row = Row("IntoEntries::next", "two entries", NotTaken);
-    makes(&rt, row, first.into_iter(), second.into_iter(), begins_by_a);
+    makes!(
+        &rt,
+        row,
+        begins_by_a(first.into_iter()),
+        begins_by_a(second.into_iter())
+    );
 }
 
 fn is_empty(alloc: Global) -> bool {
     Library::new(alloc).is_empty()
 }
 
-fn is_empty_with((alloc, rt): (Global, &HostRuntime)) -> bool {
+fn is_empty_with(alloc: Global, rt: &HostRuntime) -> bool {
     let keys = HashKeys::new(1, 2);
     let _hasher = keys.build_hasher();
     HashKeys::random(rt).is_ok() && Library::with_hash_keys(alloc, keys).is_empty()
@@ -214,9 +214,9 @@ fn is_empty_with((alloc, rt): (Global, &HostRuntime)) -> bool {
 
 #[test]
 fn made(rt: HostRuntime) {
-    takes_none(&rt, "Library::new", rt.alloc(), is_empty);
+    takes_none!(&rt, "Library::new", is_empty(rt.alloc()));
     let keys = "Library::with_hash_keys HashKeys::new HashKeys::random HashKeys::build_hasher";
-    takes_none(&rt, keys, (rt.alloc(), &rt), is_empty_with);
+    takes_none!(&rt, keys, is_empty_with(rt.alloc(), &rt));
 }
 
 fn removes(library: &mut Library, key: &str) -> Result<bool, OutOfMemory> {
@@ -229,5 +229,12 @@ fn removes(library: &mut Library, key: &str) -> Result<bool, OutOfMemory> {
 #[test]
 fn removed(rt: HostRuntime) {
     let row = Row("Library::remove", "the second of two", NotTaken);
-    changes(&rt, row, to_become(&rt, TWO, ONE), "b", "b", removes);
+    let mut given = to_become(&rt, TWO, ONE);
+    changes!(
+        &rt,
+        row,
+        given,
+        removes(&mut given.value, "b"),
+        removes(&mut given.value, "b")
+    );
 }

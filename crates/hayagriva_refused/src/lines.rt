@@ -55,7 +55,7 @@ fn are_taken(alloc: Global, work: &Entry) -> Result<bool, OutOfMemory> {
     }
 }
 
-fn are_from(_given: ()) -> bool {
+fn are_from() -> bool {
     InputFault::from(OutOfMemory) == InputFault::OutOfMemory
         && matches!(LinesError::from(OutOfMemory), LinesError::OutOfMemory)
 }
@@ -64,9 +64,21 @@ fn are_from(_given: ()) -> bool {
 fn lines(rt: HostRuntime) {
     let work = below(&rt, english(&rt, "a", Book), entry(&rt, "b", Blog));
     let about = "a work with a parent";
-    asks(&rt, Row("entry_lines", about, Taken), &work, are_lines);
-    asks(&rt, Row("read_library", about, Taken), &work, is_read);
-    asks(&rt, Row(OPEN_ENTRIES, about, Taken), &work, are_taken);
-    takes_none(&rt, "InputFault::from LinesError::from", (), are_from);
+    asks!(
+        &rt,
+        Row("entry_lines", about, Taken),
+        are_lines(rt.alloc(), &work)
+    );
+    asks!(
+        &rt,
+        Row("read_library", about, Taken),
+        is_read(rt.alloc(), &work)
+    );
+    asks!(
+        &rt,
+        Row(OPEN_ENTRIES, about, Taken),
+        are_taken(rt.alloc(), &work)
+    );
+    takes_none!(&rt, "InputFault::from LinesError::from", are_from());
     drop(work);
 }

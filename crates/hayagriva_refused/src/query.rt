@@ -150,11 +150,11 @@ struct Kept {
     same: Library,
 }
 
-fn is_answered_unchanged(alloc: Global, (kept, row): (&Kept, Asked)) -> Result<bool, OutOfMemory> {
+fn is_answered_unchanged(alloc: Global, kept: &Kept, row: Asked) -> Result<bool, OutOfMemory> {
     Ok(is_answered(alloc, &kept.asked, row)? && kept.asked == kept.same)
 }
 
-fn is_given_unchanged(alloc: Global, (kept, row): (&Kept, Asked)) -> Result<bool, OutOfMemory> {
+fn is_given_unchanged(alloc: Global, kept: &Kept, row: Asked) -> Result<bool, OutOfMemory> {
     Ok(is_given(alloc, &kept.asked, row)? && kept.asked == kept.same)
 }
 
@@ -162,9 +162,9 @@ fn ask_each(rt: &(impl Abort + AllocGlobal + Print), kept: &Kept) {
     for asked in ASKED {
         let (text, _, memory) = *asked;
         let row = Row("Library::query", text, memory);
-        asks(rt, row, (kept, *asked), is_answered_unchanged);
+        asks!(rt, row, is_answered_unchanged(rt.alloc(), kept, *asked));
         let row = Row("Library::query_iter Query::next", text, memory);
-        asks(rt, row, (kept, *asked), is_given_unchanged);
+        asks!(rt, row, is_given_unchanged(rt.alloc(), kept, *asked));
     }
 }
 
@@ -184,7 +184,7 @@ fn is_unasked(query: &Query) -> bool {
 
 fn count_each(rt: &(impl Abort + AllocGlobal + Print), library: &Library) {
     let query = library.query_iter(rt.alloc(), "*").expect(rt, "a selector");
-    takes_none(rt, "Query::steps", &query, is_unasked);
+    takes_none!(rt, "Query::steps", is_unasked(&query));
     drop(query);
 }
 
@@ -220,11 +220,10 @@ fn is_nine(alloc: Global, library: &Library) -> Result<bool, OutOfMemory> {
 #[test]
 fn many_hits(rt: HostRuntime) {
     let library = notes(&rt);
-    asks(
+    asks!(
         &rt,
         Row("Library::query", "nine hits", Taken),
-        &library,
-        is_nine,
+        is_nine(rt.alloc(), &library)
     );
     drop(library);
 }

@@ -203,14 +203,14 @@ fn every_field_and_form(rt: HostRuntime) {
     ends(&rt, row, &[FORMS], given, (0, PICKED, ""));
 }
 
-fn are_faults(_given: ()) -> bool {
+fn are_faults() -> bool {
     let memory = Fault::from(OutOfMemory);
     memory == Fault::OutOfMemory && memory.status() == 1 && Fault::Usage.status() == 2
 }
 
 #[test]
 fn faults(rt: HostRuntime) {
-    takes_none(&rt, "Fault::from Fault::status", (), are_faults);
+    takes_none!(&rt, "Fault::from Fault::status", are_faults());
 }
 
 // One entry, of more than a million bytes, of which each read gives one.

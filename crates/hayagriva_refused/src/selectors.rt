@@ -21,10 +21,7 @@ fn told(fault: SelectorError) -> Result<bool, OutOfMemory> {
 }
 
 /// Whether a text reads as this selector.
-pub(crate) fn is_read(
-    alloc: Global,
-    (text, wanted): (&str, &Selector),
-) -> Result<bool, OutOfMemory> {
+pub(crate) fn is_read(alloc: Global, text: &str, wanted: &Selector) -> Result<bool, OutOfMemory> {
     match Selector::parse(alloc, text) {
         Ok(read) => {
             let is_equal = read == *wanted;
@@ -44,10 +41,7 @@ pub(crate) fn is_copied(alloc: Global, original: &Selector) -> Result<bool, OutO
 }
 
 // Whether the first fault of a text has this place.
-fn is_fault_place(
-    alloc: Global,
-    (text, wanted): (&str, Option<usize>),
-) -> Result<bool, OutOfMemory> {
+fn is_fault_place(alloc: Global, text: &str, wanted: Option<usize>) -> Result<bool, OutOfMemory> {
     Ok(Selector::fault_place(alloc, text)? == wanted)
 }
 
@@ -86,27 +80,25 @@ const READ: &[(&str, Memory, Memory)] = &[
 fn texts(rt: HostRuntime) {
     for (text, to_read, to_copy) in READ {
         let wanted = selector(&rt, *text);
-        asks(
+        asks!(
             &rt,
             Row("Selector::parse", *text, *to_read),
-            (*text, &wanted),
-            is_read,
+            is_read(rt.alloc(), *text, &wanted)
         );
-        asks(
+        asks!(
             &rt,
             Row("Selector::try_clone", *text, *to_copy),
-            &wanted,
-            is_copied,
+            is_copied(rt.alloc(), &wanted)
         );
         drop(wanted);
     }
 }
 
-fn are_equal((one, other): (&Selector, &Selector)) -> bool {
+fn are_equal(one: &Selector, other: &Selector) -> bool {
     one == other
 }
 
-fn lets_go(_alloc: Global, chosen: Selector) -> Result<bool, OutOfMemory> {
+fn lets_go(chosen: Selector) -> Result<bool, OutOfMemory> {
     drop(chosen);
     Ok(true)
 }
@@ -115,9 +107,9 @@ fn lets_go(_alloc: Global, chosen: Selector) -> Result<bool, OutOfMemory> {
 fn equal_and_let_go(rt: HostRuntime) {
     let form = "!(n:book[url] > (web | blog)) & *";
     let (one, other) = (selector(&rt, form), selector(&rt, form));
-    takes_none(&rt, "Selector::eq", (&one, &other), are_equal);
+    takes_none!(&rt, "Selector::eq", are_equal(&one, &other));
     let row = Row("Selector::drop", form, NotTaken);
-    makes(&rt, row, one, other, lets_go);
+    makes!(&rt, row, lets_go(one), lets_go(other));
 }
 
 // Texts that are refused, and how.
@@ -145,7 +137,7 @@ fn name(fault: &SelectorError) -> &'static str {
     }
 }
 
-fn is_refused(alloc: Global, (text, wanted): (&str, &str)) -> Result<bool, OutOfMemory> {
+fn is_refused(alloc: Global, text: &str, wanted: &str) -> Result<bool, OutOfMemory> {
     match Selector::parse(alloc, text) {
         Ok(read) => {
             drop(read);
@@ -160,7 +152,7 @@ fn fault_is_copied(alloc: Global, fault: &SelectorError) -> Result<bool, OutOfMe
     Ok(fault.try_clone(alloc)? == *fault)
 }
 
-fn is_from(_given: ()) -> bool {
+fn is_from() -> bool {
     SelectorError::from(OutOfMemory) == SelectorError::OutOfMemory
 }
 
@@ -177,25 +169,24 @@ const PLACES: &[(&str, Option<usize>, Memory)] = &[
 fn places(rt: HostRuntime) {
     for (text, place, memory) in PLACES {
         let row = Row("Selector::fault_place", *text, *memory);
-        asks(&rt, row, (*text, *place), is_fault_place);
+        asks!(&rt, row, is_fault_place(rt.alloc(), *text, *place));
     }
 }
 
 #[test]
 fn refusals(rt: HostRuntime) {
     for (text, wanted) in REFUSED {
-        asks(
+        asks!(
             &rt,
             Row("Selector::parse", *text, Maybe),
-            (*text, *wanted),
-            is_refused,
+            is_refused(rt.alloc(), *text, *wanted)
         );
     }
     let unknown = SelectorError::UnknownEntryType(string(&rt, "a"));
     let row = Row("SelectorError::try_clone", "an unknown type", Taken);
-    asks(&rt, row, &unknown, fault_is_copied);
+    asks!(&rt, row, fault_is_copied(rt.alloc(), &unknown));
     drop(unknown);
-    takes_none(&rt, "SelectorError::from", (), is_from);
+    takes_none!(&rt, "SelectorError::from", is_from());
 }
 
 // An article whose parents are a blog, a dated book and a web site with an address, which is below
@@ -283,10 +274,7 @@ fn has_selected(alloc: Global, asked: Wanted<'_>) -> Result<bool, OutOfMemory> {
     ))
 }
 
-fn is_debugged_so(
-    _alloc: Global,
-    (selector, wanted): (&Selector, &str),
-) -> Result<bool, OutOfMemory> {
+fn is_debugged_so(selector: &Selector, wanted: &str) -> Result<bool, OutOfMemory> {
     is_debugged(selector, wanted)
 }
 
@@ -295,7 +283,7 @@ fn debugged(rt: HostRuntime) {
     let selector = selector(&rt, "!web > *");
     let wanted = "Ancestrage(Neg(Entry(Web)), Wildcard)";
     let row = Row("Selector::fmt", wanted, Taken);
-    asks(&rt, row, (&selector, wanted), is_debugged_so);
+    asks!(&rt, row, is_debugged_so(&selector, wanted));
     drop(selector);
 }
 
@@ -306,15 +294,15 @@ fn apply(
     wanted: Wanted<'_>,
 ) {
     let row = Row("Selector::apply", text, memory);
-    asks(rt, row, wanted, is_applied);
+    asks!(rt, row, is_applied(rt.alloc(), wanted));
     let row = Row("Selector::apply_counted", text, memory);
-    asks(rt, row, wanted, is_counted);
+    asks!(rt, row, is_counted(rt.alloc(), wanted));
     let row = Row("Selector::matches", text, memory);
-    asks(rt, row, wanted, is_matched);
+    asks!(rt, row, is_matched(rt.alloc(), wanted));
     let row = Row("Selector::bound", text, memory);
-    asks(rt, row, wanted, has_bound);
+    asks!(rt, row, has_bound(rt.alloc(), wanted));
     let row = Row("Entry::bound_select", text, memory);
-    asks(rt, row, wanted, has_selected);
+    asks!(rt, row, has_selected(rt.alloc(), wanted));
 }
 
 fn apply_each(rt: &(impl Abort + AllocGlobal + Print), entry: &Entry) {
@@ -376,8 +364,9 @@ fn after_compiling(memory: Memory) -> Memory {
 
 // Applies a compiled selector.
 fn is_answered(
-    _alloc: Global,
-    (compiled, entry, holds): (&CompiledSelector, &Entry, bool),
+    compiled: &CompiledSelector,
+    entry: &Entry,
+    holds: bool,
 ) -> Result<bool, OutOfMemory> {
     let found = compiled.apply(entry, &mut Steps::new())?;
     let is_wanted = found.is_some() == holds;
@@ -389,11 +378,11 @@ fn compile_each(rt: &(impl Abort + AllocGlobal + Print), entry: &Entry) {
     for (text, holds, _, memory) in APPLIED {
         let selector = selector(rt, *text);
         let row = Row("CompiledSelector::new", *text, Taken);
-        asks(rt, row, &selector, is_compiled);
+        asks!(rt, row, is_compiled(rt.alloc(), &selector));
         let compiled = CompiledSelector::new(rt.alloc(), &selector).expect(rt, "memory");
         drop(selector);
         let row = Row("CompiledSelector::apply", *text, after_compiling(*memory));
-        asks(rt, row, (&compiled, entry, *holds), is_answered);
+        asks!(rt, row, is_answered(&compiled, entry, *holds));
         drop(compiled);
     }
 }
@@ -401,11 +390,10 @@ fn compile_each(rt: &(impl Abort + AllocGlobal + Print), entry: &Entry) {
 fn prepare_each(rt: &(impl Abort + AllocGlobal + Print), entry: &Entry) {
     for (text, holds, _, memory) in APPLIED {
         let selector = selector(rt, *text);
-        asks(
+        asks!(
             rt,
             Row("PreparedSelector::new", *text, Taken),
-            &selector,
-            is_prepared,
+            is_prepared(rt.alloc(), &selector)
         );
         let mut prepared = PreparedSelector::new(rt.alloc(), &selector).expect(rt, "memory");
         let row = Row("PreparedSelector::apply", *text, after_compiling(*memory));

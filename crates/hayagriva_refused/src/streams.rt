@@ -124,11 +124,7 @@ fn listed(rt: &(impl Abort + AllocGlobal), works: usize) -> Texts {
 }
 
 // Tries the calls over works of so many numbers.
-fn try_works(
-    rt: &(impl Abort + AllocGlobal + Print),
-    works: usize,
-    (about, memory): (&str, Memory),
-) {
+fn try_works(rt: &(impl Abort + AllocGlobal + Print), works: usize, about: &str, memory: Memory) {
     let Texts { lines, all, keys } = listed(rt, works);
     let text = lines.as_str();
     let row = Row("answer_all", about, memory);
@@ -143,13 +139,13 @@ fn try_works(
 
 #[test]
 fn two_works(rt: HostRuntime) {
-    try_works(&rt, 2, ("two works", Taken));
+    try_works(&rt, 2, "two works", Taken);
 }
 
 // Several blocks of input.
 #[test]
 fn many_works(rt: HostRuntime) {
-    try_works(&rt, 3_000, ("3,000 works", Often));
+    try_works(&rt, 3_000, "3,000 works", Often);
 }
 
 // One line of many blocks.
@@ -168,7 +164,7 @@ fn a_long_line(rt: HostRuntime) {
     prints(&rt, row, line.as_str(), "a\n", are_entries_answered);
 }
 
-fn is_from(_given: ()) -> bool {
+fn is_from() -> bool {
     matches!(
         StreamFault::<OutOfMemory>::from(AllocError),
         StreamFault::OutOfMemory
@@ -177,5 +173,5 @@ fn is_from(_given: ()) -> bool {
 
 #[test]
 fn faults(rt: HostRuntime) {
-    takes_none(&rt, "StreamFault::from", (), is_from);
+    takes_none!(&rt, "StreamFault::from", is_from());
 }

@@ -76,18 +76,18 @@ fn getters(rt: HostRuntime) {
     let full = entry(&rt, FULL);
     let texts = "Entry::title Entry::location Entry::organization Entry::archive \
         Entry::archive_location Entry::call_number Entry::note Entry::abstract_ Entry::genre";
-    takes_none(&rt, texts, &full, has_texts);
+    takes_none!(&rt, texts, has_texts(&full));
     let numbers = "Entry::issue Entry::chapter Entry::volume Entry::edition Entry::volume_total \
         Entry::page_total Entry::page_range Entry::time_range Entry::runtime";
-    takes_none(&rt, numbers, &full, has_numbers);
+    takes_none!(&rt, numbers, has_numbers(&full));
     let others = "Entry::affiliated Entry::authors Entry::editors Entry::date Entry::publisher \
         Entry::url Entry::language Entry::serial_number";
-    takes_none(&rt, others, &full, has_others);
+    takes_none!(&rt, others, has_others(&full));
     let serials = "Entry::keyed_serial_number Entry::doi Entry::isbn Entry::issn Entry::pmid \
         Entry::pmcid Entry::arxiv";
-    takes_none(&rt, serials, &full, has_serials);
+    takes_none!(&rt, serials, has_serials(&full));
     let head = "Entry::key Entry::entry_type Entry::parents Entry::has Entry::has_field";
-    takes_none(&rt, head, &full, has_head);
+    takes_none!(&rt, head, has_head(&full));
     drop(full);
 }
 
@@ -204,13 +204,20 @@ fn setters(rt: HostRuntime) {
         Entry::set_page_range Entry::set_time_range Entry::set_runtime Entry::set_date \
         Entry::set_authors Entry::set_editors Entry::set_affiliated Entry::set_publisher \
         Entry::set_url Entry::set_serial_number";
-    let given = Change {
+    let mut given = Change {
         value: entry(&rt, "0\tk\tbook"),
         before: entry(&rt, "0\tk\tbook"),
         after: entry(&rt, FULL),
     };
     let row = Row(calls, "all fields", NotTaken);
-    changes(&rt, row, given, entry(&rt, FULL), entry(&rt, FULL), sets);
+    let (first, second) = (entry(&rt, FULL), entry(&rt, FULL));
+    changes!(
+        &rt,
+        row,
+        given,
+        sets(&mut given.value, first),
+        sets(&mut given.value, second)
+    );
 }
 
 fn parents(rt: &(impl Abort + AllocGlobal)) -> Vec<Entry> {
@@ -229,11 +236,18 @@ fn set_parents(rt: HostRuntime) {
         .parents
         .push(entry(&rt, "0\tp\tblog"))
         .expect(&rt, "memory");
-    let given = Change {
+    let mut given = Change {
         value: entry(&rt, "0\tk\tbook"),
         before: entry(&rt, "0\tk\tbook"),
         after,
     };
     let row = Row("Entry::set_parents", "one", NotTaken);
-    changes(&rt, row, given, parents(&rt), parents(&rt), sets_parents);
+    let first = parents(&rt);
+    changes!(
+        &rt,
+        row,
+        given,
+        sets_parents(&mut given.value, first),
+        sets_parents(&mut given.value, parents(&rt))
+    );
 }

@@ -72,17 +72,17 @@ fn numbers(rt: HostRuntime) {
     let number = Numeric::from_str(rt.alloc(), "no. 1, 2-3th").expect(&rt, "a number");
     let calls = "Numeric::fmt Numeric::fmt_value Numeric::prefix_str Numeric::suffix_str \
         Numeric::nth Numeric::single_number";
-    takes_none(&rt, calls, &number, is_number);
+    takes_none!(&rt, calls, is_number(&number));
     let calls = "Numeric::is_plural Numeric::will_transform NumericValue::len \
         NumericValue::is_empty Numeric::csl_cmp Numeric::new Numeric::from Numeric::try_from";
-    takes_none(&rt, calls, &number, tells);
+    takes_none!(&rt, calls, tells(&number));
     let calls = "NumIterator::len NumIterator::next NumIterator::size_hint";
-    takes_none(&rt, calls, &number, walks);
-    takes_none(&rt, "Numeric::with_form", &number, is_formed);
+    takes_none!(&rt, calls, walks(&number));
+    takes_none!(&rt, "Numeric::with_form", is_formed(&number));
     drop(number);
 }
 
-fn are_delimiters(_given: ()) -> bool {
+fn are_delimiters() -> bool {
     let memory = NumericError::from(OutOfMemory);
     NumericDelimiter::try_from('&') == Ok(NumericDelimiter::Ampersand)
         && NumericDelimiter::Comma.as_char() == ','
@@ -91,7 +91,7 @@ fn are_delimiters(_given: ()) -> bool {
         && !NumericError::NoNumber.is_out_of_memory()
 }
 
-fn are_page_faults(_given: ()) -> bool {
+fn are_page_faults() -> bool {
     let fault = PageRangesPartErr::from(NumericError::NoNumber);
     let memory = PageRangesPartErr::from(AllocError);
     !fault.is_out_of_memory() && memory.is_out_of_memory()
@@ -101,9 +101,9 @@ fn are_page_faults(_given: ()) -> bool {
 fn delimiters_and_faults(rt: HostRuntime) {
     let calls = "NumericDelimiter::try_from NumericDelimiter::as_char NumericDelimiter::fmt \
         NumericError::from NumericError::is_out_of_memory";
-    takes_none(&rt, calls, (), are_delimiters);
+    takes_none!(&rt, calls, are_delimiters());
     let calls = "PageRangesPartErr::from PageRangesPartErr::is_out_of_memory";
-    takes_none(&rt, calls, (), are_page_faults);
+    takes_none!(&rt, calls, are_page_faults());
 }
 
 fn are_pages(pages: &PageRanges) -> bool {
@@ -120,7 +120,7 @@ fn is_part(part: &PageRangesPart) -> bool {
         && part.csl_cmp(part) == Ordering::Equal
 }
 
-fn are_parts(_alloc: Global, _given: ()) -> Result<bool, OutOfMemory> {
+fn are_parts() -> Result<bool, OutOfMemory> {
     let page = PageRangesPart::from(3);
     Ok(PageRangesPart::try_from(3u32) == Ok(page))
 }
@@ -134,18 +134,18 @@ fn are_pieces(text: &str) -> bool {
 fn pages(rt: HostRuntime) {
     let pages = PageRanges::from_str(rt.alloc(), "3-5,7").expect(&rt, "pages");
     let calls = "PageRanges::fmt PageRanges::is_plural PageRanges::first PageRanges::csl_cmp";
-    takes_none(&rt, calls, &pages, are_pages);
+    takes_none!(&rt, calls, are_pages(&pages));
     drop(pages);
     let part = PageRangesPart::from_str(rt.alloc(), "3-5").expect(&rt, "a range");
     let calls = "PageRangesPart::fmt PageRangesPart::start PageRangesPart::end \
         PageRangesPart::csl_cmp";
-    takes_none(&rt, calls, &part, is_part);
+    takes_none!(&rt, calls, is_part(&part));
     drop(part);
     let row = Row(
         "PageRangesPart::from PageRangesPart::try_from",
         "no memory",
         NotTaken,
     );
-    makes(&rt, row, (), (), are_parts);
-    takes_none(&rt, "split_pages PagePieces::next", "3-5,7", are_pieces);
+    makes!(&rt, row, are_parts(), are_parts());
+    takes_none!(&rt, "split_pages PagePieces::next", are_pieces("3-5,7"));
 }

@@ -8,14 +8,14 @@ use haya_time::{Date, Duration, DurationRange};
 use haya_values::OneOrMany;
 use std::alloc::Global;
 
-fn times(_given: ()) -> bool {
+fn times() -> bool {
     let date = "~ 1961 - 05".parse::<Date>().is_ok();
     let duration = "90:00".parse::<Duration>().is_ok();
     let range = "01:00-02:00".parse::<DurationRange>().is_ok();
     date && duration && range && "2014-02-29".parse::<Date>().is_err()
 }
 
-fn kinds(_given: ()) -> bool {
+fn kinds() -> bool {
     let kind = "Article".parse::<EntryType>().is_ok();
     let delimiter = "-x".parse::<NumericDelimiter>().is_ok();
     let role = "cast-member".parse::<PersonRole>().is_ok();
@@ -32,11 +32,11 @@ fn kinds(_given: ()) -> bool {
 #[test]
 fn read(rt: HostRuntime) {
     let reads = "Date::from_str Duration::from_str DurationRange::from_str";
-    takes_none(&rt, reads, (), times);
+    takes_none!(&rt, reads, times());
     let reads = "EntryType::from_str EntryType::default_parent NumericDelimiter::from_str \
         PersonRole::from_str FieldName::from_str FieldName::as_str \
         EntryType::lower_name PersonRole::name";
-    takes_none(&rt, reads, (), kinds);
+    takes_none!(&rt, reads, kinds());
 }
 
 fn texts(alloc: Global) -> bool {
@@ -52,7 +52,7 @@ fn lists(alloc: Global) -> bool {
     pages && names.names.is_empty() && values.is_none()
 }
 
-fn ticks(_given: ()) -> bool {
+fn ticks() -> bool {
     let mut steps = Steps::new();
     let before = steps.seen();
     steps.tick();
@@ -62,9 +62,9 @@ fn ticks(_given: ()) -> bool {
 #[test]
 fn made(rt: HostRuntime) {
     let made = "ChunkedString::new FoldableChunkedString::new FormatString::new";
-    takes_none(&rt, made, rt.alloc(), texts);
+    takes_none!(&rt, made, texts(rt.alloc()));
     let made = "PageRanges::new PersonsWithRoles::new OneOrMany::new OneOrMany::into_iter \
         OneOrManyIter::next";
-    takes_none(&rt, made, rt.alloc(), lists);
-    takes_none(&rt, "Steps::new Steps::tick Steps::seen", (), ticks);
+    takes_none!(&rt, made, lists(rt.alloc()));
+    takes_none!(&rt, "Steps::new Steps::tick Steps::seen", ticks());
 }

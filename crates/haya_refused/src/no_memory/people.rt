@@ -28,7 +28,7 @@ fn is_ordered(person: &Person) -> bool {
         && person.name_without_article(articles) == "Berg"
 }
 
-fn are_faults(_given: ()) -> bool {
+fn are_faults() -> bool {
     let memory = PersonError::from(OutOfMemory);
     memory.is_out_of_memory() && !PersonError::Empty.is_out_of_memory()
 }
@@ -37,13 +37,13 @@ fn are_faults(_given: ()) -> bool {
 fn persons(rt: HostRuntime) {
     let person = Person::from_str(rt.alloc(), "Berg, Jan").expect(&rt, "a person");
     let calls = "Person::first_name_with_delimiter Person::initials Person::is_institutional";
-    takes_none(&rt, calls, &person, writes_names);
+    takes_none!(&rt, calls, writes_names(&person));
     let calls = "Person::cmp Person::partial_cmp Person::is_cjk Person::name_without_article \
         is_sorted_table";
-    takes_none(&rt, calls, &person, is_ordered);
+    takes_none!(&rt, calls, is_ordered(&person));
     drop(person);
     let calls = "PersonError::from PersonError::is_out_of_memory";
-    takes_none(&rt, calls, (), are_faults);
+    takes_none!(&rt, calls, are_faults());
 }
 
 fn are_items(line: &str) -> bool {
@@ -58,5 +58,5 @@ fn are_items(line: &str) -> bool {
 #[test]
 fn lines(rt: HostRuntime) {
     let calls = "split_line Items::next read_head LineFault::from";
-    takes_none(&rt, calls, "0\tk\tbook\tnote=n", are_items);
+    takes_none!(&rt, calls, are_items("0\tk\tbook\tnote=n"));
 }

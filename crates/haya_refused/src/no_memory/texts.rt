@@ -15,7 +15,6 @@ const MADE: &str = "StringChunk::new StringChunk::normal StringChunk::verbatim S
     StringChunk::as_str StringChunk::len StringChunk::is_empty";
 
 fn are_chunks(
-    _alloc: Global,
     (one, two, three, four): (String, String, String, String),
 ) -> Result<bool, OutOfMemory> {
     let (new, plain) = (StringChunk::new(one, Normal), StringChunk::normal(two));
@@ -26,7 +25,7 @@ fn are_chunks(
 
 const TURNED: &str = "FoldableStringChunk::try_from StringChunk::from StringChunk::fmt";
 
-fn is_turned(_alloc: Global, chunk: StringChunk) -> Result<bool, OutOfMemory> {
+fn is_turned(chunk: StringChunk) -> Result<bool, OutOfMemory> {
     match FoldableStringChunk::try_from(chunk) {
         Ok(folded) => Ok(is_shown(&StringChunk::from(folded), "x")),
         Err(_) => Ok(false),
@@ -48,13 +47,13 @@ fn chunks(rt: HostRuntime) {
         string(&rt, "x"),
     );
     let row = Row(MADE, "no memory", NotTaken);
-    makes(&rt, row, texts, others, are_chunks);
+    makes!(&rt, row, are_chunks(texts), are_chunks(others));
     let (first, second) = (
         StringChunk::verbatim(string(&rt, "x")),
         StringChunk::verbatim(string(&rt, "x")),
     );
     let row = Row(TURNED, "no memory", NotTaken);
-    makes(&rt, row, first, second, is_turned);
+    makes!(&rt, row, is_turned(first), is_turned(second));
 }
 
 // The short form.
@@ -87,16 +86,16 @@ fn whole_texts(rt: HostRuntime) {
     let text = text_of(&rt, "a{b}$c$");
     let calls = "ChunkedString::fmt ChunkedString::fmt_serialized ChunkedString::len \
         ChunkedString::is_empty";
-    takes_none(&rt, calls, &text, is_text);
+    takes_none!(&rt, calls, is_text(&text));
     drop(text);
     let (long, short) = (string(&rt, "long"), string(&rt, "short"));
     let text = FormatString::with_short(rt.alloc(), long, short).expect(&rt, "memory");
     let calls = "FormatString::fmt FormatString::fmt_short FormatString::select";
-    takes_none(&rt, calls, &text, is_format);
+    takes_none!(&rt, calls, is_format(&text));
     drop(text);
 }
 
-fn are_kinds(_given: ()) -> bool {
+fn are_kinds() -> bool {
     let kind = FoldableKind::try_from(Verbatim) == Ok(FoldableKind::Verbatim);
     kind && ChunkKind::from(FoldableKind::Normal) == Normal && FoldableKind::try_from(Math).is_err()
 }
@@ -115,13 +114,13 @@ fn are_faults(fault: &ChunkedReadError) -> bool {
 
 #[test]
 fn kinds_and_faults(rt: HostRuntime) {
-    takes_none(&rt, "ChunkKind::from FoldableKind::try_from", (), are_kinds);
+    takes_none!(&rt, "ChunkKind::from FoldableKind::try_from", are_kinds());
     let fault = ChunkedString::from_str(rt.alloc(), "é}")
         .err()
         .expect(&rt, "a fault");
     let calls = "ChunkedReadError::from ChunkedReadError::is_out_of_memory OutOfMemory::from \
         OutOfMemory::is_out_of_memory ChunkedStrParseError::position";
-    takes_none(&rt, calls, &fault, are_faults);
+    takes_none!(&rt, calls, are_faults(&fault));
     drop(fault);
 }
 
@@ -142,7 +141,7 @@ fn goes(text: &str) -> bool {
 fn cursors(rt: HostRuntime) {
     let calls = "Cursor::new Cursor::fork Cursor::eat_whitespace Cursor::eat_while Cursor::eat_if \
         Cursor::peek Cursor::eat Cursor::place Cursor::rest";
-    takes_none(&rt, calls, " abcde", goes);
+    takes_none!(&rt, calls, goes(" abcde"));
 }
 
 // The characters of a text that are numeric, and then one that isn't.
@@ -158,5 +157,5 @@ fn begins_numeric(text: &str) -> bool {
 
 #[test]
 fn characters(rt: HostRuntime) {
-    takes_none(&rt, "is_numeric split_char", "½b", begins_numeric);
+    takes_none!(&rt, "is_numeric split_char", begins_numeric("½b"));
 }

@@ -11,7 +11,7 @@ use haya_values::{MaybeTyped, Publisher, QualifiedUrl};
 use std::alloc::Global;
 use std::cmp::Ordering;
 
-fn are_dates(_given: ()) -> bool {
+fn are_dates() -> bool {
     let (first, second) = (Date::from_year(1961), Date::from_year(1962));
     is_shown(&first, "1961")
         && first.csl_cmp(&second) == Ordering::Less
@@ -31,13 +31,13 @@ fn are_durations(range: DurationRange) -> bool {
 #[test]
 fn times(rt: HostRuntime) {
     let calls = "Date::from_year Date::fmt Date::csl_cmp Date::partial_cmp";
-    takes_none(&rt, calls, (), are_dates);
+    takes_none!(&rt, calls, are_dates());
     let range = "01:00-02:00"
         .parse::<DurationRange>()
         .expect(&rt, "a range");
     let calls = "Duration::fmt Duration::cmp Duration::partial_cmp DurationError::is_out_of_memory \
         DurationRange::new DurationRange::fmt";
-    takes_none(&rt, calls, range, are_durations);
+    takes_none!(&rt, calls, are_durations(range));
 }
 
 fn is_typed(value: &MaybeTyped<Numeric>) -> bool {
@@ -48,13 +48,13 @@ fn is_typed(value: &MaybeTyped<Numeric>) -> bool {
     is_three && order == Ordering::Equal && is_shown(value, "3")
 }
 
-fn is_publisher(_alloc: Global, name: FormatString) -> Result<bool, OutOfMemory> {
+fn is_publisher(name: FormatString) -> Result<bool, OutOfMemory> {
     let publisher = Publisher::new(Some(name), None);
     let is_named = publisher.name().is_some_and(|name| name.is_told("P"));
     Ok(is_named && publisher.location().is_none())
 }
 
-fn is_url(_alloc: Global, text: String) -> Result<bool, OutOfMemory> {
+fn is_url(text: String) -> Result<bool, OutOfMemory> {
     Ok(is_shown(&QualifiedUrl::new(text, None), "u"))
 }
 
@@ -62,7 +62,7 @@ fn is_url(_alloc: Global, text: String) -> Result<bool, OutOfMemory> {
 fn values(rt: HostRuntime) {
     let value = MaybeTyped::Typed(Numeric::new(3));
     let calls = "MaybeTyped::from MaybeTyped::as_typed MaybeTyped::csl_cmp MaybeTyped::fmt";
-    takes_none(&rt, calls, &value, is_typed);
+    takes_none!(&rt, calls, is_typed(&value));
     drop(value);
     let (first, second) = (string(&rt, "P"), string(&rt, "P"));
     let first = FormatString::with_value(rt.alloc(), first).expect(&rt, "memory");
@@ -72,7 +72,8 @@ fn values(rt: HostRuntime) {
         "no memory",
         NotTaken,
     );
-    makes(&rt, row, first, second, is_publisher);
+    makes!(&rt, row, is_publisher(first), is_publisher(second));
     let row = Row("QualifiedUrl::new QualifiedUrl::fmt", "no memory", NotTaken);
-    makes(&rt, row, string(&rt, "u"), string(&rt, "u"), is_url);
+    let (first, second) = (string(&rt, "u"), string(&rt, "u"));
+    makes!(&rt, row, is_url(first), is_url(second));
 }
