@@ -3,106 +3,122 @@ use haya_entry::Entry;
 use haya_lines::read_line;
 use haya_people::{Person, PersonRole, PersonsWithRoles};
 use haya_values::{MaybeTyped, Publisher};
-use std::alloc::AllocError;
 use std::fmt;
 use std::process::Abort;
 
-fn put<D: fmt::Display>(out: &mut String, name: &str, value: Option<&D>) -> Result<(), AllocError> {
-    match value {
-        Some(value) => write!(out, "{name}={value};"),
-        None => Ok(()),
+// A failed allocation ends the test, and so no text has to be dropped on the way.
+fn push(rt: &(impl Abort + AllocGlobal), out: &mut String, text: &str) {
+    out.push_str(text).expect(rt, "memory");
+}
+
+fn put<D: fmt::Display>(
+    rt: &(impl Abort + AllocGlobal),
+    out: &mut String,
+    name: &str,
+    value: Option<&D>,
+) {
+    if let Some(value) = value {
+        write!(out, "{name}={value};").expect(rt, "memory");
     }
 }
 
 // A typed value is shown in brackets.
 fn put_typed<D: fmt::Display>(
+    rt: &(impl Abort + AllocGlobal),
     out: &mut String,
     name: &str,
     value: Option<&MaybeTyped<D>>,
-) -> Result<(), AllocError> {
+) {
     match value {
-        Some(MaybeTyped::Typed(value)) => write!(out, "{name}=[{value}];"),
-        Some(MaybeTyped::String(text)) => write!(out, "{name}={text};"),
-        None => Ok(()),
+        Some(MaybeTyped::Typed(value)) => write!(out, "{name}=[{value}];").expect(rt, "memory"),
+        Some(MaybeTyped::String(text)) => write!(out, "{name}={text};").expect(rt, "memory"),
+        None => {}
     }
 }
 
-fn put_persons(out: &mut String, name: &str, persons: Option<&[Person]>) -> Result<(), AllocError> {
+fn put_person(rt: &(impl Abort + AllocGlobal), out: &mut String, name: &str, person: &Person) {
+    write!(out, "{name}={}", person.name).expect(rt, "memory");
+    if let Some(given_name) = &person.given_name {
+        write!(out, ", {given_name}").expect(rt, "memory");
+    }
+    push(rt, out, ";");
+}
+
+fn put_persons(
+    rt: &(impl Abort + AllocGlobal),
+    out: &mut String,
+    name: &str,
+    persons: Option<&[Person]>,
+) {
     for person in persons.unwrap_or(&[]) {
-        write!(out, "{name}={}", person.name)?;
-        if let Some(given_name) = &person.given_name {
-            write!(out, ", {given_name}")?;
-        }
-        out.push_str(";")?;
+        put_person(rt, out, name, person);
     }
-    Ok(())
 }
 
-fn put_affiliated(out: &mut String, lists: Option<&[PersonsWithRoles]>) -> Result<(), AllocError> {
+fn put_affiliated(
+    rt: &(impl Abort + AllocGlobal),
+    out: &mut String,
+    lists: Option<&[PersonsWithRoles]>,
+) {
     for list in lists.unwrap_or(&[]) {
         let role = match list.role {
             PersonRole::Translator => "translator",
             PersonRole::CastMember => "cast-member",
             _ => "other",
         };
-        put_persons(out, role, Some(list.names.as_slice()))?;
-    }
-    Ok(())
-}
-
-fn put_texts(out: &mut String, entry: &Entry) -> Result<(), AllocError> {
-    put(out, "title", entry.title())?;
-    put(out, "location", entry.location())?;
-    put(out, "organization", entry.organization())?;
-    put(out, "archive", entry.archive())?;
-    put(out, "archive-location", entry.archive_location())?;
-    put(out, "call-number", entry.call_number())?;
-    put(out, "note", entry.note())?;
-    put(out, "abstract", entry.abstract_())?;
-    put(out, "genre", entry.genre())
-}
-
-fn put_numbers(out: &mut String, entry: &Entry) -> Result<(), AllocError> {
-    put_typed(out, "issue", entry.issue())?;
-    put_typed(out, "chapter", entry.chapter())?;
-    put_typed(out, "volume", entry.volume())?;
-    put_typed(out, "edition", entry.edition())?;
-    put(out, "volume-total", entry.volume_total())?;
-    put(out, "page-total", entry.page_total())?;
-    put_typed(out, "page-range", entry.page_range())?;
-    put_typed(out, "time-range", entry.time_range())?;
-    put_typed(out, "runtime", entry.runtime())
-}
-
-fn put_publisher(out: &mut String, publisher: Option<&Publisher>) -> Result<(), AllocError> {
-    match publisher {
-        Some(publisher) => {
-            put(out, "publisher", publisher.name())?;
-            put(out, "at", publisher.location())
-        }
-        None => Ok(()),
+        put_persons(rt, out, role, Some(list.names.as_slice()));
     }
 }
 
-fn put_serials(out: &mut String, entry: &Entry) -> Result<(), AllocError> {
+fn put_texts(rt: &(impl Abort + AllocGlobal), out: &mut String, entry: &Entry) {
+    put(rt, out, "title", entry.title());
+    put(rt, out, "location", entry.location());
+    put(rt, out, "organization", entry.organization());
+    put(rt, out, "archive", entry.archive());
+    put(rt, out, "archive-location", entry.archive_location());
+    put(rt, out, "call-number", entry.call_number());
+    put(rt, out, "note", entry.note());
+    put(rt, out, "abstract", entry.abstract_());
+    put(rt, out, "genre", entry.genre());
+}
+
+fn put_numbers(rt: &(impl Abort + AllocGlobal), out: &mut String, entry: &Entry) {
+    put_typed(rt, out, "issue", entry.issue());
+    put_typed(rt, out, "chapter", entry.chapter());
+    put_typed(rt, out, "volume", entry.volume());
+    put_typed(rt, out, "edition", entry.edition());
+    put(rt, out, "volume-total", entry.volume_total());
+    put(rt, out, "page-total", entry.page_total());
+    put_typed(rt, out, "page-range", entry.page_range());
+    put_typed(rt, out, "time-range", entry.time_range());
+    put_typed(rt, out, "runtime", entry.runtime());
+}
+
+fn put_publisher(rt: &(impl Abort + AllocGlobal), out: &mut String, publisher: Option<&Publisher>) {
+    if let Some(publisher) = publisher {
+        put(rt, out, "publisher", publisher.name());
+        put(rt, out, "at", publisher.location());
+    }
+}
+
+fn put_serials(rt: &(impl Abort + AllocGlobal), out: &mut String, entry: &Entry) {
     for key in ["serial", "doi", "isbn", "issn", "pmid", "pmcid", "arxiv"] {
-        put(out, key, entry.keyed_serial_number(key).as_ref())?;
+        put(rt, out, key, entry.keyed_serial_number(key).as_ref());
     }
-    Ok(())
 }
 
 // Each field that is set, as it is shown.
-fn put_fields(out: &mut String, entry: &Entry) -> Result<(), AllocError> {
-    put_texts(out, entry)?;
-    put_persons(out, "author", entry.authors())?;
-    put_persons(out, "editor", entry.editors())?;
-    put_affiliated(out, entry.affiliated())?;
-    put(out, "date", entry.date())?;
-    put_publisher(out, entry.publisher())?;
-    put(out, "url", entry.url())?;
-    put_numbers(out, entry)?;
-    put(out, "language", entry.language().as_ref())?;
-    put_serials(out, entry)
+fn put_fields(rt: &(impl Abort + AllocGlobal), out: &mut String, entry: &Entry) {
+    put_texts(rt, out, entry);
+    put_persons(rt, out, "author", entry.authors());
+    put_persons(rt, out, "editor", entry.editors());
+    put_affiliated(rt, out, entry.affiliated());
+    put(rt, out, "date", entry.date());
+    put_publisher(rt, out, entry.publisher());
+    put(rt, out, "url", entry.url());
+    put_numbers(rt, out, entry);
+    put(rt, out, "language", entry.language().as_ref());
+    put_serials(rt, out, entry);
 }
 
 fn read(rt: &(impl Abort + AllocGlobal), line: &str) -> Entry {
@@ -114,7 +130,7 @@ fn read(rt: &(impl Abort + AllocGlobal), line: &str) -> Entry {
 fn has_fields(rt: &(impl Abort + AllocGlobal), line: &str, wanted: &str) -> bool {
     let entry = read(rt, line);
     let mut shown = String::new(rt.alloc());
-    put_fields(&mut shown, &entry).expect(rt, "memory");
+    put_fields(rt, &mut shown, &entry);
     drop(entry);
     shown.as_str() == wanted
 }
@@ -200,23 +216,23 @@ const MANY: usize = 7_000;
 #[test]
 fn reads_long_values_and_lists(rt: HostRuntime) {
     let (mut line, mut wanted) = (String::new(rt.alloc()), String::new(rt.alloc()));
-    line.push_str("0\tx\tbook\ttitle=").expect(&rt, "memory");
-    wanted.push_str("title=").expect(&rt, "memory");
+    push(&rt, &mut line, "0\tx\tbook\ttitle=");
+    push(&rt, &mut wanted, "title=");
     for _ in 0..MANY {
-        line.push_str("é{u}").expect(&rt, "memory");
-        wanted.push_str("éu").expect(&rt, "memory");
+        push(&rt, &mut line, "é{u}");
+        push(&rt, &mut wanted, "éu");
     }
-    wanted.push(';').expect(&rt, "memory");
+    push(&rt, &mut wanted, ";");
     for _ in 0..MANY {
-        line.push_str("\tauthor=Doe, Jane").expect(&rt, "memory");
-        wanted.push_str("author=Doe, Jane;").expect(&rt, "memory");
+        push(&rt, &mut line, "\tauthor=Doe, Jane");
+        push(&rt, &mut wanted, "author=Doe, Jane;");
     }
     for _ in 0..MANY {
-        line.push_str("\taffiliated=translator:Roe")
-            .expect(&rt, "memory");
-        wanted.push_str("translator=Roe;").expect(&rt, "memory");
+        push(&rt, &mut line, "\taffiliated=translator:Roe");
+        push(&rt, &mut wanted, "translator=Roe;");
     }
-    assert!(rt; has_fields(&rt, line.as_str(), wanted.as_str()));
+    let has_all = has_fields(&rt, line.as_str(), wanted.as_str());
     drop(line);
     drop(wanted);
+    assert!(rt; has_all);
 }

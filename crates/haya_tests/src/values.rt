@@ -60,19 +60,28 @@ const NUMBERS: &[(&str, bool, &str)] = &[
     ("GB/T 7714—2015", false, "GB/T 7714—2015"),
 ];
 
+// Whether a copy is equal to the value, and stands as it does.
+fn is_copy(copy: &MaybeTyped<Numeric>, value: &MaybeTyped<Numeric>) -> bool {
+    copy == value && copy.csl_cmp(value) == Ordering::Equal
+}
+
+// Whether the text reads as a number or not, is shown and given so, and has a copy that is equal.
+fn is_read(rt: &(impl Abort + AllocGlobal), text: &str, typed: bool, shown: &str) -> bool {
+    let number = read::<MaybeTyped<Numeric>>(rt, text);
+    let copy = copied(rt, &number);
+    let has_copy = is_copy(&copy, &number);
+    drop(copy);
+    let is_typed = number.as_typed().is_some() == typed;
+    let is_so = is_shown(rt, &number, shown) && is_given(rt, &number, shown);
+    drop(number);
+    has_copy && is_typed && is_so
+}
+
 #[test]
 fn numbers_are_read(rt: HostRuntime) {
     for row in NUMBERS {
         let (text, typed, shown) = *row;
-        let number = read::<MaybeTyped<Numeric>>(&rt, text);
-        assert_eq!(rt; number.as_typed().is_some(), typed, "{text}");
-        assert!(rt; is_shown(&rt, &number, shown), "{text}");
-        assert!(rt; is_given(&rt, &number, shown), "{text}");
-        let copy = copied(&rt, &number);
-        assert!(rt; copy == number, "{text}");
-        assert_eq!(rt; copy.csl_cmp(&number), Ordering::Equal, "{text}");
-        drop(copy);
-        drop(number);
+        assert!(rt; is_read(&rt, text, typed, shown), "{text}");
     }
 }
 
@@ -87,26 +96,57 @@ const ORDER: &[(&str, &str, Ordering)] = &[
     ("é", "z", Ordering::Greater),
 ];
 
+// How the borrowed forms of two numbers stand to each other.
+fn order_of_cows(
+    rt: &(impl Abort + AllocGlobal),
+    a: &MaybeTyped<Numeric>,
+    b: &MaybeTyped<Numeric>,
+) -> Ordering {
+    let x = a.to_cow(rt.alloc()).expect(rt, "memory");
+    let y = b.to_cow(rt.alloc()).expect(rt, "memory");
+    let order = x.csl_cmp(&y);
+    drop(x);
+    drop(y);
+    order
+}
+
+// How two texts stand to each other as numbers, and as the borrowed forms of these.
+fn orders_of_numbers(rt: &(impl Abort + AllocGlobal), a: &str, b: &str) -> (Ordering, Ordering) {
+    let x = read::<MaybeTyped<Numeric>>(rt, a);
+    let y = read::<MaybeTyped<Numeric>>(rt, b);
+    let orders = (x.csl_cmp(&y), order_of_cows(rt, &x, &y));
+    drop(x);
+    drop(y);
+    orders
+}
+
+// How two texts stand to each other as pages.
+fn order_of_pages(rt: &(impl Abort + AllocGlobal), a: &str, b: &str) -> Ordering {
+    let x = read::<MaybeTyped<PageRanges>>(rt, a);
+    let y = read::<MaybeTyped<PageRanges>>(rt, b);
+    let order = x.csl_cmp(&y);
+    drop(x);
+    drop(y);
+    order
+}
+
 #[test]
 fn typed_values_are_first(rt: HostRuntime) {
     for row in ORDER {
         let (a, b, order) = *row;
-        let (x, y) = (
-            read::<MaybeTyped<Numeric>>(&rt, a),
-            read::<MaybeTyped<Numeric>>(&rt, b),
-        );
-        assert_eq!(rt; x.csl_cmp(&y), order, "{a} {b}");
-        let cow = x.to_cow(rt.alloc()).expect(&rt, "memory");
-        let other = y.to_cow(rt.alloc()).expect(&rt, "memory");
-        assert_eq!(rt; cow.csl_cmp(&other), order, "{a} {b}");
-        drop((cow, other));
-        drop((x, y));
-        let (x, y) = (
-            read::<MaybeTyped<PageRanges>>(&rt, a),
-            read::<MaybeTyped<PageRanges>>(&rt, b),
-        );
-        assert_eq!(rt; x.csl_cmp(&y), order, "{a} {b}");
-        drop((x, y));
+        assert!(rt; orders_of_numbers(&rt, a, b) == (order, order), "{a} {b}");
+        assert!(rt; order_of_pages(&rt, a, b) == order, "{a} {b}");
+    }
+}
+
+// Whether the pages are one range, from one number to another.
+fn is_one_range(pages: &MaybeTyped<PageRanges>, from: &Numeric, to: &Numeric) -> bool {
+    let MaybeTyped::Typed(pages) = pages else {
+        return false;
+    };
+    match pages.ranges.as_slice() {
+        [PageRangesPart::Range(a, b)] => a == from && b == to,
+        _ => false,
     }
 }
 
@@ -115,11 +155,9 @@ fn is_range(rt: &(impl Abort + AllocGlobal), text: &str, start: &str, end: &str)
     let pages = read::<MaybeTyped<PageRanges>>(rt, text);
     let from = read::<Numeric>(rt, start);
     let to = read::<Numeric>(rt, end);
-    let same = match pages.as_typed().map(|pages| pages.ranges.as_slice()) {
-        Some([PageRangesPart::Range(a, b)]) => *a == from && *b == to,
-        _ => false,
-    };
-    drop((from, to));
+    let same = is_one_range(&pages, &from, &to);
+    drop(from);
+    drop(to);
     drop(pages);
     same
 }
@@ -135,22 +173,41 @@ fn is_text<T: ReadText + Drop>(rt: &(impl Abort + AllocGlobal), text: &str) -> b
     same
 }
 
+// Whether the text reads as this value.
+fn reads_as<T: ReadText + PartialEq + Drop>(
+    rt: &(impl Abort + AllocGlobal),
+    text: &str,
+    wanted: &T,
+) -> bool {
+    let value = read::<T>(rt, text);
+    let same = value == *wanted;
+    drop(value);
+    same
+}
+
 #[test]
-fn pages_and_durations_are_read(rt: HostRuntime) {
+fn pages_are_read(rt: HostRuntime) {
     assert!(rt; is_range(&rt, "S10-15", "S10", "15"));
     assert!(rt; is_range(&rt, "011-012", "011", "012"));
     assert!(rt; is_text::<PageRanges>(&rt, "11E201"));
     assert!(rt; is_text::<PageRanges>(&rt, "1.36"));
+}
+
+#[test]
+fn durations_are_read(rt: HostRuntime) {
     let minute = Duration {
         minutes: 1,
         ..Duration::default()
     };
     let typed = MaybeTyped::from(minute);
-    assert!(rt; read::<MaybeTyped<Duration>>(&rt, "01:00") == typed);
-    assert!(rt; is_shown(&rt, &typed, "01:00"));
-    assert!(rt; is_text::<Duration>(&rt, "a minute"));
+    let is_minute = reads_as(&rt, "01:00", &typed) && is_shown(&rt, &typed, "01:00");
+    drop(typed);
     let range = MaybeTyped::from(DurationRange::new(minute, None));
-    assert!(rt; read::<MaybeTyped<DurationRange>>(&rt, "01:00-01:00") == range);
+    let is_range = reads_as(&rt, "01:00-01:00", &range);
+    drop(range);
+    assert!(rt; is_minute);
+    assert!(rt; is_range);
+    assert!(rt; is_text::<Duration>(&rt, "a minute"));
     assert!(rt; is_text::<DurationRange>(&rt, "01:00-"));
 }
 
@@ -158,12 +215,34 @@ fn pages_and_durations_are_read(rt: HostRuntime) {
 fn a_writers_fault_ends_the_call(rt: HostRuntime) {
     for text in ["x1-4, 5y", "no number"] {
         let value = read::<MaybeTyped<Numeric>>(&rt, text);
-        assert!(rt; ends_at_a_fault(&value), "{text}");
+        let ends = ends_at_a_fault(&value);
         drop(value);
+        assert!(rt; ends, "{text}");
     }
     let url = read::<QualifiedUrl>(&rt, "https://aeon.co");
-    assert!(rt; ends_at_a_fault(&url));
+    let ends = ends_at_a_fault(&url);
     drop(url);
+    assert!(rt; ends);
+}
+
+// Whether what is borrowed from the value is given as this text.
+fn is_given_by_cow(
+    rt: &(impl Abort + AllocGlobal),
+    value: &MaybeTyped<Numeric>,
+    wanted: &str,
+) -> bool {
+    let cow = value.to_cow(rt.alloc()).expect(rt, "memory");
+    let same = is_given(rt, &cow, wanted);
+    drop(cow);
+    same
+}
+
+// Whether a copy is equal.
+fn has_copy<T: TryClone + PartialEq + Drop>(rt: &(impl Abort + AllocGlobal), value: &T) -> bool {
+    let copy = copied(rt, value);
+    let same = copy == *value;
+    drop(copy);
+    same
 }
 
 // A long text is kept, copied and given back.
@@ -171,29 +250,93 @@ fn a_writers_fault_ends_the_call(rt: HostRuntime) {
 fn a_long_text_is_kept(rt: HostRuntime) {
     let text = long_text(&rt);
     let value = read::<MaybeTyped<Numeric>>(&rt, text.as_str());
-    assert!(rt; value.as_typed().is_none());
-    assert!(rt; is_given(&rt, &value, text.as_str()));
-    let copy = copied(&rt, &value);
-    assert!(rt; copy == value);
-    let cow = value.to_cow(rt.alloc()).expect(&rt, "memory");
-    assert!(rt; is_given(&rt, &cow, text.as_str()));
-    drop(cow);
-    drop((copy, value));
+    let is_kept = value.as_typed().is_none() && is_given(&rt, &value, text.as_str());
+    let is_copied = has_copy(&rt, &value);
+    let is_given = is_given_by_cow(&rt, &value, text.as_str());
+    drop(text);
+    drop(value);
+    assert!(rt; is_kept);
+    assert!(rt; is_copied);
+    assert!(rt; is_given);
+}
+
+// Whether one that was visited differs by the date alone.
+fn differs_by_date(rt: &(impl Abort + AllocGlobal), url: &QualifiedUrl, text: &str) -> bool {
+    let visited = QualifiedUrl::new(string(rt, text), Some(Date::from_year(2020)));
+    let differs = visited != *url && visited.value == url.value;
+    drop(visited);
+    differs
+}
+
+// Whether the text reads as an address without a date.
+fn is_address(rt: &(impl Abort + AllocGlobal), text: &str) -> bool {
+    let url = read::<QualifiedUrl>(rt, text);
+    let same = is_shown(rt, &url, text) && url.visit_date.is_none();
+    let is_told = has_copy(rt, &url) && differs_by_date(rt, &url, text);
+    drop(url);
+    same && is_told
 }
 
 #[test]
 fn addresses(rt: HostRuntime) {
     let long = long_text(&rt);
     for text in ["", "no address at all", long.as_str()] {
-        let url = read::<QualifiedUrl>(&rt, text);
-        assert!(rt; is_shown(&rt, &url, text));
-        assert!(rt; url.visit_date.is_none());
-        let copy = copied(&rt, &url);
-        assert!(rt; copy == url);
-        drop(copy);
-        let visited = QualifiedUrl::new(string(&rt, text), Some(Date::from_year(2020)));
-        assert!(rt; visited != url && visited.value == url.value);
-        drop((visited, url));
+        assert!(rt; is_address(&rt, text));
+    }
+}
+
+// Whether the publisher has this name and no place.
+fn is_name_alone(publisher: &Publisher, name: &FormatString) -> bool {
+    publisher.location().is_none() && publisher.name() == Some(name)
+}
+
+// Whether the place is the name of the publisher, and the one without a name.
+fn is_place_alone(place: &Publisher, publisher: &Publisher) -> bool {
+    place.name().is_none() && place.location() == publisher.name() && place != publisher
+}
+
+// Whether it has the name of the publisher as its place, and a name too.
+fn has_both(both: &Publisher, place: &Publisher, publisher: &Publisher) -> bool {
+    both.location() == publisher.name() && both != place && both != publisher
+}
+
+// Whether a copy of it is equal to it, and has a name.
+fn has_copy_with_name(rt: &(impl Abort + AllocGlobal), publisher: &Publisher) -> bool {
+    let copy = copied(rt, publisher);
+    let same = copy == *publisher && copy.name().is_some();
+    drop(copy);
+    same
+}
+
+// Whether the publisher is told from one with this place alone, and from one with a name too.
+fn is_told_apart(rt: &(impl Abort + AllocGlobal), publisher: &Publisher, text: &str) -> bool {
+    let place = Publisher::new(None, Some(read::<FormatString>(rt, text)));
+    let name = Some(read::<FormatString>(rt, "Springer"));
+    let both = Publisher::new(name, Some(read::<FormatString>(rt, text)));
+    let told = is_place_alone(&place, publisher) && has_both(&both, &place, publisher);
+    drop(place);
+    let copied = has_copy_with_name(rt, &both);
+    drop(both);
+    told && copied
+}
+
+// Whether the text reads as a publisher of this name alone.
+fn is_publisher(rt: &(impl Abort + AllocGlobal), text: &str) -> bool {
+    let name = read::<FormatString>(rt, text);
+    let publisher = read::<Publisher>(rt, text);
+    let named = is_name_alone(&publisher, &name);
+    drop(name);
+    let copied = has_copy_with_name(rt, &publisher);
+    let told = is_told_apart(rt, &publisher, text);
+    drop(publisher);
+    named && copied && told
+}
+
+// Where the brace that closes nothing stands, if there is one.
+fn brace_in(rt: &(impl Abort + AllocGlobal), text: &str) -> Option<usize> {
+    match Publisher::from_str(rt.alloc(), text) {
+        Err(ChunkedReadError::Parse(brace)) => Some(brace.position()),
+        _ => None,
     }
 }
 
@@ -201,27 +344,9 @@ fn addresses(rt: HostRuntime) {
 fn publishers(rt: HostRuntime) {
     let long = long_text(&rt);
     for text in ["", "Springer", long.as_str()] {
-        let name = read::<FormatString>(&rt, text);
-        let publisher = read::<Publisher>(&rt, text);
-        assert!(rt; publisher.location().is_none());
-        assert!(rt; publisher.name() == Some(&name));
-        let copy = copied(&rt, &publisher);
-        assert!(rt; copy == publisher);
-        drop(copy);
-        let place = Publisher::new(None, Some(name));
-        assert!(rt; place.name().is_none() && place.location() == publisher.name());
-        assert!(rt; place != publisher);
-        let name = Some(read::<FormatString>(&rt, "Springer"));
-        let both = Publisher::new(name, Some(read::<FormatString>(&rt, text)));
-        assert!(rt; both.location() == publisher.name() && both != place && both != publisher);
-        let copy = copied(&rt, &both);
-        assert!(rt; copy == both && copy.name().is_some());
-        drop((place, publisher, both, copy));
+        assert!(rt; is_publisher(&rt, text));
     }
-    let Err(ChunkedReadError::Parse(brace)) = Publisher::from_str(rt.alloc(), "a}b") else {
-        panic!(rt; "a closing brace is read")
-    };
-    assert_eq!(rt; brace.position(), 1);
+    assert!(rt; brace_in(&rt, "a}b") == Some(1));
 }
 
 // The sum of what an iterator gives, each as often as its place says.
@@ -235,30 +360,52 @@ fn weighed(values: OneOrMany<u32>) -> u32 {
     sum
 }
 
+// The numbers from 1 to 1000.
+fn thousand(rt: &(impl Abort + AllocGlobal)) -> Vec<u32> {
+    let mut items = Vec::new(rt.alloc());
+    for value in 1..1001u32 {
+        items.push(value).expect(rt, "memory");
+    }
+    items
+}
+
+fn seven(rt: &(impl Abort + AllocGlobal)) -> OneOrMany<u32> {
+    OneOrMany::One(Box::new(rt.alloc(), 7u32).expect(rt, "memory"))
+}
+
+// The list of all values.
+fn listed(rt: &(impl Abort + AllocGlobal), values: OneOrMany<u32>) -> Vec<u32> {
+    match values.into_vec(rt.alloc()) {
+        Ok(items) => items,
+        Err(_) => panic!(rt; "no memory"),
+    }
+}
+
+// Whether no value is none of a list without any.
+fn is_empty_list(rt: &(impl Abort + AllocGlobal)) -> bool {
+    let none = OneOrMany::<u32>::new(rt.alloc());
+    none == OneOrMany::Vec(Vec::new(rt.alloc())) && weighed(none) == 0
+}
+
+// Whether the values are a list of a thousand with this sum.
+fn is_thousand(rt: &(impl Abort + AllocGlobal), values: OneOrMany<u32>, sum: u32) -> bool {
+    let items = listed(rt, values);
+    items.len() == 1000 && weighed(OneOrMany::Vec(items)) == sum
+}
+
+// Whether 7 is all that is given.
+fn gives_seven(values: OneOrMany<u32>) -> bool {
+    let mut alone = values.into_iter();
+    alone.next() == Some(7) && alone.next().is_none() && alone.next().is_none()
+}
+
 #[test]
 fn one_or_many(rt: HostRuntime) {
-    let none = OneOrMany::<u32>::new(rt.alloc());
-    let mut items = Vec::new(rt.alloc());
-    assert!(rt; none == OneOrMany::Vec(Vec::new(rt.alloc())));
-    assert_eq!(rt; weighed(none), 0);
-    for value in 1..1001u32 {
-        items.push(value).expect(&rt, "memory");
-    }
-    let many = OneOrMany::Vec(items);
-    let one = OneOrMany::One(Box::new(rt.alloc(), 7u32).expect(&rt, "memory"));
-    assert!(rt; one != many);
-    let Ok(items) = many.into_vec(rt.alloc()) else {
-        panic!(rt; "a list takes memory")
-    };
-    assert_eq!(rt; items.len(), 1000);
-    assert_eq!(rt; weighed(OneOrMany::Vec(items)), 333833500);
-    let Ok(items) = one.into_vec(rt.alloc()) else {
-        panic!(rt; "no memory")
-    };
-    assert_eq!(rt; items.as_slice(), [7u32].as_slice());
-    let mut alone = OneOrMany::One(Box::new(rt.alloc(), 7u32).expect(&rt, "memory")).into_iter();
-    assert_eq!(rt;
-        (alone.next(), alone.next(), alone.next()),
-        (Some(7), None, None)
-    );
+    assert!(rt; is_empty_list(&rt));
+    let many = OneOrMany::Vec(thousand(&rt));
+    let one = seven(&rt);
+    let differ = one != many;
+    assert!(rt; is_thousand(&rt, many, 333833500));
+    assert!(rt; differ && listed(&rt, one).as_slice() == [7u32].as_slice());
+    assert!(rt; gives_seven(seven(&rt)));
 }

@@ -1,6 +1,7 @@
 //! What each call gives back where there is memory. An allocation that fails ends a test, and each
 //! entry is dropped by a call: so no test has a path on which it has to drop entries, which is
 //! expensive to prove.
+use super::lists::one;
 use haya_entry::{Entry, EntryType, SerialNumber};
 use haya_numbers::{Numeric, PageRanges};
 use haya_people::{Person, PersonRole, PersonsWithRoles};
@@ -146,14 +147,20 @@ const OTHER_TEXTS_SET: &[(&str, &str)] = &[
     ("archive", "organization archive call-number note "),
 ];
 
+// Sets a text, with which the entry has these names.
+fn set_named(rt: &(impl Abort + AllocGlobal), entry: &mut Entry, name: &str, names: &str) {
+    set_text(rt, entry, name);
+    assert!(rt; has_names(rt, entry, names), "{name}");
+}
+
 fn set_texts(rt: &(impl Abort + AllocGlobal), texts: &[(&str, &str)]) {
     let mut entry = entry(rt, "key", EntryType::Book);
-    assert!(rt; has_names(rt, &entry, ""));
+    let has_none = has_names(rt, &entry, "");
     for (name, names) in texts {
-        set_text(rt, &mut entry, *name);
-        assert!(rt; has_names(rt, &entry, *names), "{name}");
+        set_named(rt, &mut entry, *name, *names);
     }
     drop(entry);
+    assert!(rt; has_none);
 }
 
 #[test]
@@ -166,10 +173,12 @@ fn has_a_text_once_it_is_set(rt: HostRuntime) {
 fn has_a_language_and_serial_numbers_once_they_are_set(rt: HostRuntime) {
     let mut entry = entry(&rt, "key", EntryType::Book);
     entry.set_language(string(&rt, "en"));
-    assert!(rt; has_names(&rt, &entry, "language "));
+    let has_language = has_names(&rt, &entry, "language ");
     entry.set_serial_number(SerialNumber(BTreeMap::new(rt.alloc())));
-    assert!(rt; has_names(&rt, &entry, "serial-number language "));
+    let has_both = has_names(&rt, &entry, "serial-number language ");
     drop(entry);
+    assert!(rt; has_language);
+    assert!(rt; has_both);
 }
 
 // Keeps a serial number under this key.
@@ -180,12 +189,17 @@ fn keep(rt: &(impl Abort + AllocGlobal), entry: &mut Entry, key: &str, number: &
         .expect(rt, "memory");
 }
 
+// Keeps a serial number under this key, with which the entry has these names.
+fn keep_named(rt: &(impl Abort + AllocGlobal), entry: &mut Entry, key: &str, names: &str) {
+    keep(rt, entry, key, "1");
+    assert!(rt; has_names(rt, entry, names), "{key}");
+}
+
 #[test]
 fn has_no_name_for_another_key(rt: HostRuntime) {
     let mut entry = entry(&rt, "key", EntryType::Book);
     for key in ["type", "parent", "serial", "key", "DOI", "title", ""] {
-        keep(&rt, &mut entry, key, "1");
-        assert!(rt; has_names(&rt, &entry, "serial-number "), "{key}");
+        keep_named(&rt, &mut entry, key, "serial-number ");
     }
     drop(entry);
 }
@@ -205,8 +219,7 @@ const NUMBERS_KEPT: &[(&str, &str)] = &[
 fn has_serial_numbers_by_their_names(rt: HostRuntime) {
     let mut entry = entry(&rt, "key", EntryType::Book);
     for (key, names) in NUMBERS_KEPT {
-        keep(&rt, &mut entry, *key, "1");
-        assert!(rt; has_names(&rt, &entry, *names), "{key}");
+        keep_named(&rt, &mut entry, *key, *names);
     }
     drop(entry);
 }
@@ -287,10 +300,13 @@ fn gets_the_serial_numbers_that_were_set(rt: HostRuntime) {
 fn replaces_a_serial_number(rt: HostRuntime) {
     let mut entry = with_serials(&rt);
     keep(&rt, &mut entry, "doi", "10.1145/24039.24041");
-    assert!(rt; is(entry.doi(), "10.1145/24039.24041"));
-    assert!(rt; is(entry.isbn(), "isbn"));
-    assert!(rt; entry.keyed_serial_number("DOI").is_none());
+    let is_replaced = is(entry.doi(), "10.1145/24039.24041");
+    let is_kept = is(entry.isbn(), "isbn");
+    let is_none = entry.keyed_serial_number("DOI").is_none();
     drop(entry);
+    assert!(rt; is_replaced);
+    assert!(rt; is_kept);
+    assert!(rt; is_none);
 }
 
 #[test]
@@ -348,9 +364,7 @@ fn copies_serial_numbers(rt: HostRuntime) {
 }
 
 fn under(rt: &(impl Abort + AllocGlobal), mut entry: Entry, parent: Entry) -> Entry {
-    let mut parents = Vec::new(rt.alloc());
-    parents.push(parent).expect(rt, "memory");
-    entry.set_parents(parents);
+    entry.set_parents(one(rt, parent));
     entry
 }
 
@@ -378,8 +392,9 @@ fn is_equal_to_its_copy_alone(rt: HostRuntime) {
 
 fn differs_elsewhere(rt: &(impl Abort + AllocGlobal), here: &Entry) {
     let there = article(rt, "there");
-    assert!(rt; there != *here, "the sites differ, two levels above");
+    let differs = there != *here;
     drop(there);
+    assert!(rt; differs, "the sites differ, two levels above");
 }
 
 fn people(rt: &(impl Abort + AllocGlobal), text: &str) -> Vec<Person> {
@@ -407,10 +422,12 @@ fn set_people(rt: &(impl Abort + AllocGlobal), entry: &mut Entry) {
 }
 
 fn names_person(found: Option<&[Person]>, name: &str) -> bool {
-    match found {
-        Some(people) => people.iter().any(|person| person.name.as_str() == name),
-        None => false,
+    for person in found.unwrap_or(&[]) {
+        if person.name.as_str() == name {
+            return true;
+        }
     }
+    false
 }
 
 fn has_people(rt: &(impl Abort + AllocGlobal), entry: &Entry) -> bool {
@@ -424,9 +441,10 @@ fn has_people(rt: &(impl Abort + AllocGlobal), entry: &Entry) -> bool {
 fn gets_the_people_that_were_set(rt: HostRuntime) {
     let mut entry = entry(&rt, "key", EntryType::Book);
     set_people(&rt, &mut entry);
-    assert!(rt; has_people(&rt, &entry));
+    let has_people = has_people(&rt, &entry);
     drop(copy_of(&rt, &entry));
     drop(entry);
+    assert!(rt; has_people);
 }
 
 fn has_date_and_totals(entry: &Entry) -> bool {
@@ -447,12 +465,14 @@ fn gets_the_date_and_the_totals_that_were_set(rt: HostRuntime) {
     let mut entry = entry(&rt, "key", EntryType::Book);
     entry.set_date(Date::from_year(1987));
     set_totals(&rt, &mut entry);
-    assert!(rt; has_date_and_totals(&entry));
+    let has_all = has_date_and_totals(&entry);
     let copy = copy_of(&rt, &entry);
     entry.set_date(Date::from_year(1988));
-    assert!(rt; copy != entry);
+    let differs = copy != entry;
     drop(copy);
     drop(entry);
+    assert!(rt; has_all);
+    assert!(rt; differs);
 }
 
 // The names of the publisher, the address and the fields that are typed or a text.
@@ -489,7 +509,12 @@ fn set_value(rt: &(impl Abort + AllocGlobal), entry: &mut Entry, name: &str, val
 }
 
 fn has_alone(entry: &Entry, name: &str) -> bool {
-    TEXTS.iter().all(|text| entry.has(*text) == (*text == name))
+    for text in TEXTS {
+        if entry.has(*text) != (*text == name) {
+            return false;
+        }
+    }
+    true
 }
 
 #[test]
@@ -497,8 +522,9 @@ fn has_a_value_once_it_is_set(rt: HostRuntime) {
     for name in VALUES {
         let mut entry = entry(&rt, "key", EntryType::Book);
         set_value(&rt, &mut entry, *name, "a few");
-        assert!(rt; has_alone(&entry, *name), "{name}");
+        let is_alone = has_alone(&entry, *name);
         drop(entry);
+        assert!(rt; is_alone, "{name}");
     }
 }
 
@@ -570,26 +596,50 @@ fn has_numbers(entry: &Entry) -> bool {
     is_number(entry.issue(), 1) && is_number(entry.chapter(), 2) && is_number(entry.volume(), 3)
 }
 
+fn is_publisher(found: Option<&Publisher>, wanted: &Publisher) -> bool {
+    found == Some(wanted)
+}
+
+fn is_url(found: Option<&QualifiedUrl>, wanted: &QualifiedUrl) -> bool {
+    found == Some(wanted)
+}
+
+fn is_words(found: Option<&MaybeTyped<Numeric>>, wanted: &str) -> bool {
+    matches!(found, Some(MaybeTyped::String(words)) if words.as_str() == wanted)
+}
+
 fn has_texts(rt: &(impl Abort + AllocGlobal), entry: &Entry) -> bool {
-    entry.publisher() == Some(&publisher(rt))
-        && entry.url() == Some(&url(rt))
-        && entry.edition() == Some(&words(rt, "second"))
+    let publisher = publisher(rt);
+    let url = url(rt);
+    let same = is_publisher(entry.publisher(), &publisher) && is_url(entry.url(), &url);
+    drop(publisher);
+    drop(url);
+    same && is_words(entry.edition(), "second")
+}
+
+fn is_time_range(found: Option<&MaybeTyped<DurationRange>>, wanted: DurationRange) -> bool {
+    matches!(found, Some(MaybeTyped::Typed(range)) if *range == wanted)
+}
+
+fn is_runtime(found: Option<&MaybeTyped<Duration>>, wanted: Duration) -> bool {
+    matches!(found, Some(MaybeTyped::Typed(runtime)) if *runtime == wanted)
 }
 
 fn has_times(entry: &Entry) -> bool {
     let range = DurationRange::new(minutes(1), Some(minutes(3)));
-    entry.time_range() == Some(&MaybeTyped::Typed(range))
-        && entry.runtime() == Some(&MaybeTyped::Typed(minutes(90)))
+    is_time_range(entry.time_range(), range) && is_runtime(entry.runtime(), minutes(90))
 }
 
 #[test]
 fn gets_the_values_that_were_set(rt: HostRuntime) {
     let entry = with_values(&rt);
-    assert!(rt; has_numbers(&entry));
-    assert!(rt; has_texts(&rt, &entry));
-    assert!(rt; is_page(&rt, entry.page_range(), 5));
-    assert!(rt; has_times(&entry));
+    let has_numbers = has_numbers(&entry) && is_page(&rt, entry.page_range(), 5);
+    let has_texts = has_texts(&rt, &entry);
+    let has_times = has_times(&entry);
     drop(entry);
+    assert!(rt; has_numbers);
+    assert!(rt; has_texts);
+    assert!(rt; has_times);
 }
 
 // Whether a copy is no longer equal once the field of a name is set to another text.

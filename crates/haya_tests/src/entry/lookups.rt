@@ -1,18 +1,9 @@
 //! Worked rows of the look-ups.
+use super::lists::{none, one, put};
 use haya_entry::{Entry, EntryType};
 use haya_people::{Person, PersonRole, PersonsWithRoles};
 use haya_text::{FormatString, ReadText};
 use std::process::Abort;
-
-fn none(rt: &(impl Abort + AllocGlobal)) -> Vec<Entry> {
-    Vec::new(rt.alloc())
-}
-
-fn one(rt: &(impl Abort + AllocGlobal), parent: Entry) -> Vec<Entry> {
-    let mut parents = Vec::new(rt.alloc());
-    parents.push(parent).expect(rt, "memory");
-    parents
-}
 
 fn entry(
     rt: &(impl Abort + AllocGlobal),
@@ -29,10 +20,9 @@ const PLACES: &[&str] = &["0", "1", "2", "3"];
 
 // Parents of these types, each with its place as its key.
 fn parents(rt: &(impl Abort + AllocGlobal), types: &[EntryType]) -> Vec<Entry> {
-    let mut parents = Vec::new(rt.alloc());
+    let mut parents = none(rt);
     for (place, entry_type) in PLACES.iter().zip(types) {
-        let parent = entry(rt, *place, *entry_type, none(rt));
-        parents.push(parent).expect(rt, "memory");
+        put(rt, &mut parents, entry(rt, *place, *entry_type, none(rt)));
     }
     parents
 }
@@ -268,17 +258,18 @@ fn article(rt: &(impl Abort + AllocGlobal)) -> Entry {
     let series = &[EntryType::Report, EntryType::Book, EntryType::Anthology];
     let book = entry(rt, "book", EntryType::Book, parents(rt, series));
     let mut both = one(rt, page);
-    both.push(book).expect(rt, "memory");
+    put(rt, &mut both, book);
     entry(rt, "article", EntryType::Article, both)
 }
 
 #[test]
 fn finds_collections_of_the_parents(rt: HostRuntime) {
     let article = article(&rt);
-    assert!(rt; has_key(article.get_collection(), Some("1")));
-    let container = article.get_container();
-    assert!(rt; has_key(container, Some("book")));
+    let is_of_book = has_key(article.get_collection(), Some("1"));
+    let is_in_book = has_key(article.get_container(), Some("book"));
     drop(article);
+    assert!(rt; is_of_book);
+    assert!(rt; is_in_book);
 }
 
 // The types that are looked for above the article, and the key of what is found.
@@ -291,14 +282,24 @@ const DEPTH_FIRST: &[(EntryType, Option<&str>)] = &[
     (EntryType::Thread, None),
 ];
 
+// The first of these types above the article that isn't found.
+fn first_missed(article: &Entry) -> Option<EntryType> {
+    for (entry_type, key) in DEPTH_FIRST {
+        if !has_key(article.dfs_parent(*entry_type), *key) {
+            return Some(*entry_type);
+        }
+    }
+    None
+}
+
 #[test]
 fn finds_types_depth_first(rt: HostRuntime) {
     let article = article(&rt);
-    for (kind, key) in DEPTH_FIRST {
-        assert!(rt; has_key(article.dfs_parent(*kind), *key), "{kind:?}");
-    }
-    assert!(rt; has_key(article.get_original(), None));
+    let missed = first_missed(&article);
+    let is_none = article.get_original().is_none();
     drop(article);
+    assert!(rt; missed.is_none(), "{missed:?}");
+    assert!(rt; is_none);
 }
 
 // The original that stands above the first parent is found before the second parent.
@@ -306,13 +307,18 @@ fn finds_types_depth_first(rt: HostRuntime) {
 fn finds_the_original(rt: HostRuntime) {
     let far = entry(&rt, "far", EntryType::Original, none(&rt));
     let mut both = one(&rt, entry(&rt, "first", EntryType::Book, one(&rt, far)));
-    let near = entry(&rt, "near", EntryType::Original, none(&rt));
-    both.push(near).expect(&rt, "memory");
+    put(
+        &rt,
+        &mut both,
+        entry(&rt, "near", EntryType::Original, none(&rt)),
+    );
     let child = entry(&rt, "child", EntryType::Book, both);
-    assert!(rt; has_key(child.get_original(), Some("far")));
+    let is_far = has_key(child.get_original(), Some("far"));
     let original = entry(&rt, "original", EntryType::Original, one(&rt, child));
-    assert!(rt; has_key(original.get_original(), Some("original")));
+    let is_itself = has_key(original.get_original(), Some("original"));
     drop(original);
+    assert!(rt; is_far);
+    assert!(rt; is_itself);
 }
 
 fn titled(rt: &(impl Abort + AllocGlobal), mut entry: Entry) -> Entry {
@@ -325,8 +331,11 @@ fn titled(rt: &(impl Abort + AllocGlobal), mut entry: Entry) -> Entry {
 fn chapter(rt: &(impl Abort + AllocGlobal)) -> Entry {
     let video = entry(rt, "video", EntryType::Video, none(rt));
     let mut above = one(rt, video);
-    let other = entry(rt, "other", EntryType::Audio, none(rt));
-    above.push(other).expect(rt, "memory");
+    put(
+        rt,
+        &mut above,
+        entry(rt, "other", EntryType::Audio, none(rt)),
+    );
     let scene = entry(rt, "scene", EntryType::Scene, above);
     entry(rt, "chapter", EntryType::Chapter, one(rt, scene))
 }
@@ -338,23 +347,27 @@ fn is_full(entry: &Entry, key: &str) -> bool {
 #[test]
 fn finds_full_works(rt: HostRuntime) {
     let part = chapter(&rt);
-    assert!(rt; is_full(&part, "video"));
+    let is_video = is_full(&part, "video");
     let part = titled(&rt, part);
-    assert!(rt; is_full(&part, "chapter"));
+    let is_chapter = is_full(&part, "chapter");
     let part = entry(&rt, "part", EntryType::Scene, one(&rt, part));
-    assert!(rt; is_full(&part, "chapter"));
+    let is_chapter_above = is_full(&part, "chapter");
     let book = entry(&rt, "book", EntryType::Book, one(&rt, part));
-    assert!(rt; is_full(&book, "book"));
+    let is_book = is_full(&book, "book");
     drop(book);
+    assert!(rt; is_video);
+    assert!(rt; is_chapter && is_chapter_above);
+    assert!(rt; is_book);
 }
 
 #[test]
 fn finds_full_works_that_lack_a_title(rt: HostRuntime) {
     let alone = entry(&rt, "alone", EntryType::Chapter, none(&rt));
-    assert!(rt; is_full(&alone, "alone"));
+    let is_alone = is_full(&alone, "alone");
     let above = entry(&rt, "above", EntryType::Scene, one(&rt, alone));
-    assert!(rt; is_full(&above, "alone"));
+    let is_alone_above = is_full(&above, "alone");
     drop(above);
+    assert!(rt; is_alone && is_alone_above);
 }
 
 // Each of these names is that of a person.
@@ -379,6 +392,11 @@ fn in_words(rt: &(impl Abort + AllocGlobal), words: &str) -> PersonRole {
     PersonRole::Unknown(String::from_str(rt.alloc(), words).expect(rt, "memory"))
 }
 
+fn put_name(rt: &(impl Abort + AllocGlobal), names: &mut String, person: &Person) {
+    names.push_str(person.name.as_str()).expect(rt, "memory");
+    names.push(' ').expect(rt, "memory");
+}
+
 // The names of the persons with a role, each with a blank behind it.
 fn names(rt: &(impl Abort + AllocGlobal), entry: &Entry, role: PersonRole) -> String {
     let persons = entry
@@ -386,8 +404,7 @@ fn names(rt: &(impl Abort + AllocGlobal), entry: &Entry, role: PersonRole) -> St
         .expect(rt, "memory");
     let mut names = String::new(rt.alloc());
     for person in &persons {
-        names.push_str(person.name.as_str()).expect(rt, "memory");
-        names.push(' ').expect(rt, "memory");
+        put_name(rt, &mut names, person);
     }
     names
 }
@@ -410,12 +427,12 @@ fn add_persons(rt: &(impl Abort + AllocGlobal), film: &mut Entry) {
     add(rt, film, &["Wang"], PersonRole::Director);
 }
 
-fn has_added_persons(rt: &(impl Abort + AllocGlobal), film: &Entry) {
-    assert!(rt; has_persons(rt, film, PersonRole::Director, "Kwan Scheinert Wang "));
-    assert!(rt; has_persons(rt, film, PersonRole::CastMember, "Yeoh Quan "));
-    assert!(rt; has_persons(rt, film, in_words(rt, "stunts"), "Hsu "));
-    assert!(rt; has_persons(rt, film, in_words(rt, "food"), ""));
-    assert!(rt; has_persons(rt, film, PersonRole::Producer, ""));
+fn has_added_persons(rt: &(impl Abort + AllocGlobal), film: &Entry) -> bool {
+    has_persons(rt, film, PersonRole::Director, "Kwan Scheinert Wang ")
+        && has_persons(rt, film, PersonRole::CastMember, "Yeoh Quan ")
+        && has_persons(rt, film, in_words(rt, "stunts"), "Hsu ")
+        && has_persons(rt, film, in_words(rt, "food"), "")
+        && has_persons(rt, film, PersonRole::Producer, "")
 }
 
 fn has_lists(entry: &Entry, count: usize) -> bool {
@@ -425,11 +442,14 @@ fn has_lists(entry: &Entry, count: usize) -> bool {
 #[test]
 fn finds_persons_with_a_role(rt: HostRuntime) {
     let mut film = entry(&rt, "film", EntryType::Video, none(&rt));
-    assert!(rt; has_persons(&rt, &film, PersonRole::Director, ""));
+    let has_none = has_persons(&rt, &film, PersonRole::Director, "");
     add_persons(&rt, &mut film);
-    has_added_persons(&rt, &film);
-    assert!(rt; has_lists(&film, 5));
+    let has_added = has_added_persons(&rt, &film);
+    let has_five = has_lists(&film, 5);
     drop(film);
+    assert!(rt; has_none);
+    assert!(rt; has_added);
+    assert!(rt; has_five);
 }
 
 fn set_translators(rt: &(impl Abort + AllocGlobal), entry: &mut Entry) {
@@ -447,9 +467,10 @@ fn adds_the_first_persons(rt: HostRuntime) {
     add(&rt, &mut added, &["Kwan, Kevin"], PersonRole::Translator);
     let mut set = entry(&rt, "key", EntryType::Book, none(&rt));
     set_translators(&rt, &mut set);
-    assert!(rt; added == set);
+    let same = added == set;
     drop(added);
     drop(set);
+    assert!(rt; same);
 }
 
 // Adds a narrator and a parent of this name.
@@ -459,15 +480,24 @@ fn add_both(rt: &(impl Abort + AllocGlobal), entry: &mut Entry, name: &str) {
     entry.add_parent(parent).expect(rt, "memory");
 }
 
-fn has_narrators(rt: &(impl Abort + AllocGlobal), entry: &Entry) {
+// Whether each parent's key is the name of the person at its place.
+fn are_keys(parents: &[Entry], persons: &[&Person]) -> bool {
+    for (parent, person) in parents.iter().zip(persons) {
+        if parent.key() != person.name.as_str() {
+            return false;
+        }
+    }
+    true
+}
+
+// Whether there are a hundred narrators, each with the name of a parent.
+fn has_narrators(rt: &(impl Abort + AllocGlobal), entry: &Entry) -> bool {
     let narrators = entry
         .affiliated_with_role(rt.alloc(), PersonRole::Narrator)
         .expect(rt, "memory");
-    assert_eq!(rt; narrators.len(), 100);
-    for (parent, person) in entry.parents().iter().zip(&narrators) {
-        assert!(rt; parent.key() == person.name.as_str());
-    }
-    assert!(rt; has_key(entry.parents().last(), Some("99")));
+    let same = narrators.len() == 100 && are_keys(entry.parents(), narrators.as_slice());
+    drop(narrators);
+    same && has_key(entry.parents().last(), Some("99"))
 }
 
 #[test]
@@ -477,6 +507,7 @@ fn adds_many_persons_and_parents(rt: HostRuntime) {
         let name = format!(in rt.alloc(); "{place}").expect(&rt, "memory");
         add_both(&rt, &mut large, name.as_str());
     }
-    has_narrators(&rt, &large);
+    let has_all = has_narrators(&rt, &large);
     drop(large);
+    assert!(rt; has_all);
 }

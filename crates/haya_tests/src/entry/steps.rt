@@ -4,9 +4,9 @@ use haya_entry::Steps;
 #[test]
 fn counts_each_tick(rt: HostRuntime) {
     let mut steps = Steps::new();
-    assert_eq!(rt; steps.seen(), 0);
+    assert!(rt; steps.seen() == 0);
     steps.tick();
     steps.tick();
     steps.tick();
-    assert_eq!(rt; steps.seen(), 3);
+    assert!(rt; steps.seen() == 3);
 }

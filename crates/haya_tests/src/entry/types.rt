@@ -1,4 +1,5 @@
 //! Types by their names.
+use crate::shown::is_shown;
 use haya_entry::{EntryType, UnknownType};
 use std::process::Abort;
 use std::str::FromStr;
@@ -54,15 +55,16 @@ fn reads_names_as_written_and_in_lower_case(rt: HostRuntime) {
     }
 }
 
+const REFUSED: &[&str] = &[
+    "", "bOOK", "Book ", " book", "books", "boo", "B\u{f6}k", "unknown",
+];
+
 #[test]
 fn refuses_all_other_texts(rt: HostRuntime) {
-    for text in [
-        "", "bOOK", "Book ", " book", "books", "boo", "B\u{f6}k", "unknown",
-    ] {
-        assert!(rt; EntryType::from_str(text) == Err(UnknownType), "{text}");
+    for text in REFUSED {
+        assert!(rt; EntryType::from_str(*text) == Err(UnknownType), "{text}");
     }
-    let shown = format!(in rt.alloc(); "{UnknownType}").expect(&rt, "memory");
-    assert_eq!(rt; shown.as_str(), "unknown type");
+    assert!(rt; is_shown(&rt, &UnknownType, "unknown type"));
 }
 
 const DEFAULT_PARENTS: &[(EntryType, EntryType)] = &[

@@ -61,14 +61,21 @@ const READ: &[Row] = &[
     ("2147483647", "2147483647", "2147483647", "2147483647"),
 ];
 
+// Whether the text is read, shown and written so.
+fn is_read(rt: &(impl Abort + AllocGlobal), row: &Row) -> bool {
+    let (text, shown, value, machine) = *row;
+    let read = number(rt, text);
+    let same = is_shown(rt, &read, shown)
+        && is_written(rt, &read, false, value)
+        && is_written(rt, &read, true, machine);
+    drop(read);
+    same
+}
+
 #[test]
 fn reads_and_prints(rt: HostRuntime) {
-    for (text, shown, value, machine) in READ {
-        let read = number(&rt, *text);
-        assert!(rt; is_shown(&rt, &read, *shown), "{text}");
-        assert!(rt; is_written(&rt, &read, false, *value), "{text}");
-        assert!(rt; is_written(&rt, &read, true, *machine), "{text}");
-        drop(read);
+    for row in READ {
+        assert!(rt; is_read(&rt, row), "{}", row.0);
     }
 }
 
@@ -102,78 +109,144 @@ fn refuses(rt: HostRuntime) {
     }
 }
 
+// Whether these are the first numbers, with none behind them.
+fn begins_with(read: &Numeric, first: i32, second: Option<i32>) -> bool {
+    (read.nth(0), read.nth(1), read.nth(2)) == (Some(first), second, None)
+}
+
+// Whether two numbers are between these affixes, so that no form is put on them.
+fn is_pair_between(read: &Numeric, prefix: &str, suffix: &str) -> bool {
+    read.prefix_str() == Some(prefix)
+        && read.suffix_str() == Some(suffix)
+        && !read.will_transform()
+        && read.value.len() == 2
+        && read.single_number().is_none()
+}
+
+// Whether it is this number alone, so that a form is put on it.
+fn is_plain(read: &Numeric, number: i32) -> bool {
+    read.prefix_str().is_none()
+        && read.suffix_str().is_none()
+        && read.will_transform()
+        && read.single_number() == Some(number)
+}
+
+// Whether a copy is equal.
+fn has_copy(rt: &(impl Abort + AllocGlobal), read: &Numeric) -> bool {
+    let copy = read.try_clone(rt.alloc()).expect(rt, "memory");
+    let same = copy == *read;
+    drop(copy);
+    same
+}
+
 #[test]
 fn keeps_affixes(rt: HostRuntime) {
     let read = number(&rt, "Vol. 02 , 3x");
-    assert_eq!(rt; read.prefix_str(), Some("Vol. 0"));
-    assert_eq!(rt; read.suffix_str(), Some(" x"));
-    assert!(rt; !read.will_transform() && read.value.len() == 2);
-    assert_eq!(rt; read.single_number(), None);
-    assert_eq!(rt;
-        (read.nth(0), read.nth(1), read.nth(2)),
-        (Some(2), Some(3), None)
-    );
-    let copy = read.try_clone(rt.alloc()).expect(&rt, "memory");
-    assert!(rt; copy == read);
-    drop(copy);
+    let is_kept = is_pair_between(&read, "Vol. 0", " x") && begins_with(&read, 2, Some(3));
+    let is_copied = has_copy(&rt, &read);
     drop(read);
+    assert!(rt; is_kept);
+    assert!(rt; is_copied);
     let plain = Numeric::from(12);
-    assert!(rt;
-        plain.will_transform() && plain.prefix_str().is_none() && plain.suffix_str().is_none()
-    );
-    assert_eq!(rt;
-        (plain.single_number(), plain.nth(0), plain.nth(1)),
-        (Some(12), Some(12), None)
-    );
+    let is_kept = is_plain(&plain, 12) && begins_with(&plain, 12, None);
     drop(plain);
+    assert!(rt; is_kept);
 }
 
-// A long set, and its copy through the trait.
-#[test]
-fn reads_a_long_set(rt: HostRuntime) {
+// A set of 501 numbers, as it is shown.
+fn long_set(rt: &(impl Abort + AllocGlobal)) -> String {
     let mut text = String::new(rt.alloc());
     for _ in 0..500 {
-        text.push_str("2147483647 & ").expect(&rt, "memory");
+        text.push_str("2147483647 & ").expect(rt, "memory");
     }
-    text.push('1').expect(&rt, "memory");
-    let read = number(&rt, text.as_str());
-    assert_eq!(rt; read.value.len(), 501);
-    assert!(rt; is_shown(&rt, &read, text.as_str()));
-    let copy = copied(rt.alloc(), &read).expect(&rt, "memory");
-    assert!(rt; copy == read);
-    drop(copy);
-    drop(read);
-    drop(text);
+    text.push('1').expect(rt, "memory");
+    text
 }
 
 fn copied<T: TryClone>(alloc: Global, value: &T) -> Result<T, OutOfMemory> {
     value.try_clone(alloc)
 }
 
+// Whether a copy through the trait is equal.
+fn has_copy_through_the_trait(rt: &(impl Abort + AllocGlobal), read: &Numeric) -> bool {
+    let copy = copied(rt.alloc(), read).expect(rt, "memory");
+    let same = copy == *read;
+    drop(copy);
+    same
+}
+
 #[test]
-fn makes_ranges_and_sets(rt: HostRuntime) {
-    let range = Numeric::from_range(rt.alloc(), 1..4).expect(&rt, "memory");
-    assert!(rt; is_shown(&rt, &range, "1–4") && range.is_plural(false) && range.will_transform());
-    drop(range);
-    let one = Numeric::from_range(rt.alloc(), 4..4).expect(&rt, "memory");
-    assert!(rt; is_shown(&rt, &one, "4–4") && one.value.len() == 2);
-    drop(one);
-    let empty = NumericValue::Set(Vec::new(rt.alloc()));
-    assert!(rt; empty.is_empty() && empty.len() == 0);
+fn reads_a_long_set(rt: HostRuntime) {
+    let text = long_set(&rt);
+    let read = number(&rt, text.as_str());
+    let is_read = read.value.len() == 501 && is_shown(&rt, &read, text.as_str());
+    drop(text);
+    let is_copied = has_copy_through_the_trait(&rt, &read);
+    drop(read);
+    assert!(rt; is_read);
+    assert!(rt; is_copied);
+}
+
+fn range(rt: &(impl Abort + AllocGlobal), start: i32, end: i32) -> Numeric {
+    Numeric::from_range(rt.alloc(), start..end).expect(rt, "memory")
+}
+
+// Whether the range is shown so, of two numbers.
+fn is_range(rt: &(impl Abort + AllocGlobal), range: &Numeric, shown: &str) -> bool {
+    is_shown(rt, range, shown) && range.value.len() == 2
+}
+
+// Whether a set of no numbers is empty, plural, and written as nothing.
+fn is_empty_set(rt: &(impl Abort + AllocGlobal)) -> bool {
     let empty = Numeric {
-        value: empty,
+        value: NumericValue::Set(Vec::new(rt.alloc())),
         prefix: None,
         suffix: None,
     };
-    assert!(rt; empty.is_plural(true) && is_written(&rt, &empty, true, ""));
+    let is_empty = empty.value.is_empty() && empty.value.len() == 0;
+    let same = is_empty && empty.is_plural(true) && is_written(rt, &empty, true, "");
     drop(empty);
-    assert!(rt; !Numeric::new(1).is_plural(true) && Numeric::new(2).is_plural(true));
-    assert!(rt; !Numeric::new(2).is_plural(false));
-    assert!(rt; Numeric::try_from(2147483648u32).is_err());
-    assert_eq!(rt;
-        Numeric::try_from(2147483647u32).expect(&rt, "fits").nth(0),
-        Some(2147483647)
-    );
+    same
+}
+
+// Whether a number is plural, in a field where one is a count, and in another.
+fn is_plural(number: i32, counted: bool) -> bool {
+    let made = Numeric::new(number);
+    let plural = made.is_plural(counted);
+    drop(made);
+    plural
+}
+
+// The number that is made of one that fits.
+fn made_of(rt: &(impl Abort + AllocGlobal), number: u32) -> Option<i32> {
+    let made = Numeric::try_from(number).expect(rt, "fits");
+    let first = made.nth(0);
+    drop(made);
+    first
+}
+
+#[test]
+fn makes_ranges_and_sets(rt: HostRuntime) {
+    let four = range(&rt, 1, 4);
+    let is_made = is_range(&rt, &four, "1–4") && four.is_plural(false) && four.will_transform();
+    drop(four);
+    assert!(rt; is_made);
+    let one = range(&rt, 4, 4);
+    let is_made = is_range(&rt, &one, "4–4");
+    drop(one);
+    assert!(rt; is_made);
+    assert!(rt; is_empty_set(&rt));
+    assert!(rt; !is_plural(1, true) && is_plural(2, true) && !is_plural(2, false));
+    let is_refused = Numeric::try_from(2147483648u32).is_err();
+    assert!(rt; is_refused && made_of(&rt, 2147483647) == Some(2147483647));
+}
+
+// Whether the first stands before the second, which stands as the third, another number.
+fn are_in_order(first: &Numeric, second: &Numeric, third: &Numeric) -> bool {
+    first.csl_cmp(second) == Ordering::Less
+        && second.csl_cmp(first) == Ordering::Greater
+        && second.csl_cmp(third) == Ordering::Equal
+        && second != third
 }
 
 #[test]
@@ -181,33 +254,43 @@ fn orders_by_numbers(rt: HostRuntime) {
     let five = Numeric::new(5);
     let both = number(&rt, "5, 6");
     let other = number(&rt, "x5 & 6");
-    assert_eq!(rt; five.csl_cmp(&both), Ordering::Less);
-    assert_eq!(rt; both.csl_cmp(&five), Ordering::Greater);
-    assert_eq!(rt; both.csl_cmp(&other), Ordering::Equal);
-    assert!(rt; both != other);
+    let same = are_in_order(&five, &both, &other);
     drop(five);
     drop(both);
     drop(other);
+    assert!(rt; same);
+}
+
+// Whether so many numbers are left, as the length and the hint tell.
+fn has_left<I: ExactSizeIterator>(numbers: &I, count: usize) -> bool {
+    numbers.len() == count && numbers.size_hint() == (count, Some(count))
+}
+
+// Whether the value gives this number alone.
+fn gives_alone(value: &NumericValue, number: i32) -> bool {
+    let mut numbers = value.into_iter();
+    let is_first = has_left(&numbers, 1) && numbers.next() == Some(number) && numbers.len() == 0;
+    is_first && numbers.next().is_none() && numbers.next().is_none() && has_left(&numbers, 0)
+}
+
+fn sum_of(value: &NumericValue) -> i64 {
+    let mut sum = 0i64;
+    for n in value {
+        sum = i64::from(n).saturating_add(sum);
+    }
+    sum
 }
 
 #[test]
 fn goes_through_the_numbers(rt: HostRuntime) {
     let value = NumericValue::Number(7);
-    let mut numbers = (&value).into_iter();
-    assert_eq!(rt; (numbers.len(), numbers.size_hint()), (1, (1, Some(1))));
-    assert_eq!(rt; numbers.next(), Some(7));
-    assert_eq!(rt; numbers.len(), 0);
-    assert_eq!(rt; numbers.next(), None);
-    assert_eq!(rt; numbers.next(), None);
-    assert_eq!(rt; (numbers.len(), numbers.size_hint()), (0, (0, Some(0))));
+    let is_alone = gives_alone(&value, 7);
     drop(value);
+    assert!(rt; is_alone);
     let set = number(&rt, "1, 2-9");
-    let mut sum = 0i64;
-    for n in &set.value {
-        sum = i64::from(n).saturating_add(sum);
-    }
-    assert_eq!(rt; sum, 12);
+    let sum = sum_of(&set.value);
     drop(set);
+    assert!(rt; sum == 12);
 }
 
 const DELIMITERS: &[(&str, Result<NumericDelimiter, NumericError>)] = &[
@@ -222,21 +305,25 @@ const DELIMITERS: &[(&str, Result<NumericDelimiter, NumericError>)] = &[
     (";", Err(NumericError::NotADelimiter)),
 ];
 
+// A delimiter, its character, and how it is shown.
+const SIGNS: &[(NumericDelimiter, char, &str)] = &[
+    (NumericDelimiter::Hyphen, '-', "–"),
+    (NumericDelimiter::Comma, ',', ", "),
+    (NumericDelimiter::Ampersand, '&', " & "),
+];
+
 #[test]
 fn reads_delimiters(rt: HostRuntime) {
     for (text, wanted) in DELIMITERS {
-        assert_eq!(rt; text.parse::<NumericDelimiter>(), *wanted, "{text}");
+        assert!(rt; text.parse::<NumericDelimiter>() == *wanted, "{text}");
     }
-    assert_eq!(rt;
-        NumericDelimiter::try_from('–'),
-        Ok(NumericDelimiter::Hyphen)
-    );
-    assert_eq!(rt; NumericDelimiter::Hyphen.as_char(), '-');
-    assert_eq!(rt; NumericDelimiter::Comma.as_char(), ',');
-    assert_eq!(rt; NumericDelimiter::Ampersand.as_char(), '&');
-    assert!(rt; is_shown(&rt, &NumericDelimiter::Hyphen, "–"));
-    assert!(rt; is_shown(&rt, &NumericDelimiter::Comma, ", "));
-    assert!(rt; is_shown(&rt, &NumericDelimiter::Ampersand, " & "));
+    assert!(rt; NumericDelimiter::try_from('–') == Ok(NumericDelimiter::Hyphen));
+    for (delimiter, sign, shown) in SIGNS {
+        assert!(rt;
+            delimiter.as_char() == *sign && is_shown(&rt, delimiter, *shown),
+            "{sign}"
+        );
+    }
 }
 
 // English, but for the ends of ordinals.
@@ -276,9 +363,10 @@ fn writes_forms(rt: HostRuntime) {
         let mut written = String::new(rt.alloc());
         read.with_form(&mut written, *form, Some(GrammarGender::Neuter), &English)
             .expect(&rt, "memory");
-        assert!(rt; written.as_str() == *wanted, "{text}");
+        let same = written.as_str() == *wanted;
         drop(written);
         drop(read);
+        assert!(rt; same, "{text}");
     }
 }
 
@@ -305,8 +393,9 @@ impl fmt::Display for Words<'_> {
 #[test]
 fn a_writers_fault_ends_the_call(rt: HostRuntime) {
     let read = number(&rt, "x1-4, 5y");
-    assert!(rt; ends_at_a_fault(&read));
-    assert!(rt; ends_at_a_fault(&Numbers(&read)));
-    assert!(rt; ends_at_a_fault(&Words(&read)));
+    let ends = ends_at_a_fault(&read)
+        && ends_at_a_fault(&Numbers(&read))
+        && ends_at_a_fault(&Words(&read));
     drop(read);
+    assert!(rt; ends);
 }

@@ -205,14 +205,14 @@ fn orders_lists_of_a_style(rt: HostRuntime) {
         let a = person(&rt, mine);
         let b = person(&rt, theirs);
         let found = both_ways(&rt, &a, &b, *form, *demoted);
+        drop(a);
+        drop(b);
         assert!(rt;
             found == (*wanted, wanted.reverse()),
             "{} {}",
             mine.0,
             theirs.0
         );
-        drop(a);
-        drop(b);
     }
 }
 
@@ -227,18 +227,22 @@ const ASCENDING: &[Parts] = &[
     ("doe", None, None, None),
 ];
 
+fn put(rt: &(impl Abort + AllocGlobal), persons: &mut Vec<Person>, person: Person) {
+    persons.push(person).expect(rt, "memory");
+}
+
 // The same persons, and then by alias and by the comma.
 fn ascending(rt: &(impl Abort + AllocGlobal)) -> Vec<Person> {
     let mut persons = Vec::new(rt.alloc());
     for row in ASCENDING {
-        persons.push(person(rt, row)).expect(rt, "memory");
+        put(rt, &mut persons, person(rt, row));
     }
     let mut aliased = person(rt, &("doe", None, None, None));
     aliased.alias = Some(string(rt, "z"));
-    persons.push(aliased).expect(rt, "memory");
+    put(rt, &mut persons, aliased);
     let mut comma = person(rt, &("doe", None, None, None));
     comma.comma_suffix = true;
-    persons.push(comma).expect(rt, "memory");
+    put(rt, &mut persons, comma);
     persons
 }
 
@@ -264,23 +268,26 @@ fn orders_persons_by_all_parts(rt: HostRuntime) {
     let persons = ascending(&rt);
     let found = disorder(persons.as_slice());
     drop(persons);
-    assert_eq!(rt; found, None);
+    assert!(rt; found.is_none(), "{found:?}");
 }
+
+// A person, and whether the name is CJK.
+const CJK: &[(Parts, bool)] = &[
+    (("\u{5c71}", None, None, None), true),
+    (("Doe", None, Some("J \u{5c71}"), None), true),
+    (
+        ("Doe", Some("\u{5c71}"), Some("Jane"), Some("\u{5c71}")),
+        false,
+    ),
+    (("", None, None, None), false),
+];
 
 #[test]
 fn tells_cjk_names(rt: HostRuntime) {
-    let rows: &[(Parts, bool)] = &[
-        (("\u{5c71}", None, None, None), true),
-        (("Doe", None, Some("J \u{5c71}"), None), true),
-        (
-            ("Doe", Some("\u{5c71}"), Some("Jane"), Some("\u{5c71}")),
-            false,
-        ),
-        (("", None, None, None), false),
-    ];
-    for (parts, wanted) in rows {
+    for (parts, wanted) in CJK {
         let someone = person(&rt, parts);
-        assert!(rt; someone.is_cjk(is_ideograph) == *wanted, "{}", parts.0);
+        let told = someone.is_cjk(is_ideograph);
         drop(someone);
+        assert!(rt; told == *wanted, "{}", parts.0);
     }
 }

@@ -133,43 +133,46 @@ const ROWS: &[Row] = &[
     },
 ];
 
-// Whether the name has this particle, this rest and these particles.
-fn is_parted(
+// Whether the name has this particle and this rest.
+fn is_cut(
     rt: &(impl Abort + AllocGlobal),
     person: &Person,
     table: &[&str],
     particle: Option<&str>,
     rest: &str,
+) -> bool {
+    assert!(rt; is_sorted_table(table));
+    let found = person.name_particle(rt.alloc(), table).expect(rt, "memory");
+    let other = person
+        .name_without_particle(rt.alloc(), table)
+        .expect(rt, "memory");
+    found == particle && other == rest
+}
+
+// Whether the person has these particles.
+fn has_particles(
+    rt: &(impl Abort + AllocGlobal),
+    person: &Person,
+    table: &[&str],
     particles: Option<&str>,
 ) -> bool {
     assert!(rt; is_sorted_table(table));
-    let same_particle = person.name_particle(rt.alloc(), table).expect(rt, "memory") == particle;
-    let same_rest = person
-        .name_without_particle(rt.alloc(), table)
-        .expect(rt, "memory")
-        == rest;
     let found = person
         .name_particles(rt.alloc(), table)
         .expect(rt, "memory");
-    let same_particles = found.as_deref() == particles;
+    let same = found.as_deref() == particles;
     drop(found);
-    same_particle && same_rest && same_particles
+    same
 }
 
 #[test]
 fn parts_names_from_particles(rt: HostRuntime) {
     for row in ROWS {
         let person = named(&rt, row.name, row.prefix);
-        let same = is_parted(
-            &rt,
-            &person,
-            row.table,
-            row.particle,
-            row.rest,
-            row.particles,
-        );
-        assert!(rt; same, "{}", row.name);
+        let is_cut = is_cut(&rt, &person, row.table, row.particle, row.rest);
+        let has_all = has_particles(&rt, &person, row.table, row.particles);
         drop(person);
+        assert!(rt; is_cut && has_all, "{}", row.name);
     }
 }
 
@@ -190,11 +193,12 @@ fn parts_a_long_name(rt: HostRuntime) {
     let person = named(&rt, name.as_str(), None);
     let table: &[&str] = &["of of of"];
     let particle = Some("of of of");
-    let same = is_parted(&rt, &person, table, particle, rest.as_str(), particle);
-    assert!(rt; same);
+    let is_cut = is_cut(&rt, &person, table, particle, rest.as_str());
+    let has_all = has_particles(&rt, &person, table, particle);
     drop(name);
     drop(rest);
     drop(person);
+    assert!(rt; is_cut && has_all);
 }
 
 // A name, a table, and the name without its article.
@@ -217,8 +221,8 @@ fn leaves_articles_out(rt: HostRuntime) {
         assert!(rt; is_sorted_table(*table));
         let person = named(&rt, *name, None);
         let same = person.name_without_article(*table) == *rest;
-        assert!(rt; same, "{name}");
         drop(person);
+        assert!(rt; same, "{name}");
     }
 }
 

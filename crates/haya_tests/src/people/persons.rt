@@ -60,16 +60,21 @@ const READ: &[(&str, Parts)] = &[
     ("", ("", None, None, None)),
 ];
 
+// Whether a copy is equal.
+fn has_copy(rt: &(impl Abort + AllocGlobal), person: &Person) -> bool {
+    let copy = person.try_clone(rt.alloc()).expect(rt, "memory");
+    let same = copy == *person;
+    drop(copy);
+    same
+}
+
 #[test]
 fn persons_are_read(rt: HostRuntime) {
-    for row in READ {
-        let (text, parts) = *row;
-        let read = Person::from_str(rt.alloc(), text).expect(&rt, "a person");
-        assert!(rt; has(&rt, &read, parts), "{text}");
-        let copy = read.try_clone(rt.alloc()).expect(&rt, "memory");
-        assert!(rt; copy == read, "{text}");
-        drop(copy);
+    for (text, parts) in READ {
+        let read = Person::from_str(rt.alloc(), *text).expect(&rt, "a person");
+        let same = has(&rt, &read, *parts) && has_copy(&rt, &read);
         drop(read);
+        assert!(rt; same, "{text}");
     }
 }
 
@@ -275,7 +280,7 @@ fn institutions_have_a_name_alone(rt: HostRuntime) {
         let person = person(&rt, *parts);
         let told = person.is_institutional();
         drop(person);
-        assert_eq!(rt; told, *wanted);
+        assert!(rt; told == *wanted, "{}", parts.0);
     }
 }
 
@@ -287,48 +292,121 @@ fn repeated(rt: &(impl Abort + AllocGlobal), text: &str) -> String {
     all
 }
 
+// A copy of a person, which is equal.
+fn copy_of(rt: &(impl Abort + AllocGlobal), person: &Person) -> Person {
+    let copy = person.try_clone(rt.alloc()).expect(rt, "memory");
+    assert!(rt; copy == *person);
+    copy
+}
+
+// A copy of a person with a long prefix and a long given name.
+fn long_person(rt: &(impl Abort + AllocGlobal)) -> Person {
+    let prefix = repeated(rt, "von ");
+    let given_name = repeated(rt, "Ab ");
+    let text = format!(in rt.alloc(); "{prefix}Doe,{given_name}").expect(rt, "memory");
+    drop(prefix);
+    drop(given_name);
+    let read = Person::from_str(rt.alloc(), text.as_str()).expect(rt, "a person");
+    drop(text);
+    let copy = copy_of(rt, &read);
+    drop(read);
+    copy
+}
+
+// The initials, the prefix and the name of that person.
+fn long_given_first(rt: &(impl Abort + AllocGlobal)) -> String {
+    let initials = repeated(rt, "A. ");
+    let prefix = repeated(rt, "von ");
+    let name = format!(in rt.alloc(); "{initials}{prefix}Doe").expect(rt, "memory");
+    drop(initials);
+    drop(prefix);
+    name
+}
+
+// The prefix, the name and the given name of that person.
+fn long_name_first(rt: &(impl Abort + AllocGlobal)) -> String {
+    let prefix = repeated(rt, "von ");
+    let given_name = repeated(rt, "Ab ");
+    let name = format!(in rt.alloc(); "{prefix}Doe, {}", given_name.trim_end());
+    let name = name.expect(rt, "memory");
+    drop(prefix);
+    drop(given_name);
+    name
+}
+
+// Whether the given name stands first, by its initials.
+fn is_long_given_first(rt: &(impl Abort + AllocGlobal), person: &Person) -> bool {
+    let name = person.given_first(rt.alloc(), true).expect(rt, "memory");
+    let wanted = long_given_first(rt);
+    let same = name == wanted;
+    drop(name);
+    drop(wanted);
+    same
+}
+
+// Whether the name stands first, before the whole given name.
+fn is_long_name_first(rt: &(impl Abort + AllocGlobal), person: &Person) -> bool {
+    let name = person
+        .name_first(rt.alloc(), false, false)
+        .expect(rt, "memory");
+    let wanted = long_name_first(rt);
+    let same = name == wanted;
+    drop(name);
+    drop(wanted);
+    same
+}
+
 #[test]
 fn long_names_are_read_and_put_in_form(rt: HostRuntime) {
-    let prefix = repeated(&rt, "von ");
-    let given_name = repeated(&rt, "Ab ");
-    let text = format!(in rt.alloc(); "{prefix}Doe,{given_name}").expect(&rt, "memory");
-    let read = Person::from_str(rt.alloc(), text.as_str()).expect(&rt, "a person");
-    let copy = read.try_clone(rt.alloc()).expect(&rt, "memory");
-    assert!(rt; copy == read);
-    let initials = repeated(&rt, "A. ");
-    let wanted = format!(in rt.alloc(); "{initials}{prefix}Doe").expect(&rt, "memory");
-    let name = copy.given_first(rt.alloc(), true).expect(&rt, "memory");
-    assert!(rt; name.as_str() == wanted.as_str());
-    let wanted = format!(in rt.alloc(); "{prefix}Doe, {}", given_name.trim_end());
-    let name = copy
-        .name_first(rt.alloc(), false, false)
-        .expect(&rt, "memory");
-    assert!(rt; name.as_str() == wanted.expect(&rt, "memory").as_str());
-    drop(copy);
-    drop(read);
+    let person = long_person(&rt);
+    let is_given_first = is_long_given_first(&rt, &person);
+    let is_name_first = is_long_name_first(&rt, &person);
+    drop(person);
+    assert!(rt; is_given_first);
+    assert!(rt; is_name_first);
+}
+
+// How many texts of the initials are handed over where the writer with so much room fails.
+fn initials_at_fault(person: &Person, room: usize) -> Option<usize> {
+    let mut out = Short { room, handed: 0 };
+    match person.initials(&mut out, Some("."), true) {
+        Ok(()) => None,
+        Err(_) => Some(out.handed),
+    }
+}
+
+// The same of the first name.
+fn first_name_at_fault(person: &Person, room: usize) -> Option<usize> {
+    let mut out = Short { room, handed: 0 };
+    match person.first_name_with_delimiter(&mut out, Some(".")) {
+        Ok(()) => None,
+        Err(_) => Some(out.handed),
+    }
+}
+
+// Whether each of the first four texts that is refused ends the calls.
+fn ends_at_faults(person: &Person) -> bool {
+    for room in 0..4 {
+        let wanted = Some(room + 1);
+        if initials_at_fault(person, room) != wanted
+            || first_name_at_fault(person, room) != wanted
+        {
+            return false;
+        }
+    }
+    true
 }
 
 #[test]
 fn a_writers_fault_ends_the_call(rt: HostRuntime) {
     let person = person(&rt, ("Doe", Some("Hans J"), None, None));
-    for room in 0..4 {
-        let mut out = Short { room, handed: 0 };
-        assert!(rt; person.initials(&mut out, Some("."), true).is_err());
-        assert_eq!(rt; out.handed, room + 1);
-        let mut out = Short { room, handed: 0 };
-        assert!(rt;
-            person
-                .first_name_with_delimiter(&mut out, Some("."))
-                .is_err()
-        );
-        assert_eq!(rt; out.handed, room + 1);
-    }
+    let ends = ends_at_faults(&person);
     let mut out = Short { room: 4, handed: 0 };
-    assert!(rt; person.initials(&mut out, Some("."), true).is_ok());
-    assert!(rt;
-        person
-            .first_name_with_delimiter(&mut out, Some("."))
-            .is_err()
-    );
+    let are_written = person.initials(&mut out, Some("."), true).is_ok();
+    let is_refused = person
+        .first_name_with_delimiter(&mut out, Some("."))
+        .is_err();
     drop(person);
+    assert!(rt; ends);
+    assert!(rt; are_written && is_refused);
 }

@@ -81,13 +81,26 @@ fn refuses_other_texts(rt: HostRuntime) {
     }
 }
 
+// A date, with its month and day counted from 1, and whether it reads back from its print.
+const BACK: &[(bool, i32, u8, u8, bool)] = &[
+    (true, -9999, 2, 28, true),
+    (false, 0, 0, 0, true),
+    (false, 2000, 2, 29, true),
+    (false, 1900, 12, 31, true),
+    (false, 1900, 2, 29, false),
+    (false, 2014, 13, 0, false),
+    (false, 2014, 0, 1, false),
+    (false, 10000, 0, 0, false),
+    (false, 2014, 255, 0, false),
+    (false, 2014, 1, 255, false),
+];
+
 #[test]
 fn tells_which_dates_read_back(rt: HostRuntime) {
-    assert!(rt; date(true, -9999, 2, 28).reads_back() && date(false, 0, 0, 0).reads_back());
-    assert!(rt; date(false, 2000, 2, 29).reads_back() && date(false, 1900, 12, 31).reads_back());
-    assert!(rt; !date(false, 1900, 2, 29).reads_back() && !date(false, 2014, 13, 0).reads_back());
-    assert!(rt; !date(false, 2014, 0, 1).reads_back() && !date(false, 10000, 0, 0).reads_back());
-    assert!(rt; !date(false, 2014, 255, 0).reads_back() && !date(false, 2014, 1, 255).reads_back());
+    for (approximate, year, month, day, back) in BACK {
+        let date = date(*approximate, *year, *month, *day);
+        assert!(rt; date.reads_back() == *back, "{year} {month} {day}");
+    }
     let summer = Date {
         season: Some(Season::Summer),
         ..date(false, 2014, 0, 0)
@@ -125,8 +138,9 @@ fn prints_dates(rt: HostRuntime) {
             season: Some(Season::Winter),
         };
         let shown = printed(&rt, date);
-        assert!(rt; shown.as_str() == *text && ends_at_a_fault(&date), "{text}");
+        let same = shown.as_str() == *text;
         drop(shown);
+        assert!(rt; same && ends_at_a_fault(&date), "{text}");
     }
 }
 
@@ -143,8 +157,9 @@ fn prints_what_it_reads(rt: HostRuntime) {
     for (text, want) in READ_AND_PRINTED {
         let read = Date::from_str(*text).expect(&rt, "a date");
         let shown = printed(&rt, read);
-        assert!(rt; shown.as_str() == *want, "{text}");
+        let same = shown.as_str() == *want;
         drop(shown);
+        assert!(rt; same, "{text}");
     }
 }
 
@@ -163,14 +178,17 @@ fn shows_years(rt: HostRuntime) {
         let shown = Date::from_year(*year)
             .display_year(rt.alloc())
             .expect(&rt, "memory");
-        assert!(rt; shown.as_str() == *want, "{year}");
+        let same = shown.as_str() == *want;
         drop(shown);
+        assert!(rt; same, "{year}");
     }
 }
 
 // All sixteen choices, before the year 1 and from it on: secular, periods,
 // designate_positive, ad_prefix.
-const ERAS: &[(bool, bool, bool, bool, &str, &str)] = &[
+type EraRow = (bool, bool, bool, bool, &'static str, &'static str);
+
+const ERAS: &[EraRow] = &[
     (false, false, false, false, "1 BC", "2020"),
     (false, false, false, true, "1 BC", "2020"),
     (false, false, true, false, "1 BC", "2020 CE"),
@@ -189,19 +207,31 @@ const ERAS: &[(bool, bool, bool, bool, &str, &str)] = &[
     (true, true, true, true, "1 B.C.E.", "A.D. 2020"),
 ];
 
+// Whether the year is shown so by the choices of the row.
+fn is_shown_with_era(
+    rt: &(impl Abort + AllocGlobal),
+    year: i32,
+    row: &EraRow,
+    wanted: &str,
+) -> bool {
+    let (secular, periods, positive, prefix, _, _) = *row;
+    let shown = Date::from_year(year)
+        .display_year_opt(rt.alloc(), secular, periods, positive, prefix)
+        .expect(rt, "memory");
+    let same = shown.as_str() == wanted;
+    drop(shown);
+    same
+}
+
 #[test]
 fn shows_years_with_eras(rt: HostRuntime) {
-    for (secular, periods, positive, prefix, before, behind) in ERAS {
-        let zero = Date::from_year(0)
-            .display_year_opt(rt.alloc(), *secular, *periods, *positive, *prefix)
-            .expect(&rt, "memory");
-        assert!(rt; zero.as_str() == *before, "{before} {behind}");
-        drop(zero);
-        let late = Date::from_year(2020)
-            .display_year_opt(rt.alloc(), *secular, *periods, *positive, *prefix)
-            .expect(&rt, "memory");
-        assert!(rt; late.as_str() == *behind, "{before} {behind}");
-        drop(late);
+    for row in ERAS {
+        let (_, _, _, _, before, behind) = *row;
+        assert!(rt; is_shown_with_era(&rt, 0, row, before), "{before} {behind}");
+        assert!(rt;
+            is_shown_with_era(&rt, 2020, row, behind),
+            "{before} {behind}"
+        );
     }
 }
 
@@ -254,6 +284,18 @@ fn orders_dates(rt: HostRuntime) {
     }
 }
 
+// Whether two dates stand to each other so.
+fn stand_as(a: Date, b: Date, order: Ordering) -> bool {
+    a.partial_cmp(&b) == Some(order)
+}
+
+fn in_season(season: Season) -> Date {
+    Date {
+        season: Some(season),
+        ..Date::from_year(2014)
+    }
+}
+
 #[test]
 fn ties_go_by_what_no_text_tells(rt: HostRuntime) {
     let year = Date::from_year(2014);
@@ -261,17 +303,9 @@ fn ties_go_by_what_no_text_tells(rt: HostRuntime) {
         day: Some(4),
         ..year
     };
-    let spring = Date {
-        season: Some(Season::Spring),
-        ..year
-    };
-    let winter = Date {
-        season: Some(Season::Winter),
-        ..year
-    };
-    assert!(rt; year.partial_cmp(&day) == Some(Ordering::Less));
-    assert!(rt; winter.partial_cmp(&day) == Some(Ordering::Less));
-    assert!(rt; year.partial_cmp(&spring) == Some(Ordering::Less));
-    assert!(rt; winter.partial_cmp(&spring) == Some(Ordering::Greater));
+    let (spring, winter) = (in_season(Season::Spring), in_season(Season::Winter));
+    assert!(rt; stand_as(year, day, Ordering::Less) && stand_as(winter, day, Ordering::Less));
+    assert!(rt; stand_as(year, spring, Ordering::Less));
+    assert!(rt; stand_as(winter, spring, Ordering::Greater));
     assert!(rt; winter.csl_cmp(&spring) == Ordering::Equal);
 }
