@@ -1,9 +1,10 @@
 //! Worked rows, and what each call gives back where there is memory. A failed allocation ends a
 //! test, and what is owned is let go by a call: so no test has a path on which it has to drop a
 //! value.
+use crate::copies::{copied, has_copy};
 use crate::shown::{ends_at_a_fault, is_shown};
 use haya_numbers::{Numeric, PageRanges, PageRangesPart};
-use haya_text::{ChunkedReadError, FormatString, ReadText, TryClone};
+use haya_text::{ChunkedReadError, FormatString, ReadText};
 use haya_time::{Date, Duration, DurationRange};
 use haya_values::*;
 use std::borrow::CowStr;
@@ -31,10 +32,6 @@ fn read<R: ReadText>(rt: &(impl Abort + AllocGlobal), text: &str) -> R {
     }
 }
 
-fn copied<T: TryClone>(rt: &(impl Abort + AllocGlobal), value: &T) -> T {
-    value.try_clone(rt.alloc()).expect(rt, "memory")
-}
-
 // Whether it is given as this text, borrowed where it is one.
 fn is_given<T: fmt::Display>(
     rt: &(impl Abort + AllocGlobal),
@@ -60,7 +57,7 @@ const NUMBERS: &[(&str, bool, &str)] = &[
     ("GB/T 7714—2015", false, "GB/T 7714—2015"),
 ];
 
-// Whether a copy is equal to the value, and stands as it does.
+// Whether a copy is equal to the value, by `==` and by `csl_cmp`.
 fn is_copy(copy: &MaybeTyped<Numeric>, value: &MaybeTyped<Numeric>) -> bool {
     copy == value && copy.csl_cmp(value) == Ordering::Equal
 }
@@ -96,7 +93,7 @@ const ORDER: &[(&str, &str, Ordering)] = &[
     ("é", "z", Ordering::Greater),
 ];
 
-// How the borrowed forms of two numbers stand to each other.
+// The order of the borrowed forms of two numbers.
 fn order_of_cows(
     rt: &(impl Abort + AllocGlobal),
     a: &MaybeTyped<Numeric>,
@@ -110,7 +107,7 @@ fn order_of_cows(
     order
 }
 
-// How two texts stand to each other as numbers, and as the borrowed forms of these.
+// The order of two texts as numbers, and that of the borrowed forms of these.
 fn orders_of_numbers(rt: &(impl Abort + AllocGlobal), a: &str, b: &str) -> (Ordering, Ordering) {
     let x = read::<MaybeTyped<Numeric>>(rt, a);
     let y = read::<MaybeTyped<Numeric>>(rt, b);
@@ -120,7 +117,7 @@ fn orders_of_numbers(rt: &(impl Abort + AllocGlobal), a: &str, b: &str) -> (Orde
     orders
 }
 
-// How two texts stand to each other as pages.
+// The order of two texts as pages.
 fn order_of_pages(rt: &(impl Abort + AllocGlobal), a: &str, b: &str) -> Ordering {
     let x = read::<MaybeTyped<PageRanges>>(rt, a);
     let y = read::<MaybeTyped<PageRanges>>(rt, b);
@@ -237,14 +234,6 @@ fn is_given_by_cow(
     same
 }
 
-// Whether a copy is equal.
-fn has_copy<T: TryClone + PartialEq + Drop>(rt: &(impl Abort + AllocGlobal), value: &T) -> bool {
-    let copy = copied(rt, value);
-    let same = copy == *value;
-    drop(copy);
-    same
-}
-
 // A long text is kept, copied and given back.
 #[test]
 fn a_long_text_is_kept(rt: HostRuntime) {
@@ -290,12 +279,12 @@ fn is_name_alone(publisher: &Publisher, name: &FormatString) -> bool {
     publisher.location().is_none() && publisher.name() == Some(name)
 }
 
-// Whether the place is the name of the publisher, and the one without a name.
+// Whether it has no name, and the publisher's name as its place.
 fn is_place_alone(place: &Publisher, publisher: &Publisher) -> bool {
     place.name().is_none() && place.location() == publisher.name() && place != publisher
 }
 
-// Whether it has the name of the publisher as its place, and a name too.
+// Whether it has the publisher's name as its place, and a name too.
 fn has_both(both: &Publisher, place: &Publisher, publisher: &Publisher) -> bool {
     both.location() == publisher.name() && both != place && both != publisher
 }
@@ -332,7 +321,7 @@ fn is_publisher(rt: &(impl Abort + AllocGlobal), text: &str) -> bool {
     named && copied && told
 }
 
-// Where the brace that closes nothing stands, if there is one.
+// The place of a brace that closes nothing, if there is one.
 fn brace_in(rt: &(impl Abort + AllocGlobal), text: &str) -> Option<usize> {
     match Publisher::from_str(rt.alloc(), text) {
         Err(ChunkedReadError::Parse(brace)) => Some(brace.position()),
@@ -373,7 +362,7 @@ fn seven(rt: &(impl Abort + AllocGlobal)) -> OneOrMany<u32> {
     OneOrMany::One(Box::new(rt.alloc(), 7u32).expect(rt, "memory"))
 }
 
-// The list of all values.
+// All values as a list.
 fn listed(rt: &(impl Abort + AllocGlobal), values: OneOrMany<u32>) -> Vec<u32> {
     match values.into_vec(rt.alloc()) {
         Ok(items) => items,
@@ -381,7 +370,7 @@ fn listed(rt: &(impl Abort + AllocGlobal), values: OneOrMany<u32>) -> Vec<u32> {
     }
 }
 
-// Whether no value is none of a list without any.
+// Whether a new one is an empty list, and gives nothing.
 fn is_empty_list(rt: &(impl Abort + AllocGlobal)) -> bool {
     let none = OneOrMany::<u32>::new(rt.alloc());
     none == OneOrMany::Vec(Vec::new(rt.alloc())) && weighed(none) == 0

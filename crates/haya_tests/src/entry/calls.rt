@@ -2,10 +2,11 @@
 //! entry is dropped by a call: so no test has a path on which it has to drop entries, which is
 //! expensive to prove.
 use super::lists::one;
+use crate::copies::has_copy;
 use haya_entry::{Entry, EntryType, SerialNumber};
 use haya_numbers::{Numeric, PageRanges};
 use haya_people::{Person, PersonRole, PersonsWithRoles};
-use haya_text::{FormatString, OutOfMemory, ReadText, TryClone};
+use haya_text::{FormatString, OutOfMemory, ReadText};
 use haya_time::{Date, Duration, DurationRange};
 use haya_values::{MaybeTyped, Publisher, QualifiedUrl};
 use std::alloc::Global;
@@ -350,17 +351,12 @@ fn one_number(rt: &(impl Abort + AllocGlobal)) -> SerialNumber {
     SerialNumber(map)
 }
 
-fn copied<T: TryClone>(alloc: Global, value: &T) -> Result<T, OutOfMemory> {
-    value.try_clone(alloc)
-}
-
 #[test]
 fn copies_serial_numbers(rt: HostRuntime) {
     let serial = one_number(&rt);
     let copy = serial.try_clone(rt.alloc()).expect(&rt, "memory");
     assert!(rt; copy == serial);
-    let copy = copied(rt.alloc(), &serial).expect(&rt, "memory");
-    assert!(rt; copy == serial, "through the trait");
+    assert!(rt; has_copy(&rt, &serial), "through the trait");
 }
 
 fn under(rt: &(impl Abort + AllocGlobal), mut entry: Entry, parent: Entry) -> Entry {

@@ -2,12 +2,12 @@
 ghost use Rattle.std.specs.Prelude.{◌≡◌, Some, None, codes, pos, if◌then◌else◌};
 ghost use Rattle.std.specs.Ordering.{int_eq};
 
+use crate::copies;
 use crate::shown::{ends_at_a_fault, is_shown};
 use haya_numbers::{
     GrammarGender, NumberForm, Numeric, NumericDelimiter, NumericError, NumericValue, Ordinals,
 };
-use haya_text::{OutOfMemory, ReadFault, ReadText, TryClone};
-use std::alloc::Global;
+use haya_text::{ReadFault, ReadText};
 use std::cmp::Ordering;
 use std::fmt;
 use std::process::Abort;
@@ -163,25 +163,13 @@ fn long_set(rt: &(impl Abort + AllocGlobal)) -> String {
     text
 }
 
-fn copied<T: TryClone>(alloc: Global, value: &T) -> Result<T, OutOfMemory> {
-    value.try_clone(alloc)
-}
-
-// Whether a copy through the trait is equal.
-fn has_copy_through_the_trait(rt: &(impl Abort + AllocGlobal), read: &Numeric) -> bool {
-    let copy = copied(rt.alloc(), read).expect(rt, "memory");
-    let same = copy == *read;
-    drop(copy);
-    same
-}
-
 #[test]
 fn reads_a_long_set(rt: HostRuntime) {
     let text = long_set(&rt);
     let read = number(&rt, text.as_str());
     let is_read = read.value.len() == 501 && is_shown(&rt, &read, text.as_str());
     drop(text);
-    let is_copied = has_copy_through_the_trait(&rt, &read);
+    let is_copied = copies::has_copy(&rt, &read);
     drop(read);
     assert!(rt; is_read);
     assert!(rt; is_copied);
@@ -241,7 +229,7 @@ fn makes_ranges_and_sets(rt: HostRuntime) {
     assert!(rt; is_refused && made_of(&rt, 2147483647) == Some(2147483647));
 }
 
-// Whether the first stands before the second, which stands as the third, another number.
+// Whether the first is before the second in order, and the third, another number, is beside it.
 fn are_in_order(first: &Numeric, second: &Numeric, third: &Numeric) -> bool {
     first.csl_cmp(second) == Ordering::Less
         && second.csl_cmp(first) == Ordering::Greater

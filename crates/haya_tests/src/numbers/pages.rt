@@ -1,9 +1,10 @@
 //! Worked rows of pages, and what each call gives where there is memory. A failed allocation ends a
 //! test, and what is owned is let go by a call: so no test has a path on
 //! which it has to drop pages.
+use crate::copies::copied;
 use crate::shown::{ends_at_a_fault, is_shown};
 use haya_numbers::*;
-use haya_text::{ReadFault, ReadText, TryClone};
+use haya_text::{ReadFault, ReadText};
 use std::cmp::Ordering;
 use std::process::Abort;
 
@@ -99,7 +100,7 @@ fn end_of(part: &PageRangesPart) -> Option<i32> {
     }
 }
 
-// Whether they are ranges from 1 to 4, of which the first alone is escaped, and stands first.
+// Whether they are ranges from 1 to 4, of which the first alone is escaped, and comes first.
 fn are_ranges(escaped: &PageRangesPart, plain: &PageRangesPart) -> bool {
     matches!(escaped, PageRangesPart::EscapedRange(_, _))
         && matches!(plain, PageRangesPart::Range(_, _))
@@ -109,7 +110,7 @@ fn are_ranges(escaped: &PageRangesPart, plain: &PageRangesPart) -> bool {
         && end_of(plain) == Some(4)
 }
 
-// Whether they are a part without a start and one without an end, of which the first stands first.
+// Whether they are a part without a start and one without an end, of which the first comes first.
 fn are_apart(comma: &PageRangesPart, page: &PageRangesPart) -> bool {
     page.end().is_none() && comma.start().is_none() && comma.csl_cmp(page) == Ordering::Less
 }
@@ -253,11 +254,7 @@ fn long_list(rt: &(impl Abort + AllocGlobal)) -> String {
 }
 
 // A copy through the trait.
-fn copied<T: TryClone>(rt: &(impl Abort + AllocGlobal), value: &T) -> T {
-    value.try_clone(rt.alloc()).expect(rt, "memory")
-}
-
-// Whether a copy through the trait is equal, and stands as the pages do.
+// Whether a copy through the trait is equal, by `==` and by `csl_cmp`.
 fn have_copy(rt: &(impl Abort + AllocGlobal), read: &PageRanges) -> bool {
     let copy = copied(rt, read);
     let same = copy == *read && copy.csl_cmp(read) == Ordering::Equal;
@@ -265,7 +262,7 @@ fn have_copy(rt: &(impl Abort + AllocGlobal), read: &PageRanges) -> bool {
     same
 }
 
-// How the pages of a text stand to others.
+// The order of the pages of a text and others.
 fn order_of(rt: &(impl Abort + AllocGlobal), text: &str, others: &PageRanges) -> Ordering {
     let read = pages(rt, text);
     let order = read.csl_cmp(others);

@@ -334,7 +334,7 @@ fn long_name_first(rt: &(impl Abort + AllocGlobal)) -> String {
     name
 }
 
-// Whether the given name stands first, by its initials.
+// Whether the given name comes first, by its initials.
 fn is_long_given_first(rt: &(impl Abort + AllocGlobal), person: &Person) -> bool {
     let name = person.given_first(rt.alloc(), true).expect(rt, "memory");
     let wanted = long_given_first(rt);
@@ -344,7 +344,7 @@ fn is_long_given_first(rt: &(impl Abort + AllocGlobal), person: &Person) -> bool
     same
 }
 
-// Whether the name stands first, before the whole given name.
+// Whether the name comes first, before the whole given name.
 fn is_long_name_first(rt: &(impl Abort + AllocGlobal), person: &Person) -> bool {
     let name = person
         .name_first(rt.alloc(), false, false)

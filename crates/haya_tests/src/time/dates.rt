@@ -284,7 +284,7 @@ fn orders_dates(rt: HostRuntime) {
     }
 }
 
-// Whether two dates stand to each other so.
+// Whether two dates have this order.
 fn stand_as(a: Date, b: Date, order: Ordering) -> bool {
     a.partial_cmp(&b) == Some(order)
 }
