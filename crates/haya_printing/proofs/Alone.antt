@@ -1,5 +1,5 @@
 -- Lists of one item.
-use Rattle.std.proofs.Common.{◌≡◌, ℕ, List, [], ◌∷◌, Option, Some, length, refl, ap, slice_get}
+use Rattle.std.proofs.Common.{◌≡◌, List, [], ◌∷◌, Some, length, ap, slice_get}
 
 -- a list of one item is its first alone
 pub first_alone : {A : Type 0} (xs : List A) (x : A) → length xs ≡ 1 → Some x ≡ slice_get xs 0 → xs ≡ x ∷ []

@@ -38,7 +38,7 @@ fn a_long_text(rt: HostRuntime) {
     let long = repeated(&rt, PIECE, PIECES);
     let text = long.as_str();
     let row = Row("ChunkedString::from_str", "a long text", Often);
-    asks!(&rt, row, is_read::<ChunkedString>(rt.alloc(), (text, text)));
+    asks!(&rt, row, is_read::<ChunkedString>(rt.alloc(), text, text));
     let read = text_of(&rt, text);
     let row = Row("ChunkedString::to_serialized", "a long text", Taken);
     asks!(&rt, row, is_serialized(rt.alloc(), &read, text));
@@ -77,7 +77,7 @@ fn many_chunks(rt: HostRuntime) {
     let long = repeated(&rt, "a{b}", 70_000);
     let text = long.as_str();
     let row = Row("ChunkedString::from_str", "140,000 chunks", Often);
-    asks!(&rt, row, is_read::<ChunkedString>(rt.alloc(), (text, text)));
+    asks!(&rt, row, is_read::<ChunkedString>(rt.alloc(), text, text));
     let row = Row("ChunkedString::try_clone", "140,000 chunks", Often);
     copies(&rt, row, text_of(&rt, text));
     drop(long);

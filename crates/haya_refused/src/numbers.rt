@@ -63,14 +63,11 @@ fn is_page(
     }
 }
 
-// A number, and the page that it is, if it is in range.
-type Page = (i64, Option<&'static str>);
-
 fn from_i32(alloc: Global, number: i32, wanted: &str) -> Result<bool, OutOfMemory> {
     is_page(PageRanges::from_i32(alloc, number), Some(wanted))
 }
 
-fn try_from_i64(alloc: Global, (number, wanted): Page) -> Result<bool, OutOfMemory> {
+fn try_from_i64(alloc: Global, number: i64, wanted: Option<&str>) -> Result<bool, OutOfMemory> {
     is_page(PageRanges::try_from_i64(alloc, number), wanted)
 }
 
@@ -94,7 +91,7 @@ fn pages_of_a_number(rt: HostRuntime) {
     let row = Row("PageRanges::try_from_u64", "7", Taken);
     asks!(&rt, row, try_from_u64(rt.alloc(), 7, Some("7")));
     let row = Row("PageRanges::try_from_i64", "-7", Taken);
-    asks!(&rt, row, try_from_i64(rt.alloc(), (-7, Some("-7"))));
+    asks!(&rt, row, try_from_i64(rt.alloc(), -7, Some("-7")));
 }
 
 #[test]
@@ -104,7 +101,7 @@ fn pages_out_of_range(rt: HostRuntime) {
     let row = Row("PageRanges::try_from_u64", "out of range", NotTaken);
     asks!(&rt, row, try_from_u64(rt.alloc(), 2_147_483_648, None));
     let row = Row("PageRanges::try_from_i64", "out of range", NotTaken);
-    asks!(&rt, row, try_from_i64(rt.alloc(), (-2_147_483_649, None)));
+    asks!(&rt, row, try_from_i64(rt.alloc(), -2_147_483_649, None));
 }
 
 fn from_range(alloc: Global) -> Result<bool, OutOfMemory> {

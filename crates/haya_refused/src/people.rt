@@ -91,14 +91,19 @@ const GIVEN_FIRST: &[(&str, bool, &str)] = &[
 
 fn name_first(
     alloc: Global,
-    (person, initials, prefix, wanted): (&Person, bool, bool, &str),
+    person: &Person,
+    initials: bool,
+    prefix: bool,
+    wanted: &str,
 ) -> Result<bool, OutOfMemory> {
     Ok(person.name_first(alloc, initials, prefix)?.as_str() == wanted)
 }
 
 fn given_first(
     alloc: Global,
-    (person, initials, wanted): (&Person, bool, &str),
+    person: &Person,
+    initials: bool,
+    wanted: &str,
 ) -> Result<bool, OutOfMemory> {
     Ok(person.given_first(alloc, initials)?.as_str() == wanted)
 }
@@ -111,7 +116,7 @@ fn forms(rt: HostRuntime) {
         asks!(
             &rt,
             row,
-            name_first(rt.alloc(), (&person, *initials, *prefix, *wanted))
+            name_first(rt.alloc(), &person, *initials, *prefix, *wanted)
         );
         drop(person);
     }
@@ -121,7 +126,7 @@ fn forms(rt: HostRuntime) {
         asks!(
             &rt,
             row,
-            given_first(rt.alloc(), (&person, *initials, *wanted))
+            given_first(rt.alloc(), &person, *initials, *wanted)
         );
         drop(person);
     }

@@ -16,7 +16,8 @@ type Text = (&'static str, Memory, &'static str);
 
 pub(crate) fn is_read<T: ReadText + Told + Drop>(
     alloc: Global,
-    (text, wanted): (&str, &str),
+    text: &str,
+    wanted: &str,
 ) -> Result<bool, OutOfMemory>
 where
     T::Fault: fmt::Display,
@@ -58,23 +59,23 @@ fn texts(rt: HostRuntime) {
         asks!(
             &rt,
             row,
-            is_read::<ChunkedString>(rt.alloc(), (*text, *wanted))
+            is_read::<ChunkedString>(rt.alloc(), *text, *wanted)
         );
         let row = Row("FormatString::from_str", *text, *memory);
         asks!(
             &rt,
             row,
-            is_read::<FormatString>(rt.alloc(), (*text, *wanted))
+            is_read::<FormatString>(rt.alloc(), *text, *wanted)
         );
         let row = Row("Publisher::from_str", *text, *memory);
-        asks!(&rt, row, is_read::<Publisher>(rt.alloc(), (*text, *wanted)));
+        asks!(&rt, row, is_read::<Publisher>(rt.alloc(), *text, *wanted));
     }
     for (text, memory, wanted) in URLS {
         let row = Row("QualifiedUrl::from_str", *text, *memory);
         asks!(
             &rt,
             row,
-            is_read::<QualifiedUrl>(rt.alloc(), (*text, *wanted))
+            is_read::<QualifiedUrl>(rt.alloc(), *text, *wanted)
         );
     }
 }
@@ -125,14 +126,14 @@ const TYPED_NUMBERS: &[Text] = &[
 fn numbers(rt: HostRuntime) {
     for (text, memory, wanted) in NUMBERS {
         let row = Row("Numeric::from_str", *text, *memory);
-        asks!(&rt, row, is_read::<Numeric>(rt.alloc(), (*text, *wanted)));
+        asks!(&rt, row, is_read::<Numeric>(rt.alloc(), *text, *wanted));
     }
     for (text, memory, wanted) in TYPED_NUMBERS {
         let row = Row("MaybeTyped::from_str", *text, *memory);
         asks!(
             &rt,
             row,
-            is_read::<MaybeTyped<Numeric>>(rt.alloc(), (*text, *wanted))
+            is_read::<MaybeTyped<Numeric>>(rt.alloc(), *text, *wanted)
         );
     }
 }
@@ -176,18 +177,14 @@ const TYPED_PAGES: &[Text] = &[
 fn pages(rt: HostRuntime) {
     for (text, memory, wanted) in PAGES {
         let row = Row("PageRanges::from_str", *text, *memory);
-        asks!(
-            &rt,
-            row,
-            is_read::<PageRanges>(rt.alloc(), (*text, *wanted))
-        );
+        asks!(&rt, row, is_read::<PageRanges>(rt.alloc(), *text, *wanted));
     }
     for (text, memory, wanted) in PARTS {
         let row = Row("PageRangesPart::from_str", *text, *memory);
         asks!(
             &rt,
             row,
-            is_read::<PageRangesPart>(rt.alloc(), (*text, *wanted))
+            is_read::<PageRangesPart>(rt.alloc(), *text, *wanted)
         );
     }
     for (text, memory, wanted) in TYPED_PAGES {
@@ -195,7 +192,7 @@ fn pages(rt: HostRuntime) {
         asks!(
             &rt,
             row,
-            is_read::<MaybeTyped<PageRanges>>(rt.alloc(), (*text, *wanted))
+            is_read::<MaybeTyped<PageRanges>>(rt.alloc(), *text, *wanted)
         );
     }
 }
@@ -247,14 +244,14 @@ const TYPED_RANGES: &[Text] = &[
 fn durations(rt: HostRuntime) {
     for (text, memory, wanted) in DURATIONS {
         let row = Row("Duration::from_str", *text, *memory);
-        asks!(&rt, row, is_read::<Duration>(rt.alloc(), (*text, *wanted)));
+        asks!(&rt, row, is_read::<Duration>(rt.alloc(), *text, *wanted));
     }
     for (text, memory, wanted) in RANGES {
         let row = Row("DurationRange::from_str", *text, *memory);
         asks!(
             &rt,
             row,
-            is_read::<DurationRange>(rt.alloc(), (*text, *wanted))
+            is_read::<DurationRange>(rt.alloc(), *text, *wanted)
         );
     }
     for (text, memory, wanted) in TYPED_DURATIONS {
@@ -262,7 +259,7 @@ fn durations(rt: HostRuntime) {
         asks!(
             &rt,
             row,
-            is_read::<MaybeTyped<Duration>>(rt.alloc(), (*text, *wanted))
+            is_read::<MaybeTyped<Duration>>(rt.alloc(), *text, *wanted)
         );
     }
     for (text, memory, wanted) in TYPED_RANGES {
@@ -270,7 +267,7 @@ fn durations(rt: HostRuntime) {
         asks!(
             &rt,
             row,
-            is_read::<MaybeTyped<DurationRange>>(rt.alloc(), (*text, *wanted))
+            is_read::<MaybeTyped<DurationRange>>(rt.alloc(), *text, *wanted)
         );
     }
 }
@@ -293,6 +290,6 @@ const PERSONS: &[Text] = &[
 fn persons(rt: HostRuntime) {
     for (text, memory, wanted) in PERSONS {
         let row = Row("Person::from_str", *text, *memory);
-        asks!(&rt, row, is_read::<Person>(rt.alloc(), (*text, *wanted)));
+        asks!(&rt, row, is_read::<Person>(rt.alloc(), *text, *wanted));
     }
 }

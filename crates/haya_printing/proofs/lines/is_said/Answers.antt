@@ -1,6 +1,5 @@
-use Rattle.std.proofs.Common.{◌≡◌, ◌∷◌, [], rules}
+use Rattle.std.proofs.Common.{◌∷◌, []}
 use Rattle.haya_entry.specs.Tree.{view}
-use Rattle.haya_input.specs.Input.{Describes}
 use Rattle.haya_printing.proofs.lines.is_said.Goals as goal
 
 pub returns-in-Ok-clause-no : goal.returns-in-Ok-clause-no
