@@ -233,15 +233,16 @@ fn set_text(
     ensures fault { IfErr result
         (IsFaultOf (text_setter field (value_view json.now) (view entry.old))) }
 {
+    let text = text(alloc, json)?;
     match field {
-        TextField::Location => entry.set_location(text(alloc, json)?),
-        TextField::Organization => entry.set_organization(text(alloc, json)?),
-        TextField::Archive => entry.set_archive(text(alloc, json)?),
-        TextField::ArchiveLocation => entry.set_archive_location(text(alloc, json)?),
-        TextField::CallNumber => entry.set_call_number(text(alloc, json)?),
-        TextField::Note => entry.set_note(text(alloc, json)?),
-        TextField::Abstract => entry.set_abstract_(text(alloc, json)?),
-        TextField::Genre => entry.set_genre(text(alloc, json)?),
+        TextField::Location => entry.set_location(text),
+        TextField::Organization => entry.set_organization(text),
+        TextField::Archive => entry.set_archive(text),
+        TextField::ArchiveLocation => entry.set_archive_location(text),
+        TextField::CallNumber => entry.set_call_number(text),
+        TextField::Note => entry.set_note(text),
+        TextField::Abstract => entry.set_abstract_(text),
+        TextField::Genre => entry.set_genre(text),
     }
     Ok(())
 }

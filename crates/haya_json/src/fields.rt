@@ -1,5 +1,5 @@
 //! The fields of an entry, by their names.
-ghost use Rattle.std.specs.Prelude.{◌≡◌, Ok, OnOk, IfErr};
+ghost use Rattle.std.specs.Prelude.{◌≡◌, Ok, OnOk, IfErr, IsSomeAnd};
 ghost use Rattle.json.specs.Value.{value_view};
 ghost use Rattle.haya_entry.specs.Tree.{view};
 ghost use Rattle.haya_json.specs.Refusal.{IsFaultOf};
@@ -26,16 +26,15 @@ pub(crate) fn set_field(
         (IsFaultOf (with_field name.now (value_view json.now) (view entry.old))) }
 {
     match name {
-        "author" => entry.set_authors(FromJson::from_json(alloc, json)?),
-        "editor" => entry.set_editors(FromJson::from_json(alloc, json)?),
-        "affiliated" => entry.set_affiliated(FromJson::from_json(alloc, json)?),
-        "date" => entry.set_date(FromJson::from_json(alloc, json)?),
-        "publisher" => entry.set_publisher(FromJson::from_json(alloc, json)?),
-        "url" => entry.set_url(FromJson::from_json(alloc, json)?),
-        "language" => entry.set_language(FromJson::from_json(alloc, json)?),
-        _ => return set_text_field(alloc, entry, name, json),
+        "author" => read_into(alloc, &mut entry.authors, json),
+        "editor" => read_into(alloc, &mut entry.editors, json),
+        "affiliated" => read_into(alloc, &mut entry.affiliated, json),
+        "date" => read_into(alloc, &mut entry.date, json),
+        "publisher" => read_into(alloc, &mut entry.publisher, json),
+        "url" => read_into(alloc, &mut entry.url, json),
+        "language" => read_into(alloc, &mut entry.language, json),
+        _ => set_text_field(alloc, entry, name, json),
     }
-    Ok(())
 }
 
 // The same of a text, a number, a time or serial numbers.
@@ -51,18 +50,17 @@ fn set_text_field(
         (IsFaultOf (with_text_field name.now (value_view json.now) (view entry.old))) }
 {
     match name {
-        "title" => entry.set_title(FromJson::from_json(alloc, json)?),
-        "location" => entry.set_location(FromJson::from_json(alloc, json)?),
-        "organization" => entry.set_organization(FromJson::from_json(alloc, json)?),
-        "archive" => entry.set_archive(FromJson::from_json(alloc, json)?),
-        "archive-location" => entry.set_archive_location(FromJson::from_json(alloc, json)?),
-        "call-number" => entry.set_call_number(FromJson::from_json(alloc, json)?),
-        "note" => entry.set_note(FromJson::from_json(alloc, json)?),
-        "abstract" => entry.set_abstract_(FromJson::from_json(alloc, json)?),
-        "genre" => entry.set_genre(FromJson::from_json(alloc, json)?),
-        _ => return set_number_field(alloc, entry, name, json),
+        "title" => read_into(alloc, &mut entry.title, json),
+        "location" => read_into(alloc, &mut entry.location, json),
+        "organization" => read_into(alloc, &mut entry.organization, json),
+        "archive" => read_into(alloc, &mut entry.archive, json),
+        "archive-location" => read_into(alloc, &mut entry.archive_location, json),
+        "call-number" => read_into(alloc, &mut entry.call_number, json),
+        "note" => read_into(alloc, &mut entry.note, json),
+        "abstract" => read_into(alloc, &mut entry.abstract_, json),
+        "genre" => read_into(alloc, &mut entry.genre, json),
+        _ => set_number_field(alloc, entry, name, json),
     }
-    Ok(())
 }
 
 // The same of a number, a time or serial numbers.
@@ -78,18 +76,31 @@ fn set_number_field(
         (IsFaultOf (with_number_field name.now (value_view json.now) (view entry.old))) }
 {
     match name {
-        "issue" => entry.set_issue(FromJson::from_json(alloc, json)?),
-        "chapter" => entry.set_chapter(FromJson::from_json(alloc, json)?),
-        "volume" => entry.set_volume(FromJson::from_json(alloc, json)?),
-        "edition" => entry.set_edition(FromJson::from_json(alloc, json)?),
-        "volume-total" => entry.set_volume_total(FromJson::from_json(alloc, json)?),
-        "page-total" => entry.set_page_total(FromJson::from_json(alloc, json)?),
-        "page-range" => entry.set_page_range(FromJson::from_json(alloc, json)?),
-        "time-range" => entry.set_time_range(FromJson::from_json(alloc, json)?),
-        "runtime" => entry.set_runtime(FromJson::from_json(alloc, json)?),
-        "serial-number" | "serial" => set_serials(alloc, entry, json)?,
-        _ => {}
+        "issue" => read_into(alloc, &mut entry.issue, json),
+        "chapter" => read_into(alloc, &mut entry.chapter, json),
+        "volume" => read_into(alloc, &mut entry.volume, json),
+        "edition" => read_into(alloc, &mut entry.edition, json),
+        "volume-total" => read_into(alloc, &mut entry.volume_total, json),
+        "page-total" => read_into(alloc, &mut entry.page_total, json),
+        "page-range" => read_into(alloc, &mut entry.page_range, json),
+        "time-range" => read_into(alloc, &mut entry.time_range, json),
+        "runtime" => read_into(alloc, &mut entry.runtime, json),
+        "serial-number" | "serial" => set_serials(alloc, entry, json),
+        _ => Ok(()),
     }
+}
+
+// Puts what the value reads as into a field, in the place of what was there.
+fn read_into<T: FromJson + Drop>(
+    alloc: Global,
+    field: &mut Option<T>,
+    json: &Value<'_>,
+) -> Result<(), Fault>
+    ensures ok { OnOk result
+        (IsSomeAnd field.new (λ v. T.reads (value_view json.now) ≡ Ok (T.view v))) }
+    ensures fault { IfErr result (IsFaultOf (T.reads (value_view json.now))) }
+{
+    *field = Some(FromJson::from_json(alloc, json)?);
     Ok(())
 }
 

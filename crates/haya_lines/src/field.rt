@@ -1,10 +1,10 @@
 //! The fields of a line: values that are read as the types of their fields are.
-ghost use Rattle.std.specs.Prelude.{◌≡◌, Err, Ok, Some, option_map, IfOk, IfErr, OnOk};
-ghost use Rattle.haya_people.specs.Person.{person_view};
+ghost use Rattle.std.specs.Prelude.{◌≡◌, Err, Ok, Some, option_map, IfOk, IfErr, IsSomeAnd, OnOk};
 ghost use Rattle.haya_people.specs.Roles.{role_view, roles_view};
 ghost use Rattle.haya_entry.specs.Tree.{Sets, view, fields};
-ghost use Rattle.haya_lines.specs.FieldTable.{affiliated_of, date_of, ok_or_refused, role_of};
-ghost use Rattle.haya_lines.specs.FieldTable.{setter, with_field, with_last, with_number};
+ghost use Rattle.haya_entry.specs.declared.field_name.FieldName.TheVariants as field;
+ghost use Rattle.haya_lines.specs.FieldTable.{affiliated_of, date_of, ok_or_refused, person_of};
+ghost use Rattle.haya_lines.specs.FieldTable.{role_of, setter, with_field, with_last, with_number};
 ghost use Rattle.haya_lines.specs.Line.{field_read, fields_read};
 ghost use Rattle.haya_lines.specs.LineReading.{IsFaultOf, SetsFields};
 
@@ -63,35 +63,47 @@ fn set(alloc: Global, entry: &mut Entry, field: FieldName, value: &str) -> Resul
     ensures fault { IfErr result (IsFaultOf (setter field value.now (fields (view entry.old)))) }
 {
     match field {
-        FieldName::Title => entry.set_title(read_value(alloc, value)?),
-        FieldName::Location => entry.set_location(read_value(alloc, value)?),
-        FieldName::Organization => entry.set_organization(read_value(alloc, value)?),
-        FieldName::Archive => entry.set_archive(read_value(alloc, value)?),
-        FieldName::ArchiveLocation => entry.set_archive_location(read_value(alloc, value)?),
-        FieldName::CallNumber => entry.set_call_number(read_value(alloc, value)?),
-        FieldName::Note => entry.set_note(read_value(alloc, value)?),
-        FieldName::Abstract => entry.set_abstract_(read_value(alloc, value)?),
-        FieldName::Genre => entry.set_genre(read_value(alloc, value)?),
-        FieldName::Author => add_author(alloc, entry, read_value(alloc, value)?)?,
-        FieldName::Editor => add_editor(alloc, entry, read_value(alloc, value)?)?,
-        FieldName::Affiliated => add_affiliated(alloc, entry, read_affiliated(alloc, value)?)?,
-        FieldName::Date => entry.set_date(read_date(value)?),
-        FieldName::Publisher => entry.set_publisher(read_value(alloc, value)?),
-        FieldName::Url => entry.set_url(read_value(alloc, value)?),
-        FieldName::Issue => entry.set_issue(read_value(alloc, value)?),
-        FieldName::Chapter => entry.set_chapter(read_value(alloc, value)?),
-        FieldName::Volume => entry.set_volume(read_value(alloc, value)?),
-        FieldName::Edition => entry.set_edition(read_value(alloc, value)?),
-        FieldName::VolumeTotal => entry.set_volume_total(read_value(alloc, value)?),
-        FieldName::PageTotal => entry.set_page_total(read_value(alloc, value)?),
-        FieldName::PageRange => entry.set_page_range(read_value(alloc, value)?),
-        FieldName::TimeRange => entry.set_time_range(read_value(alloc, value)?),
-        FieldName::Runtime => entry.set_runtime(read_value(alloc, value)?),
-        FieldName::SerialNumber => set_number(alloc, entry, "serial", value)?,
-        FieldName::Language => entry.set_language(String::from_str(alloc, value)?),
+        FieldName::Title => read_into(alloc, &mut entry.title, value),
+        FieldName::Location => read_into(alloc, &mut entry.location, value),
+        FieldName::Organization => read_into(alloc, &mut entry.organization, value),
+        FieldName::Archive => read_into(alloc, &mut entry.archive, value),
+        FieldName::ArchiveLocation => read_into(alloc, &mut entry.archive_location, value),
+        FieldName::CallNumber => read_into(alloc, &mut entry.call_number, value),
+        FieldName::Note => read_into(alloc, &mut entry.note, value),
+        FieldName::Abstract => read_into(alloc, &mut entry.abstract_, value),
+        FieldName::Genre => read_into(alloc, &mut entry.genre, value),
+        FieldName::Author => add_author(alloc, entry, value),
+        FieldName::Editor => add_editor(alloc, entry, value),
+        FieldName::Affiliated => add_affiliated(alloc, entry, value),
+        FieldName::Date => set_date(entry, value),
+        FieldName::Publisher => read_into(alloc, &mut entry.publisher, value),
+        FieldName::Url => read_into(alloc, &mut entry.url, value),
+        FieldName::Issue => read_into(alloc, &mut entry.issue, value),
+        FieldName::Chapter => read_into(alloc, &mut entry.chapter, value),
+        FieldName::Volume => read_into(alloc, &mut entry.volume, value),
+        FieldName::Edition => read_into(alloc, &mut entry.edition, value),
+        FieldName::VolumeTotal => read_into(alloc, &mut entry.volume_total, value),
+        FieldName::PageTotal => read_into(alloc, &mut entry.page_total, value),
+        FieldName::PageRange => read_into(alloc, &mut entry.page_range, value),
+        FieldName::TimeRange => read_into(alloc, &mut entry.time_range, value),
+        FieldName::Runtime => read_into(alloc, &mut entry.runtime, value),
+        FieldName::SerialNumber => set_number(alloc, entry, "serial", value),
+        FieldName::Language => set_language(alloc, entry, value),
         // Each of the others is a serial number.
-        _ => set_number(alloc, entry, field.as_str(), value)?,
+        _ => set_number(alloc, entry, field.as_str(), value),
     }
+}
+
+// Puts what the value reads as into a field, in the place of what was there.
+fn read_into<T: ReadText + Drop>(
+    alloc: Global,
+    field: &mut Option<T>,
+    value: &str,
+) -> Result<(), LineFault>
+    ensures ok { OnOk result (IsSomeAnd field.new (λ v. T.reads value.now ≡ Some (T.value v))) }
+    ensures fault { IfErr result (IsFaultOf (ok_or_refused (T.reads value.now))) }
+{
+    *field = Some(read_value(alloc, value)?);
     Ok(())
 }
 
@@ -142,31 +154,53 @@ fn read_role(name: &str) -> Result<PersonRole, LineFault>
 }
 
 // One more author.
-fn add_author(alloc: Global, entry: &mut Entry, person: Person) -> Result<(), AllocError>
-    ensures { OnOk result (Sets entry.old entry.new
-        (λ f. record f { authors = with_last f.authors (person_view person) })) }
+fn add_author(alloc: Global, entry: &mut Entry, value: &str) -> Result<(), LineFault>
+    ensures ok { OnOk result (SetsFields
+        (setter field.Author value.now (fields (view entry.old))) entry.old entry.new) }
+    ensures fault { IfErr result (IsFaultOf (person_of value.now)) }
 {
-    append(alloc, &mut entry.authors, person)
+    append(alloc, &mut entry.authors, read_value(alloc, value)?)?;
+    Ok(())
 }
 
 // One more editor.
-fn add_editor(alloc: Global, entry: &mut Entry, person: Person) -> Result<(), AllocError>
-    ensures { OnOk result (Sets entry.old entry.new
-        (λ f. record f { editors = with_last f.editors (person_view person) })) }
+fn add_editor(alloc: Global, entry: &mut Entry, value: &str) -> Result<(), LineFault>
+    ensures ok { OnOk result (SetsFields
+        (setter field.Editor value.now (fields (view entry.old))) entry.old entry.new) }
+    ensures fault { IfErr result (IsFaultOf (person_of value.now)) }
 {
-    append(alloc, &mut entry.editors, person)
+    append(alloc, &mut entry.editors, read_value(alloc, value)?)?;
+    Ok(())
 }
 
 // One more person with a role.
-fn add_affiliated(
-    alloc: Global,
-    entry: &mut Entry,
-    persons: PersonsWithRoles,
-) -> Result<(), AllocError>
-    ensures { OnOk result (Sets entry.old entry.new
-        (λ f. record f { affiliated = with_last f.affiliated (roles_view persons) })) }
+fn add_affiliated(alloc: Global, entry: &mut Entry, value: &str) -> Result<(), LineFault>
+    ensures ok { OnOk result (SetsFields
+        (setter field.Affiliated value.now (fields (view entry.old))) entry.old entry.new) }
+    ensures fault { IfErr result (IsFaultOf (affiliated_of value.now)) }
 {
-    append(alloc, &mut entry.affiliated, persons)
+    append(alloc, &mut entry.affiliated, read_affiliated(alloc, value)?)?;
+    Ok(())
+}
+
+// Sets the date.
+fn set_date(entry: &mut Entry, value: &str) -> Result<(), LineFault>
+    ensures ok { OnOk result (SetsFields
+        (setter field.Date value.now (fields (view entry.old))) entry.old entry.new) }
+    ensures fault { IfErr result (IsFaultOf (date_of value.now)) }
+{
+    entry.date = Some(read_date(value)?);
+    Ok(())
+}
+
+// Sets the language.
+fn set_language(alloc: Global, entry: &mut Entry, value: &str) -> Result<(), LineFault>
+    ensures ok { OnOk result (SetsFields
+        (setter field.Language value.now (fields (view entry.old))) entry.old entry.new) }
+    ensures fault { IfErr result (λ e. e ≡ LineFault.OutOfMemory) }
+{
+    entry.language = Some(String::from_str(alloc, value)?);
+    Ok(())
 }
 
 // Appends to a list that begins with its first item.
