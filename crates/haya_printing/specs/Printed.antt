@@ -1,11 +1,9 @@
 -- Entries as lines of text, as the readers of lines read them.
-use Rattle.std.specs.Prelude.{ℕ, ◌+◌, List, [], ◌∷◌, ◌++◌, Option, None, Some, option_and_then, option_map, codes}
+use Rattle.std.specs.Prelude.{ℕ, ◌+◌, List, [], ◌∷◌, ◌++◌, Option, None, Some, option_and_then, codes}
 use Rattle.std.specs.Fmt.{decimal}
 use Rattle.haya_text.specs.Printing.{to_serialized}
 use Rattle.haya_text.specs.Texts.{TextView}
-use Rattle.haya_numbers.specs.Numeric.{NumericView}
 use Rattle.haya_numbers.specs.NumericPrinted.{shown_numeric}
-use Rattle.haya_numbers.specs.Pages.{PartView}
 use Rattle.haya_numbers.specs.PagesPrinted.{shown_pages}
 use Rattle.haya_people.specs.Person.{PersonView}
 use Rattle.haya_people.specs.PersonText.{person_text}
