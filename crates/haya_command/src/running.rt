@@ -82,10 +82,11 @@ fn print_answer<W: Write, E: Write>(
         Keeps (E.contents err.old) (E.contents err.new) }
 {
     let Collected { library, notes } = read_inputs(alloc, keys, options, inputs)?;
-    let answer = ask(alloc, &library, options)?;
+    let asked = ask(alloc, &library, options);
     // The process ends with this answer, and gives all memory back at once: entry by entry that
     // takes longer than any selector.
     mem::forget(library);
+    let answer = asked?;
     tell_notes(options, notes.as_str(), err);
     warn(alloc, options, err);
     write_text(out, answer.text.as_str())?;

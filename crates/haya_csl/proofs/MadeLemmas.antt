@@ -3,12 +3,12 @@ use Rattle.std.proofs.Common.{◌≡◌, ℕ, ◌+◌, List, [], ◌∷◌, Opti
 use Rattle.json.specs.Json.{Json, Items, no_items, item, array, parse_map, document, if_last}
 use Rattle.json.specs.Lex.{tokens}
 use Rattle.json.specs.Token.{Token}
-use Rattle.haya_csl.specs.Made.{IsMadeBut, IsMadeOf, IsMadeOfText, TakesItem}
+use Rattle.haya_csl.specs.Made.{IsMadeOf, IsMadeOfNone, IsMadeOfText, TakesItem}
 use Rattle.haya_csl.specs.Turns.{items_left, list_document}
 use Rattle.haya_csl.specs.declared.turns.Made.{Made}
 use Rattle.haya_csl.proofs.ListTurns.{document-list}
 
-pub none_taken : (list : Option (Items × List Token)) (made : Made) → ((items : Items) → IsMadeBut items items 0 made) → IsMadeOf list list 0 made
+pub none_taken : (list : Option (Items × List Token)) (made : Made) → IsMadeOfNone made → IsMadeOf list list 0 made
 none_taken None made h = refl
 none_taken (Some l) made h = (l.0, refl, h l.0)
 

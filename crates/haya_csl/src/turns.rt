@@ -1,12 +1,12 @@
 //! The items of a list, read one after another, and the library that is made of them.
-ghost use Rattle.std.specs.Prelude.{◌≡◌, ◌↔◌, ℕ, List, Err, None, Some, option_map, IfErr, IfOk};
-ghost use Rattle.std.specs.Prelude.{IfSome, IsTrue, MatchOption, OnOk};
-ghost use Rattle.json.specs.Json.{Items, no_items};
+ghost use Rattle.std.specs.Prelude.{◌≡◌, ◌↔◌, ℕ, List, Err, None, Ok, Some, option_map, IfErr, IfOk};
+ghost use Rattle.std.specs.Prelude.{IfSome, IsTrue, MatchBool, OnOk, true};
+ghost use Rattle.json.specs.Json.{no_items};
 ghost use Rattle.json.specs.Strict.{HasUniqueKeys};
 ghost use Rattle.json.specs.Value.{value_view};
 ghost use Rattle.haya_csl.specs.Ignored.{IsPassedOver};
 ghost use Rattle.haya_csl.specs.Libraries.{DescribesAsCsl, IsCslErrorOf};
-ghost use Rattle.haya_csl.specs.Made.{IsErrorWith, IsMadeBut, IsMadeOf, IsMadeOfText};
+ghost use Rattle.haya_csl.specs.Made.{IsErrorWith, IsMadeOf, IsMadeOfNone, IsMadeOfText};
 ghost use Rattle.haya_csl.specs.Made.{MakesEntry, TakesItem};
 ghost use Rattle.haya_csl.specs.Turns.{first_and_left, items_left};
 
@@ -43,69 +43,22 @@ pub(crate) fn read_list_text(
     ensures ignored { IfOk result (λ r. IfSome r (λ read. IsPassedOver text.now read.1)) }
     ensures error { IfErr result (IsCslErrorOf text.now) }
 {
-    match made_of(alloc, keys, text, scratch) {
-        Ok(Some(made)) => match made.into_read(alloc, text) {
+    let mut made = Made::new(alloc, keys);
+    // By calls: at an exit, the drop of a library is proved field by field.
+    match made.take_text(alloc, text, scratch) {
+        Ok(true) => match made.into_read(alloc, text) {
             Ok(read) => Ok(Some(read)),
             Err(error) => Err(error),
         },
-        Ok(None) => Ok(None),
-        Err(error) => Err(error),
-    }
-}
-
-// What is made of the items of a text that begins as a list.
-fn made_of(
-    alloc: Global,
-    keys: HashKeys,
-    text: &str,
-    scratch: &mut Scratch,
-) -> Result<Option<Made>, ReadError>
-    ensures made { IfOk result (λ r. IfSome r (IsMadeOfText text.now)) }
-    ensures error { IfErr result (IsCslErrorOf text.now) }
-{
-    let Ok(mut reader) = Reader::new(text, scratch) else {
-        return Err(ReadError::OutOfMemory);
-    };
-    let Some(Token::BeginArray) = reader.next() else {
-        return Ok(None);
-    };
-    let made = match read_items(alloc, keys, &mut reader) {
-        Ok(Some(made)) => made,
-        Ok(None) => return Err(not_json(alloc, text)),
-        Err(_) => return Err(ReadError::OutOfMemory),
-    };
-    match reader.next() {
-        None => Ok(Some(made)),
-        Some(_) => {
+        Ok(false) => {
             drop(made);
-            Err(not_json(alloc, text))
+            Ok(None)
+        }
+        Err(error) => {
+            drop(made);
+            Err(error)
         }
     }
-}
-
-// What is made of all items of a list. `None` where it is no list of JSON values.
-fn read_items(
-    alloc: Global,
-    keys: HashKeys,
-    reader: &mut Reader<'_>,
-) -> Result<Option<Made>, OutOfMemory>
-    ensures { IfOk result (λ r. MatchOption r (items_left reader.old ≡ None)
-        (λ made. (place : ℕ) ×
-        IsMadeOf (Some (no_items, reader.new)) (items_left reader.old) place made)) }
-{
-    let mut made = Made::new(alloc, keys);
-    let mut names = Vec::new(alloc);
-    'items: for place in 0..usize::MAX {
-        let item = match next_item(alloc, reader) {
-            Ok(Some(item)) => item,
-            Ok(None) => return Ok(Some(made)),
-            Err(Error::Invalid) => return Ok(None),
-            Err(_) => return Err(OutOfMemory),
-        };
-        made.take(alloc, &item, place, &mut names)?;
-    }
-    // No text has as many items.
-    Err(OutOfMemory)
 }
 
 // The next item of a list, or none at its end.
@@ -127,7 +80,7 @@ impl Made {
     // Of no items.
     #[tactic(auto, using(haya_json::proofs::Tallies::counted_from_none))]
     fn new(alloc: Global, keys: HashKeys) -> Made
-        ensures { (items : Items) → IsMadeBut items items 0 result }
+        ensures { IsMadeOfNone result }
     {
         Made {
             library: Library::with_hash_keys(alloc, keys),
@@ -135,6 +88,57 @@ impl Made {
             fault: None,
             are_unique: true,
         }
+    }
+
+    // Takes the items of a text that begins as a list, and answers whether it does.
+    fn take_text(
+        &mut self,
+        alloc: Global,
+        text: &str,
+        scratch: &mut Scratch,
+    ) -> Result<bool, ReadError>
+        requires { IsMadeOfNone self.old }
+        ensures made { result ≡ Ok true → IsMadeOfText text.now self.new }
+        ensures error { IfErr result (IsCslErrorOf text.now) }
+    {
+        let Ok(mut reader) = Reader::new(text, scratch) else {
+            return Err(ReadError::OutOfMemory);
+        };
+        let Some(Token::BeginArray) = reader.next() else {
+            return Ok(false);
+        };
+        match self.take_items(alloc, &mut reader) {
+            Ok(true) => {}
+            Ok(false) => return Err(not_json(alloc, text)),
+            Err(OutOfMemory) => return Err(ReadError::OutOfMemory),
+        }
+        match reader.next() {
+            None => Ok(true),
+            Some(_) => Err(not_json(alloc, text)),
+        }
+    }
+
+    // Takes all items of a list, and answers whether it is one, of JSON values.
+    fn take_items(&mut self, alloc: Global, reader: &mut Reader<'_>) -> Result<bool, OutOfMemory>
+        requires { IsMadeOfNone self.old }
+        ensures { IfOk result (λ is_list. MatchBool is_list ((place : ℕ) ×
+            IsMadeOf (Some (no_items, reader.new)) (items_left reader.old) place self.new)
+            (items_left reader.old ≡ None)) }
+    {
+        let mut names = Vec::new(alloc);
+        'items: for place in 0..usize::MAX {
+            let item = match next_item(alloc, reader) {
+                Ok(Some(item)) => item,
+                Ok(None) => return Ok(true),
+                Err(Error::Invalid) => return Ok(false),
+                Err(_) => return Err(OutOfMemory),
+            };
+            let taken = self.take(alloc, &item, place, &mut names);
+            drop(item);
+            taken?;
+        }
+        // No text has as many items.
+        Err(OutOfMemory)
     }
 
     // Takes one more item, at this place of the list.

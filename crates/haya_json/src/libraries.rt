@@ -1,12 +1,15 @@
 //! Libraries from a text.
-ghost use Rattle.std.specs.Prelude.{◌≡◌, [], Ok, IfErr, IfOk, OnOk};
+ghost use Rattle.std.specs.Prelude.{◌≡◌, [], false, None, Ok, IfErr, IfOk, OnOk};
 ghost use Rattle.json.specs.Strict.{AreDistinct, HasUniqueKeys, keys as names};
 ghost use Rattle.json.specs.Value.{members_view, value_view};
-ghost use Rattle.haya_json.specs.Refusal.{IsFaultOf};
+ghost use Rattle.haya_entry.specs.Tree.{Tree};
+ghost use Rattle.hayagriva.specs.Library.{push};
+ghost use Rattle.haya_json.specs.Refusal.{IsFaultOf, to_member, within};
+ghost use Rattle.haya_json.specs.Entries.{entry_of};
 ghost use Rattle.haya_json.specs.Libraries.{Describes, IsErrorOf, entries_of, entries_pushed};
 ghost use Rattle.haya_json.specs.Libraries.{library_of};
 ghost use Rattle.haya_json.specs.Ignored.{IsPassedOver, counts_of, entries_passed_over};
-ghost use Rattle.haya_json.specs.Ignored.{passed_over};
+ghost use Rattle.haya_json.specs.Ignored.{passed_over, passed_over_in};
 ghost use Rattle.haya_json.specs.Tally.{all_counted, tally};
 
 use crate::entries::read_entry;
@@ -141,11 +144,37 @@ fn push_entries(
 {
     let mut library = Library::with_hash_keys(alloc, keys);
     'entries: for (name, json) in members {
-        match read_entry(alloc, name, None, &json) {
-            Ok(entry) => library.insert(entry)?,
-            Err(fault) => return Err(fault.in_member(alloc, name)),
+        let pushed = push_entry(alloc, &mut library, name, &json, ignored);
+        drop(json);
+        if let Err(fault) = pushed {
+            // By a call: at an exit, the drop of a library is proved field by field.
+            drop(library);
+            return Err(fault);
         }
-        note_entry(ignored, false, &json)?;
     }
     Ok(library)
+}
+
+// Pushes the entry that a member says. What is passed over of it is counted.
+fn push_entry(
+    alloc: Global,
+    library: &mut Library,
+    name: &str,
+    json: &Value<'_>,
+    ignored: &mut Ignored,
+) -> Result<(), Fault>
+    ensures library { OnOk result ((entry : Tree)
+        × (entry_of name.now None (value_view json.now) ≡ Ok entry)
+        × (library.new ≡ push entry library.old)) }
+    ensures ignored { OnOk result (counts_of ignored.new
+        ≡ all_counted (passed_over_in false (value_view json.now)) (counts_of ignored.old)) }
+    ensures fault { IfErr result
+        (IsFaultOf (within (to_member name.now) (entry_of name.now None (value_view json.now)))) }
+{
+    match read_entry(alloc, name, None, json) {
+        Ok(entry) => library.insert(entry)?,
+        Err(fault) => return Err(fault.in_member(alloc, name)),
+    }
+    note_entry(ignored, false, json)?;
+    Ok(())
 }

@@ -59,6 +59,12 @@ pub fn position_of_twice(alloc: Global, text: &str) -> Result<Position, AllocErr
 {
     let mut scratch = Scratch::new(alloc);
     let mut reader = Reader::new(text, &mut scratch)?;
+    let place = place_of_twice(alloc, &mut reader)?;
+    Ok(position_at(text, place))
+}
+
+// The place in the text of the first name that its object has already, or the end.
+fn place_of_twice(alloc: Global, reader: &mut Reader<'_>) -> Result<usize, AllocError> {
     let mut objects = Vec::new(alloc);
     let mut place = reader.offset();
     'tokens: while let Some(token) = reader.next() {
@@ -70,7 +76,7 @@ pub fn position_of_twice(alloc: Global, text: &str) -> Result<Position, AllocErr
         }
         place = reader.offset();
     }
-    Ok(position_at(text, place))
+    Ok(place)
 }
 
 // Whether the innermost object has this name already; from now on it has.

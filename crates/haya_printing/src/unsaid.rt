@@ -6,7 +6,7 @@ use haya_text::{OutOfMemory, TryClone};
 use std::alloc::Global;
 
 // The names of fields, in the order of a line.
-const NAMES: [&str; 26] = [
+const NAMES: &[&str] = &[
     "title",
     "location",
     "organization",
@@ -74,10 +74,10 @@ fn first_name(
         return Ok(Some("key"));
     }
     for name in NAMES {
-        if entry.has(name) {
-            copy_field(alloc, name, part, entry)?;
+        if entry.has(*name) {
+            copy_field(alloc, *name, part, entry)?;
             if !has_lines(alloc, part)? {
-                return Ok(Some(name));
+                return Ok(Some(*name));
             }
         }
     }
@@ -118,22 +118,24 @@ fn copy_other_field(
     from: &Entry,
 ) -> Result<(), OutOfMemory> {
     match name {
-        "date" => to.date = from.date,
-        "publisher" => copy(alloc, &mut to.publisher, &from.publisher)?,
-        "url" => copy(alloc, &mut to.url, &from.url)?,
-        "issue" => copy(alloc, &mut to.issue, &from.issue)?,
-        "chapter" => copy(alloc, &mut to.chapter, &from.chapter)?,
-        "volume" => copy(alloc, &mut to.volume, &from.volume)?,
-        "edition" => copy(alloc, &mut to.edition, &from.edition)?,
-        "volume-total" => copy(alloc, &mut to.volume_total, &from.volume_total)?,
-        "page-total" => copy(alloc, &mut to.page_total, &from.page_total)?,
-        "page-range" => copy(alloc, &mut to.page_range, &from.page_range)?,
-        "time-range" => copy(alloc, &mut to.time_range, &from.time_range)?,
-        "runtime" => copy(alloc, &mut to.runtime, &from.runtime)?,
-        "serial-number" => copy(alloc, &mut to.serial_number, &from.serial_number)?,
-        _ => copy(alloc, &mut to.language, &from.language)?,
+        "date" => {
+            to.date = from.date;
+            Ok(())
+        }
+        "publisher" => copy(alloc, &mut to.publisher, &from.publisher),
+        "url" => copy(alloc, &mut to.url, &from.url),
+        "issue" => copy(alloc, &mut to.issue, &from.issue),
+        "chapter" => copy(alloc, &mut to.chapter, &from.chapter),
+        "volume" => copy(alloc, &mut to.volume, &from.volume),
+        "edition" => copy(alloc, &mut to.edition, &from.edition),
+        "volume-total" => copy(alloc, &mut to.volume_total, &from.volume_total),
+        "page-total" => copy(alloc, &mut to.page_total, &from.page_total),
+        "page-range" => copy(alloc, &mut to.page_range, &from.page_range),
+        "time-range" => copy(alloc, &mut to.time_range, &from.time_range),
+        "runtime" => copy(alloc, &mut to.runtime, &from.runtime),
+        "serial-number" => copy(alloc, &mut to.serial_number, &from.serial_number),
+        _ => copy(alloc, &mut to.language, &from.language),
     }
-    Ok(())
 }
 
 // Makes a value a copy of another one.

@@ -103,7 +103,7 @@ fn complain<E: Write>(fault: &Fault, err: &mut E) -> u8
     fault.status()
 }
 
-// Reads the library, asks it, and prints the hits as they come.
+// Answers the one word that there is to be, and the library's map hashes with the keys.
 fn answer<R: Read, W: Write>(
     alloc: Global,
     words: &[String],
@@ -124,18 +124,37 @@ fn answer<R: Read, W: Write>(
     ensures kept { IfSome (slice_get words.now 0) (λ word. KeepsAtFault (string_bytes word)
         (R.remaining input.old) (W.contents out.old) (W.contents out.new)) }
 {
-    let [selector] = words else {
+    let [word] = words else {
         return Err(Fault::Usage);
     };
     let Some(keys) = keys else {
         return Err(Fault::CannotRead);
     };
+    answer_word(alloc, word.as_str(), keys, input, out)
+}
+
+// Reads the library, asks it, and prints the hits as they come.
+fn answer_word<R: Read, W: Write>(
+    alloc: Global,
+    word: &str,
+    keys: HashKeys,
+    input: &mut R,
+    out: &mut W,
+) -> Result<(), Fault>
+    ensures answer { OnOk result (Answers word.now (R.remaining input.old)
+        (R.remaining input.new) (W.contents out.old) (W.contents out.new)) }
+    ensures other { IfErr result (λ e. e ≢ Usage) }
+    ensures stands { IfErr result (Stands word.now (R.remaining input.old)
+        (R.remaining input.new) (W.contents out.old) (W.contents out.new)) }
+    ensures kept { KeepsAtFault word.now (R.remaining input.old) (W.contents out.old)
+        (W.contents out.new) }
+{
     let bytes = read_all(alloc, input, &mut ())?;
     let Ok(text) = str::from_utf8(bytes.as_slice()) else {
         return Err(Fault::NotText);
     };
     let library = read_library(alloc, keys, text)?;
-    let mut hits = library.query_iter(alloc, selector.as_str())?;
+    let mut hits = library.query_iter(alloc, word)?;
     let printed = print_hits(alloc, &mut hits, out);
     drop(hits);
     // The process ends with this answer, and gives all memory back at once: entry by entry that

@@ -3,15 +3,15 @@ use Rattle.json.specs.Value.{value_view}
 use Rattle.haya_csl.specs.Made.{IsMadeOf}
 use Rattle.haya_csl.specs.Turns.{items_left, first_and_left}
 use Rattle.haya_csl.proofs.MadeLemmas.{none_taken, one_more_taken}
-use Rattle.haya_csl.proofs.turns.read_items.Goals as goal
+use Rattle.haya_csl.proofs.turns.Made.take_items.Goals as goal
 
 pub items-init : goal.items-init
-items-init c = none_taken _ _ c.new-made.ensures
+items-init c = none_taken _ _ c.requires
 
 pub items-preserved : goal.items-preserved
 items-preserved c =
     let l = c.items in
     let j = value_view c.in-Ok-Some.item in
     let next : items_left l.reader ≡ first_and_left (Some j) c.next_item.new.reader = grind arith in
-    let was : IsMadeOf (first_and_left (Some j) c.next_item.new.reader) (items_left c.args.reader.now) l.place l.made = subst (λ r. IsMadeOf r (items_left c.args.reader.now) l.place l.made) next l.invariant in
-    one_more_taken _ (items_left c.next_item.new.reader) j l.place l.made c.take.new.self (search rules) was
+    let was : IsMadeOf (first_and_left (Some j) c.next_item.new.reader) (items_left c.args.reader.now) l.place l.self = subst (λ r. IsMadeOf r (items_left c.args.reader.now) l.place l.self) next l.invariant in
+    one_more_taken _ (items_left c.next_item.new.reader) j l.place l.self c.take-taken.new.self (search rules) was
