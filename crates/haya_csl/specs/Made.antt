@@ -27,10 +27,6 @@ pub record IsMadeBut (left list : Items) (place : ℕ) (made : Made) : Type 0 wh
   pub counts : made.fault ≡ None →
       tally (items_passed_over list) ≡ all_counted (items_passed_over left) (counts_of made.ignored)
 
--- nothing was made so far
-abbrev pub IsMadeOfNone : Made → Type 0
-IsMadeOfNone made = (items : Items) → IsMadeBut items items 0 made
-
 -- the same of a list that is read from tokens, and of what is left of it
 abbrev pub IsMadeOf : Option (Items × List Token) → Option (Items × List Token) → ℕ → Made → Type 0
 IsMadeOf None list place made = list ≡ None
@@ -43,6 +39,10 @@ pub record IsMadeOfText (text : List ℕ) (made : Made) : Type 0 where
   pub place : ℕ
   pub parsed : document text ≡ Some (array list)
   pub of_all : IsMadeBut no_items list place made
+
+-- nothing was made so far
+abbrev pub IsMadeOfNone : Made → Type 0
+IsMadeOfNone made = (items : Items) → IsMadeBut items items 0 made
 
 -- one more item is taken
 abbrev pub TakesItem : Json → ℕ → Made → Made → Type 0
