@@ -79,6 +79,25 @@ static void faults(void) {
     refused("\n\n", 2, "book", 4, HAYA_DONE, 0, HAYA_DONE, "empty lines");
 }
 
+/* Where selectors end, and the codes where there is none. */
+static void ends_at(const char *text, uint32_t code, size_t end) {
+    size_t place = 77;
+    is(haya_selector_end(BYTES(text), &place) == code && place == end, text);
+}
+
+static void selector_ends(void) {
+    ends_at("*", HAYA_DONE, 1);
+    ends_at(" book  ", HAYA_DONE, 5);
+    ends_at("article, book", HAYA_DONE, 7);
+    ends_at("article)", HAYA_DONE, 7);
+    ends_at("a:article > b:periodical[ issn ] video", HAYA_DONE, 32);
+    ends_at("book:", HAYA_MISSING_VALUE, 0);
+    ends_at("", HAYA_MISSING_VALUE, 0);
+    ends_at("(book ", HAYA_UNBALANCED_PARENTHESES, 0);
+    ends_at("boook", HAYA_UNKNOWN_TYPE, 0);
+    ends_at("book\xe2\x80", HAYA_NOT_TEXT, 0);
+}
+
 /* Handles that hold nothing, or something else than is asked for. */
 static void empty_handles(void) {
     haya_library library = HAYA_NO_LIBRARY_YET;
@@ -187,7 +206,7 @@ static void json(void) {
     is(haya_hits_key(&hits, 0, &text) && says(text, "paper"), "it is asked");
     haya_library_read_json(BYTES("{\"paper\": {\"type\": \"article\", \"date\": \"then\"}}"), &library);
     is(library.code == HAYA_REFUSED_VALUE && library.line == 0 && haya_refusal(&library.slot, &text)
-           && says(text, "/paper/date: not read as a date"), "the place of a refused value");
+           && says(text, "/paper/date: no date"), "the place of a refused value");
     is(haya_library_len(&library) == 0, "a refusal isn't a library");
     haya_library_read_json(BYTES("{"), &library);
     is(library.code == HAYA_NOT_JSON && haya_refusal(&library.slot, &text) && says(text, "line 1, column 2: no JSON"), "no JSON");
@@ -197,9 +216,9 @@ static void json(void) {
     is(library.code == HAYA_NOT_TEXT && !haya_refusal(&library.slot, &text), "JSON that isn't UTF-8");
     haya_library_read_csl(BYTES("[{\"id\": \"x\", \"type\": \"book\", \"title\": \"T\"}]"), &library);
     is(library.code == HAYA_DONE && haya_library_len(&library) == 1, "a library in CSL-JSON");
-    haya_library_read_csl(BYTES("[{\"id\": \"x\", \"type\": \"boook\"}]"), &library);
-    is(library.code == HAYA_REFUSED_VALUE && haya_refusal(&library.slot, &text) && says(text, "/0/type: unknown type"),
-       "an unknown type in CSL-JSON");
+    haya_library_read_csl(BYTES("[{\"type\": \"book\"}]"), &library);
+    is(library.code == HAYA_REFUSED_VALUE && haya_refusal(&library.slot, &text) && says(text, "/0/id: missing"),
+       "an item of CSL-JSON without an id");
     haya_library_free(&library);
     is(!haya_refusal(&library.slot, &text), "a freed refusal");
     haya_hits_free(&hits);
@@ -270,6 +289,7 @@ static void messages(void) {
 
 int main(void) {
     faults();
+    selector_ends();
     empty_handles();
     hits();
     one_at_a_time();

@@ -93,9 +93,9 @@ static void run(void) {
     }
     haya_library_read_json(BYTES(json), &library);
     is_done(library.code, HAYA_DONE, "the code of JSON");
-    haya_library_read_csl(BYTES("[{\"id\": \"x\", \"type\": \"boook\"}]"), &library);
+    haya_library_read_csl(BYTES("[{\"type\": \"book\"}]"), &library);
     if (is_done(library.code, HAYA_REFUSED_VALUE, "the code of CSL-JSON")) {
-        must(haya_refusal(&library.slot, &text) && says(text, "/0/type: unknown type"), "the place");
+        must(haya_refusal(&library.slot, &text) && says(text, "/0/id: missing"), "the place");
     }
     haya_hits_free(&hits);
     haya_library_free(&library);

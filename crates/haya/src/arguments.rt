@@ -1,25 +1,19 @@
-//! The words of the process, as options.
+//! The words of the process, as what is asked.
+use crate::help::{ABOUT, AFTER};
+use crate::lists::List;
 use clap::{Arg, ArgAction, ArgMatches, Command, Error};
 use haya_command::{Form, Format, Options};
+use haya_csl::ItemKey;
 use std::alloc::{AllocError, Global};
 
-const ABOUT: &str = "Prints the entries of a library that a selector picks.
-
-Status: 0 where an entry is found, 1 where none is, 2 at a fault.";
-
-const EXAMPLES: &str = "Examples:
-  haya 'article > periodical' refs.json      the articles that appear in a periodical
-  haya -c '*[doi]' refs.json more.json       how many entries of both files have a DOI
-  haya -t lines '!*[date]' < refs.json       what has no date, with all its fields
-  haya -s -f lines 'article' works.tsv       the articles of a library larger than memory
-
-With --stream the entries that the input lists are asked as they come; without --from it is in lines.
-A key that comes again isn't replaced (`cut -f1 | sort | uniq -d` over the keys printed shows such),
-and at a fault what was printed before stays.";
-
-const FORMATS: [&str; 4] = ["hayagriva", "csl-json", "json-lines", "lines"];
-
-const FORMS: [&str; 4] = ["keys", "lines", "hayagriva", "json-lines"];
+/// What the process is asked for.
+#[derive(Drop)]
+pub enum Request {
+    /// The entries that a selector picks.
+    Ask(Arguments),
+    /// The names that a selector or an option takes.
+    List(List),
+}
 
 /// What is asked, and how the input is read.
 #[derive(Drop)]
@@ -32,46 +26,65 @@ pub struct Arguments {
 
 /// What the words ask for, the first of which is the program's own name. The error is help, the
 /// version or what is wrong.
-pub fn arguments_of(alloc: Global, words: &[String]) -> Result<Arguments, Error> {
+pub fn request_of(alloc: Global, words: &[String]) -> Result<Request, Error> {
     let command = command(alloc)?;
     let matches = command.try_get_matches_from(words)?;
-    Ok(Arguments {
+    if let Some(list) = list_in(&matches) {
+        return Ok(Request::List(list));
+    }
+    Ok(Request::Ask(Arguments {
         options: options_in(alloc, &matches)?,
         stream: matches.get_flag("stream"),
-    })
+    }))
 }
+
+// The names that options take as values: those of each enum's `ALL`, in order.
+const FORMATS: [&str; 4] = ["hayagriva", "csl-json", "json-lines", "lines"];
+
+const KEYS: [&str; 2] = ["citation-key", "id"];
+
+const FORMS: [&str; 4] = ["keys", "lines", "hayagriva", "json-lines"];
+
+const LISTS: [&str; 3] = ["types", "fields", "formats"];
 
 // All arguments.
 fn command<'a>(alloc: Global) -> Result<Command<'a>, AllocError> {
-    let from = choice(alloc, "from", 'f', "FORMAT", &FORMATS).help(
-        "The input's format; left out, the one that it begins like",
-    );
-    let to = choice(alloc, "to", 't', "FORM", &FORMS)
-        .default_value("keys")
-        .help("The form in which the entries are printed");
     Command::new(alloc, "haya")
         .version("0.1.0")
         .about(ABOUT)
-        .after_help(EXAMPLES)
+        .after_help(AFTER)
         .arg(selector(alloc))?
         .arg(files(alloc))?
-        .arg(from)?
-        .arg(to)?
+        .arg(from(alloc))?
+        .arg(key(alloc))?
+        .arg(to(alloc))?
         .arg(flag(alloc, "count", 'c', "Print the number of entries alone"))?
-        .arg(flag(alloc, "quiet", 'q', "Print nothing: the status says it all"))?
+        .arg(flag(
+            alloc,
+            "quiet",
+            'q',
+            "Print nothing, neither notes nor faults, but what is wrong with the options",
+        ))?
+        .arg(flag(
+            alloc,
+            "no-notes",
+            'N',
+            "Tell faults alone, and not what is passed over",
+        ))?
         .arg(flag(
             alloc,
             "invert",
             'v',
             "Print the entries that it doesn't pick",
         ))?
-        .arg(strict(alloc))?
         .arg(flag(
             alloc,
             "stream",
             's',
             "Ask each entry as it is read: in little memory, keys that come again not looked for",
-        ))
+        ))?
+        .arg(strict(alloc))?
+        .arg(list(alloc))
 }
 
 // The selector.
@@ -92,16 +105,38 @@ fn files<'a>(alloc: Global) -> Arg<'a> {
         .help("The library's files, in order; standard input for '-' or without a file")
 }
 
+// The format of the input.
+fn from<'a>(alloc: Global) -> Arg<'a> {
+    choice(alloc, "from", "FORMAT", &FORMATS).short('f').help(
+        "The input's format; left out, each file's is guessed from its first bytes",
+    )
+}
+
+// The key of an item.
+fn key<'a>(alloc: Global) -> Arg<'a> {
+    choice(alloc, "key", "MEMBER", &KEYS)
+        .default_value("citation-key")
+        .help("The member of an item of CSL-JSON that is its key; id where it has no citation-key")
+}
+
+// The form of what is printed.
+fn to<'a>(alloc: Global) -> Arg<'a> {
+    choice(alloc, "to", "FORM", &FORMS)
+        .short('t')
+        .default_value("keys")
+        .help("The form in which the entries are printed")
+}
+
+// What is listed.
+fn list<'a>(alloc: Global) -> Arg<'a> {
+    choice(alloc, "list", "WHAT", &LISTS).exclusive(true).help(
+        "Print the types or the names that a selector knows, or the formats",
+    )
+}
+
 // An option that takes one of these values.
-fn choice<'a>(
-    alloc: Global,
-    name: &'a str,
-    short: char,
-    value: &'a str,
-    values: &'a [&'a str],
-) -> Arg<'a> {
+fn choice<'a>(alloc: Global, name: &'a str, value: &'a str, values: &'a [&'a str]) -> Arg<'a> {
     Arg::new(alloc, name)
-        .short(short)
         .long(name)
         .value_name(value)
         .value_parser(values)
@@ -121,7 +156,7 @@ fn strict<'a>(alloc: Global) -> Arg<'a> {
     Arg::new(alloc, "strict")
         .long("strict")
         .action(ArgAction::SetTrue)
-        .help("Take a member that the format doesn't know for a fault")
+        .help("Take what would be passed over for a fault")
 }
 
 // What the arguments say.
@@ -129,11 +164,13 @@ fn options_in(alloc: Global, matches: &ArgMatches<'_>) -> Result<Options, AllocE
     Ok(Options {
         selector: String::from_str(alloc, matches.get_str("selector").unwrap_or(""))?,
         from: format_in(matches),
+        key: key_in(matches),
         to: form_in(matches),
         count: matches.get_flag("count"),
         quiet: matches.get_flag("quiet"),
         invert: matches.get_flag("invert"),
         strict: matches.get_flag("strict"),
+        notes: !matches.get_flag("no-notes"),
         files: files_in(alloc, matches)?,
     })
 }
@@ -152,20 +189,26 @@ fn files_in(alloc: Global, matches: &ArgMatches<'_>) -> Result<Vec<String>, Allo
 
 // The format that is given.
 fn format_in(matches: &ArgMatches<'_>) -> Option<Format> {
-    match matches.get_str("from")? {
-        "hayagriva" => Some(Format::Hayagriva),
-        "csl-json" => Some(Format::CslJson),
-        "json-lines" => Some(Format::JsonLines),
-        _ => Some(Format::Lines),
+    Format::named(matches.get_str("from")?)
+}
+
+// The member that is given.
+fn key_in(matches: &ArgMatches<'_>) -> ItemKey {
+    match matches.get_str("key") {
+        Some("id") => ItemKey::Id,
+        _ => ItemKey::CitationKey,
     }
 }
 
 // The form that is given.
 fn form_in(matches: &ArgMatches<'_>) -> Form {
     match matches.get_str("to") {
-        Some("lines") => Form::Lines,
-        Some("hayagriva") => Form::Hayagriva,
-        Some("json-lines") => Form::JsonLines,
-        _ => Form::Keys,
+        Some(name) => Form::named(name).unwrap_or(Form::Keys),
+        None => Form::Keys,
     }
+}
+
+// What is to be listed.
+fn list_in(matches: &ArgMatches<'_>) -> Option<List> {
+    List::named(matches.get_str("list")?)
 }

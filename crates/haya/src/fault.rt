@@ -1,5 +1,6 @@
 //! Why the process ends with status 2 before anything is asked.
 use std::alloc::{AllocError, AllocFailed};
+use std::io;
 use thiserror::Error;
 
 /// Why there is nothing to ask.
@@ -11,9 +12,22 @@ pub enum StartFault {
     /// No keys for the library's map can be drawn.
     #[error("no random keys")]
     NoKeys,
+    /// What `--list` prints can't be printed.
+    #[error("cannot write")]
+    CannotWrite,
     /// An allocation failed.
     #[error("out of memory")]
     OutOfMemory,
+}
+
+impl StartFault {
+    /// Why the arguments can't be had, where this is the error.
+    pub fn of_words(error: &io::Error) -> StartFault {
+        match error.kind() {
+            io::ErrorKind::OutOfMemory => StartFault::OutOfMemory,
+            _ => StartFault::NoWords,
+        }
+    }
 }
 
 impl From<AllocError> for StartFault {

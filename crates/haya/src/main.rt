@@ -4,14 +4,18 @@
 mod arguments;
 mod fault;
 mod files;
+mod help;
+mod lists;
 mod progress;
 mod streaming;
 
-use arguments::{Arguments, arguments_of};
+use arguments::{Arguments, Request, request_of};
 use fault::StartFault;
 use files::read_files;
 use haya_command::{Fault, Options, complain, run};
+use haya_stream::{WriteFault, write_text};
 use hayagriva::{HashKeys, Selector};
+use lists::List;
 use progress::Progress;
 use std::alloc::Global;
 use std::env;
@@ -30,8 +34,9 @@ fn main(rt: HostRuntime) -> ExitCode {
     let Arguments {
         options,
         stream: streams,
-    } = match arguments_of(alloc, words.as_slice()) {
-        Ok(arguments) => arguments,
+    } = match request_of(alloc, words.as_slice()) {
+        Ok(Request::Ask(arguments)) => arguments,
+        Ok(Request::List(list)) => return ended(print_list(alloc, list, &mut out, &mut err)),
         Err(error) => {
             let _ = error.print(&rt);
             return ended(if error.use_stderr() { 2 } else { 0 });
@@ -63,7 +68,7 @@ fn run_files<F: Files, R: Read, W: Write, E: Write + IsTerminal>(
 ) -> u8 {
     let is_shown = err.is_terminal() && !options.quiet;
     let mut progress = Progress::new(err, is_shown);
-    let read = read_files(alloc, rt, options.files.as_slice(), stdin, &mut progress);
+    let read = read_files(alloc, rt, options, stdin, &mut progress);
     progress.end();
     match read {
         Ok(inputs) => run(alloc, keys, options, inputs.as_slice(), out, err),
@@ -75,7 +80,19 @@ fn run_files<F: Files, R: Read, W: Write, E: Write + IsTerminal>(
 fn words(rt: &(impl env::Env + AllocGlobal)) -> Result<Vec<String>, StartFault> {
     match env::args(rt) {
         Ok(words) => Ok(words.collect(rt.alloc())?),
-        Err(_) => Err(StartFault::NoWords),
+        Err(error) => Err(StartFault::of_words(&error)),
+    }
+}
+
+// Prints a list, and answers the status. Where nobody reads it, nothing is told.
+fn print_list<W: Write, E: Write>(alloc: Global, list: List, out: &mut W, err: &mut E) -> u8 {
+    let Ok(text) = list.text(alloc) else {
+        return tell(&StartFault::OutOfMemory, err);
+    };
+    match write_text(out, text.as_str()) {
+        Ok(()) => 0,
+        Err(WriteFault::Closed) => 2,
+        Err(WriteFault::CannotWrite) => tell(&StartFault::CannotWrite, err),
     }
 }
 

@@ -1,12 +1,13 @@
 //! Asks the entries of files one after another, as they are read.
 use haya_command::{
-    Asker, Fault, Format, Options, ask_csl_json, ask_hayagriva, ask_json_lines, ask_lines,
-    complain, end_asking, tell_notes, warn,
+    Asker, Fault, Format, MARKED_BLOCK, Options, SIGNATURE_LEN, STANDARD_INPUT, ask_csl_json,
+    ask_hayagriva, ask_json_lines, ask_lines, check_selector, complain, end_asking, input_format,
+    read_block, tell_notes, warn, without_mark,
 };
 use hayagriva::HashKeys;
 use std::alloc::Global;
 use std::fs::File;
-use std::io::{Read, Write};
+use std::io::{Cursor, Read, Write};
 use std::rt::Files;
 
 /// Prints the hits of the entries of these files in turn, of standard input for `-` or where there
@@ -37,10 +38,11 @@ fn print_hits<F: Files, R: Read, W: Write, E: Write>(
     out: &mut W,
     err: &mut E,
 ) -> Result<bool, Fault> {
+    check_selector(alloc, options.selector.as_str())?;
     let mut asker = Asker::new(alloc, keys, options)?;
     warn(alloc, options, err);
     if options.files.is_empty() {
-        asker = ask_input(alloc, asker, "standard input", stdin, out, err)?;
+        asker = ask_input(alloc, asker, STANDARD_INPUT, &mut *stdin, out, err)?;
     }
     for file in &options.files {
         if options.quiet && asker.hits > 0 {
@@ -48,7 +50,15 @@ fn print_hits<F: Files, R: Read, W: Write, E: Write>(
         }
         asker = ask_file(alloc, rt, asker, file.as_str(), stdin, out, err)?;
     }
+    tell_left(alloc, &asker, err);
     end_asking(asker, out)
+}
+
+// Tells what lines leave out of the hits that are printed.
+fn tell_left<E: Write>(alloc: Global, asker: &Asker<'_>, err: &mut E) {
+    if let Ok(text) = asker.left.text(alloc) {
+        tell_notes(asker.options, text.as_str(), err);
+    }
 }
 
 // Asks the entries of a file, or of standard input.
@@ -62,10 +72,10 @@ fn ask_file<'o, F: Files, R: Read, W: Write, E: Write>(
     err: &mut E,
 ) -> Result<Asker<'o>, Fault> {
     if name == "-" {
-        return ask_input(alloc, asker, "standard input", stdin, out, err);
+        return ask_input(alloc, asker, STANDARD_INPUT, stdin, out, err);
     }
     match File::open(rt, name) {
-        Ok(mut file) => ask_input(alloc, asker, name, &mut file, out, err),
+        Ok(file) => ask_input(alloc, asker, name, file, out, err),
         Err(error) => {
             let name = String::from_str(alloc, name)?;
             Err(Fault::CannotRead(name, error))
@@ -73,23 +83,66 @@ fn ask_file<'o, F: Files, R: Read, W: Write, E: Write>(
     }
 }
 
-// Asks the entries of an input that is called so, in lines where no format is given, and tells what
-// is passed over of it.
-fn ask_input<'o, R: Read, W: Write, E: Write>(
+// Asks the entries of an input that is called so, in the format that is given, otherwise the one
+// that is guessed from its first block, and tells what is passed over of it. Nothing is asked before
+// so many bytes are there as tell the format.
+fn ask_input<'o, R: Read + Drop, W: Write, E: Write>(
     alloc: Global,
     asker: Asker<'o>,
     name: &str,
-    input: &mut R,
+    mut input: R,
     out: &mut W,
     err: &mut E,
 ) -> Result<Asker<'o>, Fault> {
+    let given = asker.options.from;
+    let first = first_bytes(alloc, name, given, &mut input)?;
+    let format = input_format(alloc, name, given, first.as_slice())?.keyed_by(asker.options.key);
     let mut notes = String::new(alloc);
-    let asked = match asker.options.from {
-        None | Some(Format::Lines) => ask_lines(asker, name, input, out)?,
-        Some(Format::JsonLines) => ask_json_lines(asker, name, &mut notes, input, out)?,
-        Some(Format::CslJson) => ask_csl_json(asker, name, &mut notes, input, out)?,
-        Some(Format::Hayagriva) => ask_hayagriva(asker, name, &mut notes, input, out)?,
-    };
+    let whole = Cursor::new(first).chain(input);
+    let asked = ask_rest(asker, name, format, &mut notes, whole, out)?;
     tell_notes(asked.options, notes.as_str(), err);
     Ok(asked)
+}
+
+// The first bytes of an input that is called so, without a byte order mark: so many as tell its
+// format, or, where one is given, whether it is in another encoding, or an archive.
+fn first_bytes<R: Read>(
+    alloc: Global,
+    name: &str,
+    given: Option<Format>,
+    input: &mut R,
+) -> Result<Vec<u8>, Fault> {
+    let mut block = [0u8; MARKED_BLOCK];
+    let most = match given {
+        Some(_) => SIGNATURE_LEN,
+        None => MARKED_BLOCK,
+    };
+    match read_block(input, &mut block[..most]) {
+        Ok(len) => {
+            let mut bytes = Vec::new(alloc);
+            bytes.extend_from_slice(without_mark(&block[..len]))?;
+            Ok(bytes)
+        }
+        Err(error) => {
+            let name = String::from_str(alloc, name)?;
+            Err(Fault::CannotRead(name, error))
+        }
+    }
+}
+
+// Asks the entries of an input in this format.
+fn ask_rest<'o, R: Read + Drop, W: Write>(
+    asker: Asker<'o>,
+    name: &str,
+    format: Format,
+    notes: &mut String,
+    mut input: R,
+    out: &mut W,
+) -> Result<Asker<'o>, Fault> {
+    match format {
+        Format::Lines => ask_lines(asker, name, &mut input, out),
+        Format::JsonLines => ask_json_lines(asker, name, notes, &mut input, out),
+        Format::CslJson(key) => ask_csl_json(asker, key, name, notes, &mut input, out),
+        Format::Hayagriva => ask_hayagriva(asker, name, notes, &mut input, out),
+    }
 }

@@ -1,8 +1,14 @@
 mod ElementLists
 mod EntryLists
+mod Readers
+mod FirstBlock
 mod JsonParts
 mod Lines
+mod LinesFault
+mod Members
 mod PrintedLines
+mod SaidWhole
 mod Streams
 mod Together
 mod Written
+mod Settled

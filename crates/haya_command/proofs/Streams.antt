@@ -14,19 +14,17 @@ use Rattle.hayagriva.specs.Tree.{Tree}
 use Rattle.hayagriva.specs.declared.query.Hit.{Hit}
 use Rattle.haya_csl.proofs.ItemLists as item_lists
 use Rattle.haya_json.proofs.MemberLists as member_lists
-use Rattle.haya_hits.specs.Line.{AreLines, IsLineOf}
+use Rattle.haya_hits.specs.Line.{AreLines, IsEscapedLineOf}
 use Rattle.haya_lines.specs.Signs.{line_feed}
 use Rattle.haya_list.specs.Listed as list
 use Rattle.haya_list.specs.Listed.{Replies, Run, entries_of, printed_of}
 use Rattle.haya_list.specs.declared.fault.ListRefusal.{ListRefusal}
 use Rattle.haya_list.specs.declared.fault.ListRefusal.TheVariants.{Entry, Line}
-use Rattle.haya_printing.specs.Printed.{entry_text}
 use Rattle.haya_printing.specs.declared.error.LinesError.{LinesError}
-use Rattle.haya_stream.proofs.Taken.{flat_map-append}
 use Rattle.haya_stream.specs.Streamed.{IsEndedPart}
 use Rattle.haya_stream.specs.declared.fault.StreamFault.{StreamFault}
 use Rattle.haya_stream.specs.declared.fault.StreamFault.TheVariants as stream
-use Rattle.haya_command.specs.Printed.{IsJsonLineOf, IsTextOf}
+use Rattle.haya_command.specs.Printed.{IsJsonLineOf, IsPrintedOf, IsTextOf}
 use Rattle.haya_command.specs.AskedLines.{BeginsListIn, IsAccepted, IsErrorIn, IsListIn}
 use Rattle.haya_command.specs.Reading.{Describes, IsReadAs, IsWhole, format_in}
 use Rattle.haya_command.specs.Streamed.{AsksEntry, AsksFirst, AsksInput, AsksPart, IsStreamFault, IsTold, Why}
@@ -58,31 +56,31 @@ AreLines-append R xs ys a b h k = record {
   text = rw (h.text, k.text) (sym (concat-append h.lines k.lines));
 }
 
-IsTextOf-nil : (to : Form) → to ≢ Hayagriva → IsTextOf to [] []
-IsTextOf-nil Keys not = record { lines = []; each = tt; text = refl }
-IsTextOf-nil Lines not = refl
-IsTextOf-nil Hayagriva not = absurd (not refl)
-IsTextOf-nil JsonLines not = record { lines = []; each = tt; text = refl }
+IsTextOf-nil : (strict : Bool) (to : Form) → to ≢ Hayagriva → IsTextOf strict to [] []
+IsTextOf-nil strict Keys not = record { lines = []; each = tt; text = refl }
+IsTextOf-nil strict Lines not = record { lines = []; each = tt; text = refl }
+IsTextOf-nil strict Hayagriva not = absurd (not refl)
+IsTextOf-nil strict JsonLines not = record { lines = []; each = tt; text = refl }
 
-IsTextOf-append : (to : Form) → to ≢ Hayagriva → (xs ys : List Hit) (a b : List ℕ) → IsTextOf to xs a → IsTextOf to ys b → IsTextOf to (xs ++ ys) (a ++ b)
-IsTextOf-append Keys not xs ys a b h k = AreLines-append IsLineOf xs ys a b h k
-IsTextOf-append Lines not xs ys a b h k = rw (h, k) (sym (flat_map-append (λ hit. entry_text (hit_entry hit)) xs ys))
-IsTextOf-append Hayagriva not xs ys a b h k = absurd (not refl)
-IsTextOf-append JsonLines not xs ys a b h k = AreLines-append IsJsonLineOf xs ys a b h k
+IsTextOf-append : (strict : Bool) (to : Form) → to ≢ Hayagriva → (xs ys : List Hit) (a b : List ℕ) → IsTextOf strict to xs a → IsTextOf strict to ys b → IsTextOf strict to (xs ++ ys) (a ++ b)
+IsTextOf-append strict Keys not xs ys a b h k = AreLines-append IsEscapedLineOf xs ys a b h k
+IsTextOf-append strict Lines not xs ys a b h k = AreLines-append (IsPrintedOf strict) xs ys a b h k
+IsTextOf-append strict Hayagriva not xs ys a b h k = absurd (not refl)
+IsTextOf-append strict JsonLines not xs ys a b h k = AreLines-append IsJsonLineOf xs ys a b h k
 
-abbrev Shows : Bool → Bool → Form → List Hit → List ℕ → Type 0
-Shows quiet count to hits text = MatchBool quiet (text ≡ []) (MatchBool count (text ≡ []) (IsTextOf to hits text))
+abbrev Shows : Bool → Bool → Bool → Form → List Hit → List ℕ → Type 0
+Shows quiet count strict to hits text = MatchBool quiet (text ≡ []) (MatchBool count (text ≡ []) (IsTextOf strict to hits text))
 
-shows-nil : (quiet count : Bool) (to : Form) → to ≢ Hayagriva → Shows quiet count to [] []
-shows-nil true count to not = refl
-shows-nil false true to not = refl
-shows-nil false false to not = IsTextOf-nil to not
+shows-nil : (quiet count strict : Bool) (to : Form) → to ≢ Hayagriva → Shows quiet count strict to [] []
+shows-nil true count strict to not = refl
+shows-nil false true strict to not = refl
+shows-nil false false strict to not = IsTextOf-nil strict to not
 
-shows-append : (quiet count : Bool) (to : Form) → to ≢ Hayagriva → (xs ys : List Hit) (a b : List ℕ) → Shows quiet count to xs a → Shows quiet count to ys b
-    → Shows quiet count to (xs ++ ys) (a ++ b)
-shows-append true count to not xs ys a b h k = rw (h, k) refl
-shows-append false true to not xs ys a b h k = rw (h, k) refl
-shows-append false false to not xs ys a b h k = IsTextOf-append to not xs ys a b h k
+shows-append : (quiet count strict : Bool) (to : Form) → to ≢ Hayagriva → (xs ys : List Hit) (a b : List ℕ) → Shows quiet count strict to xs a → Shows quiet count strict to ys b
+    → Shows quiet count strict to (xs ++ ys) (a ++ b)
+shows-append true count strict to not xs ys a b h k = rw (h, k) refl
+shows-append false true strict to not xs ys a b h k = rw (h, k) refl
+shows-append false false strict to not xs ys a b h k = IsTextOf-append strict to not xs ys a b h k
 
 AreHits-append : (s : Syntax) (xs ys : List Tree) (a b : List Hit) → AreHits s xs a → AreHits s ys b → AreHits s (xs ++ ys) (a ++ b)
 AreHits-append s xs ys a b h k = rw (filter-append (holds s) xs ys) (AllZip-append (IsHit s) (filter (holds s) xs) (filter (holds s) ys) a b h k)
@@ -98,7 +96,7 @@ pub none_asked : (s : Syntax) (x : Tree) → holds s x ≡ false → AreHits s (
 none_asked s x h = rw h tt
 
 pub nothing_told : (options : Options) → options.to ≢ Hayagriva → IsTold options [] []
-nothing_told options not = shows-nil options.quiet options.count options.to not
+nothing_told options not = shows-nil options.quiet options.count options.strict options.to not
 
 module _ {S : Type 0} (options : S → Options) (selector : S → Syntax) (hits : S → ℕ) (is_done : S → Bool) where
   abbrev pub Asks : S → Tree → List ℕ → S → Type 0
@@ -119,7 +117,7 @@ module _ {S : Type 0} (options : S → Options) (selector : S → Syntax) (hits 
       (record {
         found = [];
         are = tt;
-        shows = shows-nil (options s).quiet (options s).count (options s).to not;
+        shows = shows-nil (options s).quiet (options s).count (options s).strict (options s).to not;
         count = omega arith;
         same_options = refl;
         same_selector = refl;
@@ -134,7 +132,7 @@ module _ {S : Type 0} (options : S → Options) (selector : S → Syntax) (hits 
         found = one.hits ++ rest.found;
         are = AreHits-append (selector s) (entry ∷ []) (entries_of replies) one.hits rest.found one.are (rw one.same_selector at rest.are);
         shows =
-            shows-append (options s).quiet (options s).count (options s).to not one.hits rest.found printed (printed_of replies) one.told
+            shows-append (options s).quiet (options s).count (options s).strict (options s).to not one.hits rest.found printed (printed_of replies) one.told
             (rw one.same_options at rest.shows);
         count = rw (length-append one.hits rest.found) (omega arith);
         same_options = rest.same_options ∙ one.same_options;
@@ -170,9 +168,9 @@ module _ {S : Type 0} (options : S → Options) (selector : S → Syntax) (hits 
           prints = a.prints;
         }
 
-    nothing : (quiet count : Bool) (to : Form) (xs : List Hit) (text : List ℕ) → quiet ≡ true → Shows quiet count to xs text → text ≡ []
-    nothing true count to xs text h shows = shows
-    nothing false count to xs text h shows = absurd (cc)
+    nothing : (quiet count strict : Bool) (to : Form) (xs : List Hit) (text : List ℕ) → quiet ≡ true → Shows quiet count strict to xs text → text ≡ []
+    nothing true count strict to xs text h shows = shows
+    nothing false count strict to xs text h shows = absurd (cc)
 
     quiet_of : (q h : Bool) → (q && h) ≡ true → q ≡ true
     quiet_of true h both = refl
@@ -200,7 +198,7 @@ module _ {S : Type 0} (options : S → Options) (selector : S → Syntax) (hits 
           count = c.count;
           quiet = still;
           found = some;
-          prints = subst (Appends before after) (nothing (options s).quiet (options s).count (options s).to c.found (printed_of a.replies) still c.shows) a.prints;
+          prints = subst (Appends before after) (nothing (options s).quiet (options s).count (options s).strict (options s).to c.found (printed_of a.replies) still c.shows) a.prints;
         }
 
     pub asks_enough : (format : Format) (Begins : Option (List ℕ) → List ℕ → List Tree → Type 0) → ((text : List ℕ) (entries : List Tree) → Begins left text entries → BeginsListIn format left text entries)
@@ -249,12 +247,12 @@ module _ {L : Type 0} (options : Options) (format : Format) (name : List ℕ) (I
   stream_why text unwritten stream.OutOfMemory e (inr h) why = rw h tt
 
 -- ---- laws
-pub told_answers : (quiet count : Bool) (to : Form) (hits : List Hit) (printed : List ℕ) → Shows quiet count to hits printed
+pub told_answers : (quiet count strict : Bool) (to : Form) (hits : List Hit) (printed : List ℕ) → Shows quiet count strict to hits printed
     → MatchBool quiet (printed ++ ended quiet count (length hits) ≡ [])
-    (MatchBool count (printed ++ ended quiet count (length hits) ≡ decimal (length hits) ++ line_feed ∷ []) (IsTextOf to hits (printed ++ ended quiet count (length hits))))
-told_answers true count to hits printed told = rw told refl
-told_answers false true to hits printed told = rw told refl
-told_answers false false to hits printed told = rw (append-nil printed) told
+    (MatchBool count (printed ++ ended quiet count (length hits) ≡ decimal (length hits) ++ line_feed ∷ []) (IsTextOf strict to hits (printed ++ ended quiet count (length hits))))
+told_answers true count strict to hits printed told = rw told refl
+told_answers false true strict to hits printed told = rw told refl
+told_answers false false strict to hits printed told = rw (append-nil printed) told
 
 -- where no key comes again, the entries that a text lists are its library
 pub list_read : (options : Options) (text : List ℕ) (entries : List Tree) → (IsTrue options.strict → IsWhole (format_in options text) text) → IsListIn (format_in options text) text entries
@@ -268,4 +266,4 @@ list_read options text entries whole listed distinct = record { describes = by (
     by format.Lines listed = record { entries = entries; rows = listed; of_entries = of_list }
     by format.JsonLines listed = record { entries = entries; listed = listed; of_entries = of_list }
     by format.Hayagriva listed = member_lists.library_of_list text entries listed distinct
-    by format.CslJson listed = item_lists.library_of_list text entries listed distinct
+    by (format.CslJson key) listed = item_lists.library_of_list key text entries listed distinct

@@ -1,14 +1,19 @@
 -- What a library answers to what is asked.
-use Rattle.std.specs.Prelude.{◌≡◌, ◌<◌, ◌↔◌, ℕ, Bool, IsTrue, MatchBool, List, [], ◌∷◌, ◌++◌, decimal, length, string_bytes}
+use Rattle.std.specs.Prelude.{◌≡◌, ◌⊎◌, ◌<◌, ◌↔◌, ℕ, Bool, IfSome, IsTrue, MatchBool, List, [], ◌∷◌, ◌++◌, decimal, length, string_bytes}
 use Rattle.std.specs.Str.{chars}
+use Rattle.hayagriva.specs.Fault as selector
 use Rattle.hayagriva.specs.Query.{AreHits}
-use Rattle.hayagriva.specs.Reading.{TextReads}
+use Rattle.hayagriva.specs.Reading.{TextFails, TextReads}
 use Rattle.hayagriva.specs.Syntax.{Syntax}
 use Rattle.hayagriva.specs.Tree.{Tree}
 use Rattle.hayagriva.specs.declared.query.Hit.{Hit}
 use Rattle.haya_lines.specs.Signs.{line_feed}
+use Rattle.haya_printing.specs.declared.error.LinesError.TheVariants as lines
 use Rattle.haya_command.specs.Picks.{wanted}
 use Rattle.haya_command.specs.Printed.{IsTextOf}
+use Rattle.haya_command.specs.declared.fault.Fault.{Fault}
+use Rattle.haya_command.specs.declared.fault.Fault.TheVariants as fault
+use Rattle.haya_command.specs.declared.form.Form.TheVariants.{Lines}
 use Rattle.haya_command.specs.declared.options.Options.{Options}
 
 -- What is printed of hits:
@@ -19,7 +24,7 @@ abbrev pub IsShown : Options → List Hit → List ℕ → Type 0
 IsShown options hits text =
     MatchBool options.quiet (text ≡ [])
     (MatchBool options.count (text ≡ decimal (length hits) ++ line_feed ∷ [])
-    (IsTextOf options.to hits text))
+    (IsTextOf options.strict options.to hits text))
 
 -- the answer of a library: the selector's text is read, and its hits, or, inverted, those of its
 -- opposite, are printed; it is found where there is one
@@ -31,3 +36,13 @@ pub record IsAnswer (options : Options) (library : List Tree) (text : List ℕ) 
   pub picks : AreHits (wanted options.invert selector) library hits
   pub shows : IsShown options hits text
   pub found_one : IsTrue found ↔ (0 < length hits)
+
+-- What a fault says where nothing is answered: the selector's text is none, or, in a strict run, a
+-- hit can't be printed in lines. Nothing is said where memory is out.
+abbrev pub IsAnswerFault : Options → Fault → Type 0
+IsAnswerFault options (fault.Selector e) =
+    IfSome (selector.fault e) (TextFails (chars (string_bytes options.selector)))
+IsAnswerFault options (fault.NotPrintable e) =
+    (e ≡ lines.OutOfMemory) ⊎ (IsTrue options.strict × (options.to ≡ Lines))
+IsAnswerFault options fault.OutOfMemory = Unit {0}
+IsAnswerFault options _ = ⊥

@@ -6,14 +6,14 @@ use Rattle.hayagriva.specs.Tree.{Tree}
 use Rattle.haya_csl.specs.ItemLines as item_lines
 use Rattle.haya_elements.specs.Elements.{element_lines, nonempty_lines}
 use Rattle.haya_elements.specs.declared.place.Brackets.TheVariants.{Curly, Square}
-use Rattle.haya_json.specs.Ignored.{counts_of}
+use Rattle.haya_csl.specs.declared.item_key.ItemKey.{ItemKey}
 use Rattle.haya_json.specs.JsonLines as json_lines
 use Rattle.haya_json.specs.MemberLines as member_lines
-use Rattle.haya_json.specs.Tally.{all_counted}
+use Rattle.haya_json.specs.Notes.{NotesView, all_kept}
+use Rattle.haya_json.specs.Tally.{Counts, all_counted}
 use Rattle.haya_json.specs.declared.error.ElementError.{ElementError}
 use Rattle.haya_json.specs.declared.error.ReadError.{ReadError}
 use Rattle.haya_json.specs.declared.error.ReadError.TheVariants as read_error
-use Rattle.haya_json.specs.declared.ignored.Ignored.{Ignored}
 use Rattle.haya_list.specs.Lines as lines_list
 use Rattle.haya_list.specs.declared.fault.EntryFault.{EntryFault}
 use Rattle.haya_list.specs.declared.fault.EntryFault.TheVariants as entry_fault
@@ -28,14 +28,14 @@ use Rattle.haya_command.specs.declared.options.Options.{Options}
 
 -- The lines that a text is asked by: an item or a member of JSON a line, or its own.
 abbrev pub asked_lines : Format → List ℕ → List ℕ
-asked_lines CslJson text = element_lines Square text
+asked_lines (CslJson key) text = element_lines Square text
 asked_lines Hayagriva text = element_lines Curly text
 asked_lines _ text = text
 
 -- the entry that a line says, in a format in which each line has one
 abbrev pub IsLineIn : Format → List ℕ → Tree → Type 0
 IsLineIn JsonLines line entry = json_lines.IsLineOf line entry
-IsLineIn CslJson line entry = item_lines.IsItemLineOf line entry
+IsLineIn (CslJson key) line entry = item_lines.IsItemLineOf key line entry
 IsLineIn Hayagriva line entry = member_lines.IsMemberLineOf line entry
 IsLineIn Lines line entry = ⊥
 
@@ -43,7 +43,7 @@ IsLineIn Lines line entry = ⊥
 abbrev pub IsListIn : Format → List ℕ → List Tree → Type 0
 IsListIn Lines text entries = lines_list.IsListOf text entries
 IsListIn JsonLines text entries = json_lines.IsListOf text entries
-IsListIn CslJson text entries = item_lines.Lists text entries
+IsListIn (CslJson key) text entries = item_lines.Lists key text entries
 IsListIn Hayagriva text entries = member_lines.Lists text entries
 
 -- a first part of lines, or all, lists these entries
@@ -60,40 +60,58 @@ BeginsListIn format left text entries = BeginsLines format text entries
 
 -- ---- what is passed over
 
--- of the entry of a line
+-- the names of members, of the entry of a line of hayagriva's format
 abbrev pub line_passed_over : Format → List ℕ → List (List ℕ)
 line_passed_over JsonLines line = json_lines.line_passed_over line
-line_passed_over CslJson line = item_lines.line_passed_over line
 line_passed_over Hayagriva line = member_lines.line_passed_over line
-line_passed_over Lines line = []
+line_passed_over _ line = []
 
--- of the entries of lines
-abbrev pub lines_passed_over : Format → List (List ℕ) → List (List ℕ)
-lines_passed_over format ls = flat_map (line_passed_over format) (nonempty_lines ls)
+-- of the entries of lines, as they are told of each
+abbrev pub of_lines : {P : Type 0} → (List ℕ → List P) → List (List ℕ) → List P
+of_lines of_line ls = flat_map of_line (nonempty_lines ls)
 
--- in a strict run nothing is passed over of a text; of lines that are no JSON nothing ever is
+-- something is told of the entries of lines
+abbrev pub TellsOfLines : Format → List (List ℕ) → Type 0
+TellsOfLines (CslJson key) ls = of_lines (item_lines.line_told key) ls ≢ []
+TellsOfLines format ls = of_lines (line_passed_over format) ls ≢ []
+
+-- Nothing is told of a text whose entries are asked as they are read. Keys that come again aren't
+-- looked for, and of lines that are no JSON nothing else is ever told.
+abbrev pub TellsNothing : Format → List ℕ → Type 0
+TellsNothing Lines text = Unit {0}
+TellsNothing (CslJson key) text =
+    of_lines (item_lines.line_told key) (lines (asked_lines (CslJson key) text)) ≡ []
+TellsNothing format text = IsWhole format text
+
+-- in a strict run nothing is told of a text
 abbrev pub IsAccepted : Options → Format → List ℕ → Type 0
-IsAccepted options Lines text = Unit {0}
-IsAccepted options format text = IsTrue options.strict → IsWhole format text
+IsAccepted options format text = IsTrue options.strict → TellsNothing format text
 
 -- something is passed over of a first part of the lines, or of all
 abbrev pub PassesOverFirst : Format → List ℕ → Type 0
 PassesOverFirst format text =
     (first : List (List ℕ)) × (more : List (List ℕ)) × (lines text ≡ first ++ more)
-    × (lines_passed_over format first ≢ [])
+    × TellsOfLines format first
 
--- what one who reads a line says of it, and counts of what is passed over
-pub record ReadsLine (format : Format) (before : Ignored) (line : List ℕ) (entry : Tree)
-    (after : Ignored) : Type 0 where
+-- what one who reads a line says of it, and what is kept of what is told of it
+pub record ReadsLine {K : Type 0} (format : Format) (told : List ℕ → K → K) (before : K)
+    (line : List ℕ) (entry : Tree) (after : K) : Type 0 where
   pub says : IsLineIn format line entry
-  pub counts : counts_of after
-      ≡ all_counted (line_passed_over format line) (counts_of before)
+  pub kept : after ≡ told line before
 
 -- the same of the element at this place, which is counted
-pub record ReadsElement (format : Format) (place : ℕ) (before : Ignored) (line : List ℕ)
-    (entry : Tree) (next : ℕ) (after : Ignored) : Type 0 where
-  pub reads : ReadsLine format before line entry after
+pub record ReadsElement {K : Type 0} (format : Format) (told : List ℕ → K → K) (place : ℕ)
+    (before : K) (line : List ℕ) (entry : Tree) (next : ℕ) (after : K) : Type 0 where
+  pub reads : ReadsLine format told before line entry after
   pub number : next ≡ place + 1
+
+-- the counts after those of the names that are passed over of a line
+abbrev pub line_counted : Format → List ℕ → Counts → Counts
+line_counted format line counts = all_counted (line_passed_over format line) counts
+
+-- what is kept after what is told of an item's line
+abbrev pub item_kept : ItemKey → List ℕ → NotesView → NotesView
+item_kept key line kept = all_kept (item_lines.line_told key line) kept
 
 -- ---- faults of lines
 
@@ -112,7 +130,8 @@ IsElementErrorFor entry_fault.TooMany e =
 
 -- what is wrong with the line of the element at this place
 abbrev pub IsElementErrorOf : Format → ℕ → List ℕ → ReadError → Type 0
-IsElementErrorOf CslJson place line error = item_lines.IsItemLineErrorOf place line error
+IsElementErrorOf (CslJson key) place line error =
+    item_lines.IsItemLineErrorOf key place line error
 IsElementErrorOf Hayagriva place line error = member_lines.IsMemberLineErrorOf line error
 IsElementErrorOf _ place line error = ⊥
 
@@ -135,8 +154,8 @@ pub record FirstElementError (format : Format) (text : List ℕ) (e : ElementErr
 
 -- what an error says of the lines of a text
 abbrev pub IsErrorIn : Format → List ℕ → InputError → Type 0
-IsErrorIn CslJson text (input_error.Element e) =
-    (e.error ≡ read_error.OutOfMemory) ⊎ FirstElementError CslJson text e
+IsErrorIn (CslJson key) text (input_error.Element e) =
+    (e.error ≡ read_error.OutOfMemory) ⊎ FirstElementError (CslJson key) text e
 IsErrorIn Hayagriva text (input_error.Element e) =
     (e.error ≡ read_error.OutOfMemory) ⊎ FirstElementError Hayagriva text e
 IsErrorIn JsonLines text e = IsErrorOf JsonLines text e

@@ -1,8 +1,13 @@
 pub mod Answer
 pub mod AskedLines
+pub mod Block
+pub mod Foreign
+pub mod Form
 pub mod Formats
+pub mod Likeness
 pub mod Picks
 pub mod Printed
 pub mod Reading
 pub mod Run
+pub mod SelectorText
 pub mod Streamed

@@ -1,7 +1,6 @@
 -- What is printed of hits.
-use Rattle.std.specs.Prelude.{◌≡◌, ◌<◌, ℕ, List, [], ◌∷◌, ◌++◌, codes, map, None}
+use Rattle.std.specs.Prelude.{◌≡◌, ◌⊎◌, ◌<◌, ℕ, Any, Bool, IsTrue, List, [], ◌∷◌, ◌++◌, codes, map, None}
 use Rattle.std.specs.Cmp.Lexicographic.{slice_cmp}
-use Rattle.std.specs.List.{flat_map}
 use Rattle.std.specs.List.Sorted.{IsStrictlySortedBy}
 use Rattle.std.specs.Map.{keys_of, lookup}
 use Rattle.std.specs.Ordering.{nat_cmp}
@@ -15,10 +14,12 @@ use Rattle.hayagriva.specs.Library.{key_of}
 use Rattle.hayagriva.specs.Query.{hit_entry}
 use Rattle.hayagriva.specs.Tree.{Tree}
 use Rattle.hayagriva.specs.declared.query.Hit.{Hit}
-use Rattle.haya_hits.specs.Line.{AreLines, IsLineOf, bound_key}
+use Rattle.haya_hits.specs.Line.{AreLines, IsEscapedLineOf, bound_key}
 use Rattle.haya_json.specs.Printed.{json_of, library_json}
 use Rattle.haya_lines.specs.Signs.{line_feed}
-use Rattle.haya_printing.specs.Printed.{entry_text}
+use Rattle.haya_printing.specs.LeftOut.{AreLinesOf, IsPrintable, Named}
+use Rattle.haya_printing.specs.declared.error.LinesError.{LinesError}
+use Rattle.haya_printing.specs.declared.error.LinesError.TheVariants.{OutOfMemory}
 use Rattle.haya_command.specs.declared.form.Form.{Form}
 use Rattle.haya_command.specs.declared.form.Form.TheVariants.{Keys, Lines, Hayagriva, JsonLines}
 
@@ -54,15 +55,29 @@ pub record IsJsonLineOf (hit : Hit) (line : List ℕ) : Type 0 where
       print (json_tokens (hit_json (key_of (hit_entry hit)) names (hit_entry hit)))
       ++ line_feed ∷ []
 
+-- ---- the lines of an entry
+
+-- the lines of what they can say of a hit's entry: in a strict run all of it
+pub record IsPrintedOf (strict : Bool) (hit : Hit) (text : List ℕ) : Type 0 where
+  pub left : Named
+  pub lines : AreLinesOf (hit_entry hit) text left
+  pub whole : IsTrue strict → left ≡ []
+
+-- why entries aren't printed in a form: memory is out, or in a strict run no lines say one of them
+abbrev pub IsLinesFault : Bool → Form → List Tree → LinesError → Type 0
+IsLinesFault strict form entries e =
+    (e ≡ OutOfMemory)
+    ⊎ (IsTrue strict × (form ≡ Lines) × Any (λ t. ¬ IsPrintable t) entries)
+
 -- ---- all hits
 
 -- a library in hayagriva's file format, laid out, and a line feed
 abbrev pub library_text : List Tree → List ℕ
 library_text library = pretty (json_tokens (library_json library)) ++ line_feed ∷ []
 
--- the text of hits in a form
-abbrev pub IsTextOf : Form → List Hit → List ℕ → Type 0
-IsTextOf Keys hits text = AreLines IsLineOf hits text
-IsTextOf Lines hits text = text ≡ flat_map (λ hit. entry_text (hit_entry hit)) hits
-IsTextOf Hayagriva hits text = text ≡ library_text (map hit_entry hits)
-IsTextOf JsonLines hits text = AreLines IsJsonLineOf hits text
+-- the text of hits in a form, in a run that is strict or isn't
+abbrev pub IsTextOf : Bool → Form → List Hit → List ℕ → Type 0
+IsTextOf strict Keys hits text = AreLines IsEscapedLineOf hits text
+IsTextOf strict Lines hits text = AreLines (IsPrintedOf strict) hits text
+IsTextOf strict Hayagriva hits text = text ≡ library_text (map hit_entry hits)
+IsTextOf strict JsonLines hits text = AreLines IsJsonLineOf hits text

@@ -32,7 +32,7 @@ use Rattle.haya_command.specs.declared.options.Options.{Options}
 abbrev pub IsAskerFault : Options → Fault → Type 0
 IsAskerFault options (fault.Selector e) =
     IfSome (selector.fault e) (TextFails (chars (string_bytes options.selector)))
-IsAskerFault options fault.Unstreamed = options.to ≡ Hayagriva
+IsAskerFault options fault.CannotStream = options.to ≡ Hayagriva
 IsAskerFault options fault.OutOfMemory = Unit {0}
 IsAskerFault options _ = ⊥
 
@@ -41,7 +41,7 @@ IsAskerFault options _ = ⊥
 abbrev pub IsTold : Options → List Hit → List ℕ → Type 0
 IsTold options hits text =
     MatchBool options.quiet (text ≡ [])
-    (MatchBool options.count (text ≡ []) (IsTextOf options.to hits text))
+    (MatchBool options.count (text ≡ []) (IsTextOf options.strict options.to hits text))
 
 -- what is printed when all have come: their number, and a line feed, where it is asked for
 abbrev pub end_text : Options → ℕ → List ℕ
@@ -102,11 +102,14 @@ Why options format name text unwritten (fault.Input called e) =
 Why options format name text unwritten (fault.Unknown called members) =
     (string_bytes called ≡ name) × IsTrue options.strict × PassesOverFirst format text
     × (unwritten ≡ [])
+Why options format name text unwritten (fault.PassedOver called told) =
+    (string_bytes called ≡ name) × IsTrue options.strict × PassesOverFirst format text
+    × (unwritten ≡ [])
 Why options format name text unwritten (fault.CannotRead called e) =
     (string_bytes called ≡ name) × (unwritten ≡ [])
 Why options format name text unwritten (fault.NotText called) =
     (string_bytes called ≡ name) × Any (λ line. ¬ IsUtf8 line) (lines text) × (unwritten ≡ [])
-Why options format name text unwritten (fault.Unsaid e) = unwritten ≡ []
+Why options format name text unwritten (fault.NotPrintable e) = unwritten ≡ []
 Why options format name text unwritten fault.Closed = Unit {0}
 Why options format name text unwritten fault.CannotWrite = Unit {0}
 Why options format name text unwritten fault.OutOfMemory = Unit {0}
@@ -164,7 +167,7 @@ IsStreamFault converts name stream.NotText e =
 IsStreamFault converts name (stream.Refused (Line line)) e =
     (called : String Global) × (error : InputError) × (string_bytes called ≡ name)
     × converts line error × (e ≡ fault.Input called error)
-IsStreamFault converts name (stream.Refused (Entry error)) e = e ≡ fault.Unsaid error
+IsStreamFault converts name (stream.Refused (Entry error)) e = e ≡ fault.NotPrintable error
 IsStreamFault converts name (stream.CannotWrite error) e =
     (e ≡ fault.Closed) ⊎ (e ≡ fault.CannotWrite)
 IsStreamFault converts name stream.OutOfMemory e = e ≡ fault.OutOfMemory

@@ -1,15 +1,12 @@
 //! What a library answers.
-ghost use Rattle.std.specs.Prelude.{◌≡◌, ◌≢◌, [], ◌∷◌, ◌++◌, decimal, IfOk, IfSome};
-ghost use Rattle.std.specs.Prelude.{IsOkUnless, string_bytes};
-ghost use Rattle.std.specs.Str.{chars};
-ghost use Rattle.hayagriva.specs.Fault.{fault};
-ghost use Rattle.hayagriva.specs.Reading.{TextFails};
-ghost use Rattle.hayagriva.specs.declared.SelectorError.{SelectorError as SelectorErrorData};
-ghost use Rattle.haya_command.specs.Answer.{IsAnswer, IsShown};
-ghost use Rattle.haya_command.specs.declared.fault.Fault.TheVariants.{OutOfMemory, Selector};
+ghost use Rattle.std.specs.Prelude.{◌≡◌, [], ◌∷◌, ◌++◌, decimal, IfErr, IfOk, IsOkUnless};
+ghost use Rattle.std.specs.Prelude.{string_bytes};
+ghost use Rattle.haya_command.specs.Answer.{IsAnswer, IsAnswerFault, IsShown};
+ghost use Rattle.haya_command.specs.declared.fault.Fault.TheVariants.{OutOfMemory};
 ghost use Rattle.haya_lines.specs.Signs.{line_feed};
 
 use crate::fault::Fault;
+use crate::left::LeftNotes;
 use crate::options::Options;
 use crate::picking::picks;
 use crate::printing::hits_text;
@@ -23,29 +20,37 @@ pub struct Answer {
     pub text: String,
     /// Whether there is a hit.
     pub found: bool,
+    /// What lines leave out of the hits, if anything.
+    pub notes: String,
 }
 
-/// The answer of a library to what is asked. `Selector`: the selector's text is none. `Unsaid`: a
-/// hit can't be printed in lines.
+/// The answer of a library to what is asked. `Selector`: the selector's text is none.
+/// `NotPrintable`: in a strict run a hit can't be printed in lines.
 pub fn ask(alloc: Global, library: &Library, options: &Options) -> Result<Answer, Fault>
     ensures answer { IfOk result (λ answer.
         IsAnswer options.now library.now (string_bytes answer.text) answer.found) }
-    ensures selector { (e : SelectorErrorData) → result ≡ Err (Selector e) →
-        IfSome (fault e) (TextFails (chars (string_bytes options.now.selector))) }
+    ensures fault { IfErr result (IsAnswerFault options.now) }
 {
     let hits = match picks(alloc, library, options.selector.as_str(), options.invert) {
         Ok(hits) => hits,
         Err(error) => return Err(Fault::Selector(error)),
     };
     let found = !hits.is_empty();
-    let text = shown(alloc, hits.as_slice(), options)?;
-    Ok(Answer { text, found })
+    let mut left = LeftNotes::new(alloc);
+    let text = shown(alloc, hits.as_slice(), options, &mut left)?;
+    let notes = left.text(alloc)?;
+    Ok(Answer { text, found, notes })
 }
 
 // What is printed of the hits.
-fn shown(alloc: Global, hits: &[Hit], options: &Options) -> Result<String, Fault>
+fn shown(
+    alloc: Global,
+    hits: &[Hit],
+    options: &Options,
+    left: &mut LeftNotes,
+) -> Result<String, Fault>
     ensures shown { IfOk result (λ text. IsShown options.now hits.now (string_bytes text)) }
-    ensures selector { (e : SelectorErrorData) → result ≢ Err (Selector e) }
+    ensures fault { IfErr result (IsAnswerFault options.now) }
 {
     if options.quiet {
         return Ok(String::new(alloc));
@@ -53,9 +58,9 @@ fn shown(alloc: Global, hits: &[Hit], options: &Options) -> Result<String, Fault
     if options.count {
         return count_line(alloc, hits.len());
     }
-    match hits_text(alloc, hits, options.to) {
+    match hits_text(alloc, hits, options.to, options.strict, left) {
         Ok(text) => Ok(text),
-        Err(error) => Err(Fault::Unsaid(error)),
+        Err(error) => Err(Fault::NotPrintable(error)),
     }
 }
 

@@ -3,14 +3,17 @@ ghost use Rattle.std.specs.Prelude.{◌≡◌, ◌≢◌, ◌<◌, ◌+◌, ◌�
 ghost use Rattle.std.specs.Prelude.{IsTrue, OnErr, OnOk, string_bytes};
 ghost use Rattle.std.specs.Str.{chars};
 ghost use Rattle.std.specs.Io.KnownBytes.{Appends};
+ghost use Rattle.hayagriva.specs.Query.{hit_entry};
 ghost use Rattle.hayagriva.specs.Reading.{TextReads};
 ghost use Rattle.hayagriva.specs.Syntax.{Syntax};
 ghost use Rattle.haya_command.specs.Picks.{wanted};
+ghost use Rattle.haya_command.specs.Printed.{IsLinesFault};
 ghost use Rattle.haya_command.specs.Streamed.{IsAskerFault, IsTold, end_text};
 ghost use Rattle.haya_command.specs.declared.form.Form.TheVariants.{Hayagriva};
 
 use crate::fault::Fault;
 use crate::form::Form;
+use crate::left::LeftNotes;
 use crate::options::Options;
 use crate::picking::negated;
 use crate::printing::hits_text;
@@ -32,12 +35,14 @@ pub struct Asker<'o> {
     pub selector: CompiledSelector,
     /// How many hits there were.
     pub hits: usize,
+    /// What lines leave out of the hits that are printed.
+    pub left: LeftNotes,
     ghost streams: { options.now.to ≢ Hayagriva },
 }
 
 impl<'o> Asker<'o> {
     /// What is asked under these options. A map of what is passed over hashes with the keys.
-    /// `Selector`: the selector's text is none. `Unstreamed`: hits are to be printed in a form that
+    /// `Selector`: the selector's text is none. `CannotStream`: hits are to be printed in a form that
     /// is none of each alone.
     pub fn new(alloc: Global, keys: HashKeys, options: &'o Options) -> Result<Asker<'o>, Fault>
         ensures selector { IfOk result (λ asker. (s : Syntax)
@@ -48,7 +53,7 @@ impl<'o> Asker<'o> {
         ensures error { IfErr result (IsAskerFault options.now) }
     {
         if matches!(options.to, Form::Hayagriva) {
-            return Err(Fault::Unstreamed);
+            return Err(Fault::CannotStream);
         }
         let read = match Selector::parse(alloc, options.selector.as_str()) {
             Ok(read) => read,
@@ -65,12 +70,14 @@ impl<'o> Asker<'o> {
             options,
             selector: CompiledSelector::new(alloc, &selector)?,
             hits: 0,
+            left: LeftNotes::new(alloc),
         })
     }
 }
 
 impl<'o> EntryAnswerer for Asker<'o> {
-    ghost use Rattle.std.specs.Prelude.{◌≡◌, ◌&&◌, nat_lt};
+    ghost use Rattle.std.specs.Prelude.{◌≡◌, ◌&&◌, ◌∷◌, [], nat_lt};
+    ghost use Rattle.haya_command.specs.Printed.{IsLinesFault};
     ghost use Rattle.haya_command.specs.Streamed.{AsksEntry};
 
     type Refusal = LinesError;
@@ -78,7 +85,8 @@ impl<'o> EntryAnswerer for Asker<'o> {
     ghost answers = { λ s entry printed t.
         AsksEntry s.options.now s.selector s.hits entry printed t.options.now t.selector t.hits };
 
-    ghost refuses = { λ _ _ _. Unit {0} };
+    ghost refuses = { λ s entry e.
+        IsLinesFault s.options.now.strict s.options.now.to (entry ∷ []) e };
 
     ghost is_done = { λ s. s.options.now.quiet && nat_lt 0 s.hits };
 
@@ -104,11 +112,13 @@ impl<'o> Asker<'o> {
             × (string_bytes printed.new ≡ string_bytes printed.old ++ more)) }
         ensures options { self.new.options ≡ self.old.options }
         ensures selector { self.new.selector ≡ self.old.selector }
+        ensures fault { IfErr result (IsLinesFault self.old.options.now.strict
+            self.old.options.now.to (hit_entry hit.entry ∷ [])) }
     {
         let Some(hits) = self.hits.checked_add(1) else {
             return Err(LinesError::OutOfMemory);
         };
-        let text = told(self.alloc, self.options, hit)?;
+        let text = told(self.alloc, self.options, hit, &mut self.left)?;
         printed.push_str(text.as_str())?;
         self.hits = hits;
         Ok(())
@@ -116,8 +126,15 @@ impl<'o> Asker<'o> {
 }
 
 // What is printed of a hit as it comes.
-fn told(alloc: Global, options: &Options, hit: Hit) -> Result<String, LinesError>
-    ensures { IfOk result (λ text. IsTold options.now (hit.entry ∷ []) (string_bytes text)) }
+fn told(
+    alloc: Global,
+    options: &Options,
+    hit: Hit,
+    left: &mut LeftNotes,
+) -> Result<String, LinesError>
+    ensures told { IfOk result (λ text. IsTold options.now (hit.entry ∷ []) (string_bytes text)) }
+    ensures fault { IfErr result
+        (IsLinesFault options.now.strict options.now.to (hit_entry hit.entry ∷ [])) }
 {
     if options.quiet {
         drop(hit);
@@ -127,7 +144,7 @@ fn told(alloc: Global, options: &Options, hit: Hit) -> Result<String, LinesError
         drop(hit);
         return Ok(String::new(alloc));
     }
-    hits_text(alloc, &[hit], options.to)
+    hits_text(alloc, &[hit], options.to, options.strict, left)
 }
 
 /// Prints the number of hits, where it is asked for. The answer is whether there is one. Where a

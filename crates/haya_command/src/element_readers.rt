@@ -1,54 +1,61 @@
 //! An entry from each element of a text in JSON: an item of a list, or a member of an object.
 ghost use Rattle.std.specs.Prelude.{◌≡◌, ◌+◌, IfErr, IfOk, OnOk};
 
-use haya_csl::read_item_line;
-use haya_json::{ElementError, Ignored, ReadError, read_member_line};
+use haya_csl::{ItemKey, read_item_line};
+use haya_json::{ElementError, Ignored, Notes, ReadError, read_member_line};
 use haya_list::EntryReader;
 use hayagriva::{Entry, HashKeys};
 use std::alloc::Global;
 
-/// Reads the entry that an item of CSL-JSON says, and counts what is passed over of it.
+/// Reads the entry that an item of CSL-JSON says, and notes what is lost of it.
 #[derive(Drop)]
 pub(crate) struct ItemReader {
     alloc: Global,
+    // The member that is the key.
+    key: ItemKey,
     // How many items were taken.
     number: usize,
-    /// What is passed over of the items that were read.
-    pub(crate) ignored: Ignored,
+    /// What is told of the items that were read.
+    pub(crate) notes: Notes,
 }
 
 impl ItemReader {
-    ghost use Rattle.std.specs.Prelude.{◌≡◌, []};
-    ghost use Rattle.haya_json.specs.Ignored.{counts_of};
+    ghost use Rattle.std.specs.Prelude.{◌≡◌};
+    ghost use Rattle.haya_json.specs.Notes.{none_kept, notes_view};
 
     /// One that has read no item. Its map hashes with the keys.
-    pub(crate) fn new(alloc: Global, keys: HashKeys) -> ItemReader
+    pub(crate) fn new(alloc: Global, keys: HashKeys, key: ItemKey) -> ItemReader
+        ensures key { result.key ≡ key }
         ensures number { result.number ≡ 0 }
-        ensures ignored { counts_of result.ignored ≡ [] }
+        ensures notes { notes_view result.notes ≡ none_kept }
     {
         ItemReader {
             alloc,
+            key,
             number: 0,
-            ignored: Ignored::with_hash_keys(alloc, keys),
+            notes: Notes::with_hash_keys(alloc, keys),
         }
     }
 }
 
 impl EntryReader for ItemReader {
-    ghost use Rattle.haya_command.specs.AskedLines.{IsElementError, ReadsElement};
+    ghost use Rattle.std.specs.Prelude.{◌≡◌};
+    ghost use Rattle.haya_json.specs.Notes.{notes_view};
+    ghost use Rattle.haya_command.specs.AskedLines.{IsElementError, ReadsElement, item_kept};
     ghost use Rattle.haya_command.specs.declared.format.Format.TheVariants.{CslJson};
 
     type Error = ElementError;
 
-    ghost says = { λ r line entry t.
-        ReadsElement CslJson r.number r.ignored line entry t.number t.ignored };
+    ghost says = { λ r line entry t. (t.key ≡ r.key)
+        × ReadsElement (CslJson r.key) (item_kept r.key) r.number (notes_view r.notes) line entry
+        t.number (notes_view t.notes) };
 
-    ghost refuses = { λ r line e. IsElementError CslJson r.number line e };
+    ghost refuses = { λ r line e. IsElementError (CslJson r.key) r.number line e };
 
     fn read(&mut self, line: &str) -> Result<Entry, ElementError> {
         let place = self.number;
         let number = counted(&mut self.number)?;
-        match read_item_line(self.alloc, place, line, &mut self.ignored) {
+        match read_item_line(self.alloc, self.key, place, line, &mut self.notes) {
             Ok(entry) => Ok(entry),
             Err(error) => Err(ElementError { number, error }),
         }
@@ -83,13 +90,14 @@ impl MemberReader {
 }
 
 impl EntryReader for MemberReader {
-    ghost use Rattle.haya_command.specs.AskedLines.{IsElementError, ReadsElement};
+    ghost use Rattle.haya_json.specs.Ignored.{counts_of};
+    ghost use Rattle.haya_command.specs.AskedLines.{IsElementError, ReadsElement, line_counted};
     ghost use Rattle.haya_command.specs.declared.format.Format.TheVariants.{Hayagriva};
 
     type Error = ElementError;
 
-    ghost says = { λ r line entry t.
-        ReadsElement Hayagriva r.number r.ignored line entry t.number t.ignored };
+    ghost says = { λ r line entry t. ReadsElement Hayagriva (line_counted Hayagriva) r.number
+        (counts_of r.ignored) line entry t.number (counts_of t.ignored) };
 
     ghost refuses = { λ r line e. IsElementError Hayagriva r.number line e };
 

@@ -1,4 +1,5 @@
 //! Why a run of the command ends with status 2.
+use crate::foreign::ForeignInput;
 use haya_input::InputFault;
 use haya_json::{ElementError, LineError, ReadError};
 use haya_list::EntryFault;
@@ -81,21 +82,37 @@ pub enum Fault {
     /// The text that is called so has members that its format doesn't know, which are listed.
     #[error("{0}: unknown members: {1}")]
     Unknown(String, String),
+    /// Of the text that is called so something is passed over. The first is told.
+    #[error("{0}: {1}")]
+    PassedOver(String, String),
+    /// A key of the text that is called so comes again, which an earlier text has.
+    #[error("{0}: `{1}` comes again")]
+    Again(String, String),
     /// The input that is called so can't be read to its end.
     #[error("{0}: {1}")]
     CannotRead(String, io::Error),
-    /// The input that is called so isn't UTF-8.
-    #[error("{0}: not text")]
+    /// The input is no text in UTF-8, or looks like a text in none of the formats.
+    #[error("{0}")]
+    Foreign(ForeignInput),
+    /// A line of the input that is called so isn't UTF-8.
+    #[error("{0}: a line is not UTF-8 (Latin-1? convert it: iconv -f LATIN1 -t UTF-8)")]
     NotText(String),
+    /// The input that is called so isn't UTF-8: the first byte that isn't has this number, from 1
+    /// on.
+    #[error("{0}: byte {1} is not UTF-8 (Latin-1? convert it: iconv -f LATIN1 -t UTF-8)")]
+    NotUtf8(String, usize),
     /// Hits are to be printed as a library, of which nothing can be said before the last is there.
     #[error("--stream prints no library: --to keys, lines or json-lines")]
-    Unstreamed,
+    CannotStream,
     /// The selector's text is none.
     #[error("{0}")]
     Selector(SelectorError),
+    /// Behind the selector, at this byte, is something that isn't white space.
+    #[error("expected the end, \"|\", \"&\", \">\" or \"[\"")]
+    SelectorEnd(usize),
     /// An entry can't be printed in lines.
     #[error("{0}")]
-    Unsaid(LinesError),
+    NotPrintable(LinesError),
     /// Nobody reads what is printed.
     #[error("nobody reads what is printed")]
     Closed,

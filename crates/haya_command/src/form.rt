@@ -1,4 +1,6 @@
 //! The forms in which hits are printed.
+ghost use Rattle.std.specs.Prelude.{◌≡◌, find};
+ghost use Rattle.haya_command.specs.Form.{form_name, form_named, is_form_named};
 
 /// How the entries that a selector picks are printed.
 #[derive(Clone, Copy, Debug, Drop, PartialEq, Eq)]
@@ -11,4 +13,35 @@ pub enum Form {
     Hayagriva,
     /// A line of JSON a hit: its `key`, its `bindings`, and the `entry` in the file format.
     JsonLines,
+}
+
+impl Form {
+    /// Each form once, in the order of the variants.
+    pub const ALL: [Form; 4] = [Form::Keys, Form::Lines, Form::Hayagriva, Form::JsonLines];
+
+    /// The name that the command gives it.
+    pub fn name(self) -> &'static str
+        ensures { result.now ≡ form_name self }
+    {
+        match self {
+            Form::Keys => "keys",
+            Form::Lines => "lines",
+            Form::Hayagriva => "hayagriva",
+            Form::JsonLines => "json-lines",
+        }
+    }
+
+    /// The form with this name, written exactly as `name` answers.
+    pub fn named(name: &str) -> Option<Form>
+        ensures { result ≡ form_named name.now }
+    {
+        first_named(&Form::ALL, name)
+    }
+}
+
+// The first of the forms with this name.
+fn first_named(forms: &[Form], name: &str) -> Option<Form>
+    ensures { result ≡ find (is_form_named name.now) forms.now }
+{
+    forms.iter().copied().find(|form| form.name() == name)
 }

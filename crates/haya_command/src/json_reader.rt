@@ -29,12 +29,14 @@ impl JsonReader {
 
 impl EntryReader for JsonReader {
     ghost use Rattle.haya_json.specs.JsonLines.{IsLineErrorOf};
-    ghost use Rattle.haya_command.specs.AskedLines.{ReadsLine};
+    ghost use Rattle.haya_json.specs.Ignored.{counts_of};
+    ghost use Rattle.haya_command.specs.AskedLines.{ReadsLine, line_counted};
     ghost use Rattle.haya_command.specs.declared.format.Format.TheVariants.{JsonLines};
 
     type Error = ReadError;
 
-    ghost says = { λ r line entry t. ReadsLine JsonLines r.ignored line entry t.ignored };
+    ghost says = { λ r line entry t. ReadsLine JsonLines (line_counted JsonLines)
+        (counts_of r.ignored) line entry (counts_of t.ignored) };
 
     ghost refuses = { λ _ line e. IsLineErrorOf line e };
 

@@ -1,6 +1,7 @@
 //! Laws of the definitions. A call of one, as `lists_stand();`, gives its statement to the caller's
 //! proof.
-ghost use Rattle.std.specs.Prelude.{◌≡◌, ◌<◌, ◌↔◌, ◌⊎◌, ◌++◌, ◌∷◌, [], ℕ, All, Bool, IsTrue, List};
+ghost use Rattle.std.specs.Prelude.{◌≡◌, ◌<◌, ◌≤◌, ◌↔◌, ◌⊎◌, ◌++◌, ◌∷◌, [], ℕ, All, Bool};
+ghost use Rattle.std.specs.Prelude.{IsTrue, List};
 ghost use Rattle.std.specs.Prelude.{Option, filter, length, map, string_bytes};
 ghost use Rattle.std.specs.List.{AllPairs, AllZip, concat, flat_map};
 ghost use Rattle.std.specs.Str.{IsUtf8, chars};
@@ -13,19 +14,23 @@ ghost use Rattle.hayagriva.specs.Reading.{TextReads};
 ghost use Rattle.hayagriva.specs.Syntax.{Syntax};
 ghost use Rattle.hayagriva.specs.Tree.{Tree};
 ghost use Rattle.hayagriva.specs.declared.query.Hit.{Hit as HitData};
+ghost use Rattle.haya_hits.specs.Line.{AreLines};
 ghost use Rattle.haya_input.specs.Parts.{AreWholeLines};
 ghost use Rattle.haya_json.specs.JsonLines as json_lines;
 ghost use Rattle.haya_json.specs.JsonLines.{IsListOf};
 ghost use Rattle.haya_json.specs.Libraries as json;
 ghost use Rattle.haya_json.specs.Readable.{EntriesAreReadable};
 ghost use Rattle.haya_command.specs.Answer.{IsAnswer};
+ghost use Rattle.haya_command.specs.Formats.{format_for};
+ghost use Rattle.haya_command.specs.Likeness.{foreign_for};
 ghost use Rattle.haya_command.specs.Picks.{wanted};
-ghost use Rattle.haya_command.specs.Printed.{FitsLine, IsTextOf};
+ghost use Rattle.haya_command.specs.Printed.{FitsLine, IsJsonLineOf};
 ghost use Rattle.haya_command.specs.Reading.{IsWhole, format_in};
 ghost use Rattle.haya_command.specs.Run.{Prints};
 ghost use Rattle.haya_command.specs.AskedLines.{IsListIn};
 ghost use Rattle.haya_command.specs.Streamed.{IsTold, end_text};
-ghost use Rattle.haya_command.specs.declared.form.Form.TheVariants as form;
+ghost use Rattle.haya_command.specs.declared.block.TheConstants.{FIRST_BLOCK};
+ghost use Rattle.haya_command.specs.declared.format.Format.{Format as FormatData};
 ghost use Rattle.haya_command.specs.declared.options.Options.{Options as OptionsData};
 
 /// What is printed of the hits of a list as they come, and their number at the end, is the answer
@@ -57,6 +62,16 @@ pub fn last_entry_replaces()
         from_entries (entries ++ t ∷ []) ≡ push t (from_entries entries) }
 {}
 
+/// What an input is is seen of its first block: whatever is behind that changes neither its format
+/// nor whether it is foreign. So an input that is asked as it is read is taken for the same as one
+/// that is read as a whole.
+pub fn first_block_tells()
+    ensures format { (given : Option FormatData) (first rest : List ℕ) →
+        FIRST_BLOCK ≤ length first → format_for given (first ++ rest) ≡ format_for given first }
+    ensures foreign { (given : Option FormatData) (first rest : List ℕ) →
+        FIRST_BLOCK ≤ length first → foreign_for given (first ++ rest) ≡ foreign_for given first }
+{}
+
 /// Whole lines of JSON and a text behind them list the entries of both, and where no key is in
 /// both they describe the libraries of both.
 pub fn json_lines_in_parts()
@@ -80,12 +95,12 @@ pub fn json_lines_in_parts()
 pub fn printed_lines_read_back()
     ensures hits { (hits : List HitData) (text : List ℕ) →
         EntriesAreReadable (map hit_entry hits) → All FitsLine (map hit_entry hits) →
-        IsTextOf form.JsonLines hits text → IsListOf text (map hit_entry hits) }
+        AreLines IsJsonLineOf hits text → IsListOf text (map hit_entry hits) }
     ensures read { (s : Syntax) (text printed : List ℕ) (entries : List Tree)
         (hits : List HitData) → IsUtf8 text →
         json.Describes text entries ⊎ (json_lines.Describes text entries ⊎ IsListOf text entries) →
         AreHits s entries hits → All FitsLine (filter (holds s) entries) →
-        IsTextOf form.JsonLines hits printed → IsListOf printed (filter (holds s) entries) }
+        AreLines IsJsonLineOf hits printed → IsListOf printed (filter (holds s) entries) }
 {
     haya_json::laws::printed_json_is_one_line();
     haya_json::laws::read_entries_are_readable();

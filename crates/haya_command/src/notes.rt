@@ -1,8 +1,7 @@
 //! Messages: what is passed over, what is asked for in vain, and faults.
 use crate::fault::Fault;
-use crate::near::{field_question, type_question};
-use crate::words::listed_unknown;
-use haya_json::Ignored;
+use crate::near::type_question;
+use haya_json::{Ignored, Loss, Note, Notes, Step};
 use haya_text::OutOfMemory;
 use hayagriva::{Selector, SelectorError};
 use std::alloc::Global;
@@ -20,27 +19,62 @@ pub(crate) fn members_text(alloc: Global, ignored: &Ignored) -> Result<String, O
     Ok(text)
 }
 
-/// Puts a line behind the notes: what is passed over of the input that is called so.
-pub(crate) fn push_note(
+/// Puts lines behind the notes: what is told of the input that is called so, if anything is.
+pub(crate) fn push_notes(
     alloc: Global,
     notes: &mut String,
     name: &str,
-    ignored: &Ignored,
+    told: &Notes,
 ) -> Result<(), OutOfMemory> {
-    let members = members_text(alloc, ignored)?;
-    let line = format!(in alloc; "haya: {name}: passed over: {members}\n")?;
+    if !told.ignored().is_empty() {
+        let members = members_text(alloc, told.ignored())?;
+        let line = format!(in alloc; "haya: {name}: passed over: {members}\n")?;
+        notes.push_str(line.as_str())?;
+    }
+    for note in told.lines() {
+        let text = note_text(alloc, note)?;
+        let line = format!(in alloc; "haya: {name}: {text}\n")?;
+        notes.push_str(line.as_str())?;
+    }
+    push_more(alloc, notes, name, told.more())
+}
+
+// Puts a line behind the notes: how many values more are told of.
+fn push_more(alloc: Global, notes: &mut String, name: &str, more: u64) -> Result<(), OutOfMemory> {
+    let line = match more {
+        0 => return Ok(()),
+        1 => format!(in alloc; "haya: {name}: 1 more value was not read\n")?,
+        _ => format!(in alloc; "haya: {name}: {more} more values were not read\n")?,
+    };
     notes.push_str(line.as_str())?;
     Ok(())
 }
 
-/// A line for each name in brackets that no entry can have, as it finds nothing.
-pub(crate) fn names_text(alloc: Global, selector: &str) -> Result<String, OutOfMemory> {
+/// What is said of one note: the entry's key, and what is lost of it, behind its place in it.
+pub(crate) fn note_text(alloc: Global, note: &Note) -> Result<String, OutOfMemory> {
+    let key = &note.key;
+    let place = place_text(alloc, &note.lost.path)?;
+    match &note.lost.loss {
+        Loss::Again => Ok(format!(in alloc; "`{key}` comes again")?),
+        Loss::Named(name) => Ok(format!(in alloc; "`{key}`: {place}: passed over: {name}")?),
+        Loss::Unread(why, value) => Ok(format!(in alloc; "`{key}`: {place}: {why}: {value}")?),
+    }
+}
+
+// The steps into an entry, separated by slashes.
+fn place_text(alloc: Global, path: &Vec<Step>) -> Result<String, OutOfMemory> {
     let mut text = String::new(alloc);
-    let names = listed_unknown(alloc, selector)?;
-    for name in &names {
-        let like = field_question(alloc, name)?;
-        let line = format!(in alloc; "haya: no entry has `{name}`{like}\n")?;
-        text.push_str(line.as_str())?;
+    for step in path {
+        if !text.is_empty() {
+            text.push('/')?;
+        }
+        match step {
+            Step::Name(name) => text.push_str(name.as_str())?,
+            Step::Place(place) => {
+                let place = format!(in alloc; "{place}")?;
+                text.push_str(place.as_str())?;
+            }
+        }
     }
     Ok(text)
 }
@@ -54,6 +88,10 @@ pub(crate) fn fault_text(
     match fault {
         Fault::Selector(SelectorError::OutOfMemory) => { Ok(format!(in alloc; "haya: {fault}\n")?) }
         Fault::Selector(error) => selector_text(alloc, selector, error),
+        Fault::SelectorEnd(place) => {
+            let mark = mark(alloc, column_of(selector, *place), 1)?;
+            Ok(format!(in alloc; "haya: {selector}\n      {mark}{fault}\n")?)
+        }
         _ => Ok(format!(in alloc; "haya: {fault}\n")?),
     }
 }

@@ -1,14 +1,17 @@
 //! What a run of the command is asked for.
 use crate::form::Form;
 use crate::format::Format;
+use haya_csl::ItemKey;
 
 /// What is asked, and how it is answered.
 #[derive(Debug, Drop, PartialEq, Eq)]
 pub struct Options {
     /// The selector's text.
     pub selector: String,
-    /// The format of all input, or none: then each text's is the one that it begins like.
+    /// The format of all input, or none: then each text's is guessed from its first bytes.
     pub from: Option<Format>,
+    /// The member of an item of CSL-JSON that is its entry's key.
+    pub key: ItemKey,
     /// The form in which hits are printed.
     pub to: Form,
     /// Whether the number of hits is printed in their place.
@@ -17,8 +20,10 @@ pub struct Options {
     pub quiet: bool,
     /// Whether the entries are wanted that the selector doesn't pick.
     pub invert: bool,
-    /// Whether a member that a format doesn't know is a fault.
+    /// Whether what is passed over is a fault, and a key that comes again.
     pub strict: bool,
+    /// Whether what is passed over is told, and what is asked for in vain.
+    pub notes: bool,
     /// The files that are read, in this order: `-` is standard input. None is standard input, too.
     pub files: Vec<String>,
 }

@@ -1,36 +1,47 @@
 //! The hits, printed.
-ghost use Rattle.std.specs.Prelude.{◌≡◌, ◌++◌, IfOk, OnOk, List, ℕ, map, string_bytes};
-ghost use Rattle.std.specs.List.{flat_map};
+ghost use Rattle.std.specs.Prelude.{◌≡◌, ◌∷◌, ◌++◌, [], IfErr, IfOk, OnOk, List, ℕ, false, map};
+ghost use Rattle.std.specs.Prelude.{IsOkUnless, string_bytes, true};
 ghost use Rattle.std.specs.Str.{IsUtf8};
 ghost use Rattle.json.specs.Layout.{pretty};
 ghost use Rattle.json.specs.Print.{print};
 ghost use Rattle.json.specs.Tree.{json_tokens, members_tokens};
 ghost use Rattle.json.specs.Json.{no_members};
-ghost use Rattle.haya_hits.specs.Line.{AreLines, IsLineOf};
+ghost use Rattle.haya_hits.specs.Line.{AreLines, IsEscapedLineOf};
 ghost use Rattle.haya_json.specs.Printed.{library_json, library_members};
 ghost use Rattle.haya_json.specs.Writing.{KeepsBefore};
-ghost use Rattle.haya_printing.specs.Printed.{entry_text};
 ghost use Rattle.hayagriva.specs.Query.{hit_entry};
-ghost use Rattle.haya_command.specs.Printed.{IsJsonLineOf, IsTextOf, library_text};
+ghost use Rattle.haya_command.specs.Printed.{IsJsonLineOf, IsLinesFault, IsPrintedOf, IsTextOf};
+ghost use Rattle.haya_command.specs.Printed.{library_text};
+ghost use Rattle.haya_command.specs.declared.form.Form.TheVariants.{Lines};
+ghost use Rattle.haya_printing.specs.declared.error.LinesError.TheVariants.{OutOfMemory as memory};
 
 use crate::form::Form;
 use crate::json_line::push_json_line;
-use haya_hits::push_line;
+use crate::left::LeftNotes;
+use haya_hits::push_escaped_line;
 use haya_json::{lay_out, write_entry};
-use haya_printing::{LinesError, entry_lines};
+use haya_printing::{LinesError, PrintableLines, entry_lines, printable_lines};
 use haya_text::OutOfMemory;
 use hayagriva::Hit;
 use json::Writer;
 use std::alloc::Global;
 
-/// The hits in this form, in their order. The error is that an entry has a value that lines can't
-/// say, or out of memory.
-pub fn hits_text(alloc: Global, hits: &[Hit], form: Form) -> Result<String, LinesError>
-    ensures { IfOk result (λ text. IsTextOf form hits.now (string_bytes text)) }
+/// The hits in this form, in their order. Lines are of what they can say of an entry, and what
+/// they leave out of it is noted. In a strict run they are of the whole entry, and the error is
+/// that no line says a value of one. The other error is out of memory.
+pub fn hits_text(
+    alloc: Global,
+    hits: &[Hit],
+    form: Form,
+    strict: bool,
+    left: &mut LeftNotes,
+) -> Result<String, LinesError>
+    ensures text { IfOk result (λ text. IsTextOf strict form hits.now (string_bytes text)) }
+    ensures fault { IfErr result (IsLinesFault strict form (map hit_entry hits.now)) }
 {
     match form {
         Form::Keys => Ok(key_lines(alloc, hits)?),
-        Form::Lines => entries_lines(alloc, hits),
+        Form::Lines => entries_lines(alloc, hits, strict, left),
         Form::Hayagriva => Ok(file(alloc, hits)?),
         Form::JsonLines => Ok(json_lines(alloc, hits)?),
     }
@@ -38,11 +49,11 @@ pub fn hits_text(alloc: Global, hits: &[Hit], form: Form) -> Result<String, Line
 
 // A line a hit, of keys.
 fn key_lines(alloc: Global, hits: &[Hit]) -> Result<String, OutOfMemory>
-    ensures { IfOk result (λ text. AreLines IsLineOf hits.now (string_bytes text)) }
+    ensures { IfOk result (λ text. AreLines IsEscapedLineOf hits.now (string_bytes text)) }
 {
     let mut text = String::new(alloc);
     'hits: for hit in hits {
-        push_line(alloc, &mut text, hit)?;
+        push_escaped_line(alloc, &mut text, hit)?;
     }
     Ok(text)
 }
@@ -59,15 +70,56 @@ fn json_lines(alloc: Global, hits: &[Hit]) -> Result<String, OutOfMemory>
 }
 
 // The lines of each entry and of its ancestors.
-fn entries_lines(alloc: Global, hits: &[Hit]) -> Result<String, LinesError>
-    ensures { IfOk result (λ text.
-        string_bytes text ≡ flat_map (λ hit. entry_text (hit_entry hit)) hits.now) }
+fn entries_lines(
+    alloc: Global,
+    hits: &[Hit],
+    strict: bool,
+    left: &mut LeftNotes,
+) -> Result<String, LinesError>
+    ensures lines { IfOk result (λ text.
+        AreLines (IsPrintedOf strict) hits.now (string_bytes text)) }
+    ensures fault { IfErr result (IsLinesFault strict Lines (map hit_entry hits.now)) }
 {
     let mut text = String::new(alloc);
     'hits: for hit in hits {
-        let lines = entry_lines(alloc, hit.entry)?;
+        let lines = hit_lines(alloc, hit, strict, left)?;
         text.push_str(lines.as_str())?;
     }
+    Ok(text)
+}
+
+// The lines of an entry and of its ancestors, in a strict run of all of it.
+fn hit_lines(
+    alloc: Global,
+    hit: &Hit,
+    strict: bool,
+    left: &mut LeftNotes,
+) -> Result<String, LinesError>
+    ensures lines { IfOk result (λ text. IsPrintedOf strict hit.now (string_bytes text)) }
+    ensures fault { IfErr result (IsLinesFault strict Lines (hit_entry hit.now ∷ [])) }
+{
+    if strict {
+        whole_lines(alloc, hit)
+    } else {
+        said_lines(alloc, hit, left)
+    }
+}
+
+// The lines of all of an entry.
+fn whole_lines(alloc: Global, hit: &Hit) -> Result<String, LinesError>
+    ensures lines { IfOk result (λ text. IsPrintedOf true hit.now (string_bytes text)) }
+    ensures fault { IfErr result (IsLinesFault true Lines (hit_entry hit.now ∷ [])) }
+{
+    entry_lines(alloc, hit.entry)
+}
+
+// The lines of what they can say of an entry. What they leave out is noted.
+fn said_lines(alloc: Global, hit: &Hit, left: &mut LeftNotes) -> Result<String, LinesError>
+    ensures lines { IfOk result (λ text. IsPrintedOf false hit.now (string_bytes text)) }
+    ensures memory { IsOkUnless result memory }
+{
+    let PrintableLines { text, left_out } = printable_lines(alloc, hit.entry)?;
+    left.add(alloc, hit.entry.key(), left_out.as_slice())?;
     Ok(text)
 }
 

@@ -1,16 +1,20 @@
 //! A whole run, but for where its words and its texts come from.
-ghost use Rattle.std.specs.Prelude.{◌≡◌, ◌≤◌, false, true, IfOk, IsTrue, OnErr};
+ghost use Rattle.std.specs.Prelude.{◌≡◌, ◌≤◌, false, true, IfOk, IsTrue, OnErr, OnOk};
+ghost use Rattle.std.specs.Prelude.{string_bytes};
 ghost use Rattle.std.specs.Io.KnownBytes.{Keeps};
 ghost use Rattle.haya_command.specs.Reading.{texts};
 ghost use Rattle.haya_command.specs.Run.{Prints, Stands};
+ghost use Rattle.haya_command.specs.SelectorText.{IsOneSelector};
 
-use crate::answering::ask;
+use crate::answering::{Answer, ask};
 use crate::fault::Fault;
-use crate::notes::{fault_text, names_text};
+use crate::hints::{parents_hint, warnings};
+use crate::notes::fault_text;
 use crate::options::{Input, Options};
 use crate::reading::{Collected, read_inputs};
+use crate::selector_text::check_selector;
 use haya_stream::write_text;
-use hayagriva::HashKeys;
+use hayagriva::{HashKeys, Library};
 use std::alloc::Global;
 use std::io::Write;
 use std::mem;
@@ -33,6 +37,7 @@ pub fn run<W: Write, E: Write>(
     ensures fault { result ≡ 2 → Stands options.now (texts inputs.now)
         (W.contents out.old) (W.contents out.new) }
     ensures status { result ≤ 2 }
+    ensures alone { result ≤ 1 → IsOneSelector (string_bytes options.now.selector) }
     ensures quiet { IsTrue options.now.quiet →
         Keeps (E.contents err.old) (E.contents err.new) }
 {
@@ -78,38 +83,61 @@ fn print_answer<W: Write, E: Write>(
         (W.contents out.old) (W.contents out.new) found) }
     ensures fault { OnErr result (Stands options.now (texts inputs.now)
         (W.contents out.old) (W.contents out.new)) }
+    ensures alone { OnOk result (IsOneSelector (string_bytes options.now.selector)) }
     ensures quiet { IsTrue options.now.quiet →
         Keeps (E.contents err.old) (E.contents err.new) }
 {
+    check_selector(alloc, options.selector.as_str())?;
     let Collected { library, notes } = read_inputs(alloc, keys, options, inputs)?;
     let asked = ask(alloc, &library, options);
+    let hint = hint_for(alloc, options, &library, &asked);
     // The process ends with this answer, and gives all memory back at once: entry by entry that
     // takes longer than any selector.
     mem::forget(library);
     let answer = asked?;
     tell_notes(options, notes.as_str(), err);
+    tell_notes(options, answer.notes.as_str(), err);
     warn(alloc, options, err);
+    tell_notes(options, hint.as_str(), err);
     write_text(out, answer.text.as_str())?;
     Ok(answer.found)
 }
 
-/// Tells what was passed over; nothing in a quiet run.
+// What was probably meant where no entry is found. Without memory there is no hint.
+fn hint_for(
+    alloc: Global,
+    options: &Options,
+    library: &Library,
+    asked: &Result<Answer, Fault>,
+) -> String {
+    match asked {
+        Ok(answer) if !answer.found => {
+            match parents_hint(alloc, library, options.selector.as_str()) {
+                Ok(hint) => hint,
+                Err(_) => String::new(alloc),
+            }
+        }
+        _ => String::new(alloc),
+    }
+}
+
+/// Tells what was passed over; nothing in a quiet run, or in one without notes.
 pub fn tell_notes<E: Write>(options: &Options, notes: &str, err: &mut E)
     ensures { IsTrue options.now.quiet → Keeps (E.contents err.old) (E.contents err.new) }
 {
-    if !options.quiet {
+    if !options.quiet && options.notes {
         tell(err, notes);
     }
 }
 
-/// Tells which names in brackets no entry can have; nothing in a quiet run.
+/// Tells what the selector asks for in vain; nothing in a quiet run.
 pub fn warn<E: Write>(alloc: Global, options: &Options, err: &mut E)
     ensures { IsTrue options.now.quiet → Keeps (E.contents err.old) (E.contents err.new) }
 {
-    if options.quiet {
+    if options.quiet || !options.notes {
         return;
     }
-    if let Ok(text) = names_text(alloc, options.selector.as_str()) {
+    if let Ok(text) = warnings(alloc, options.selector.as_str()) {
         tell(err, text.as_str());
     }
 }

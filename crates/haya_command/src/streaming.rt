@@ -10,7 +10,9 @@ use crate::element_readers::{ItemReader, MemberReader};
 use crate::fault::{Fault, InputError};
 use crate::json_reader::JsonReader;
 use crate::reading::note_passed_over;
+use haya_csl::ItemKey;
 use haya_elements::Brackets;
+use haya_json::Notes;
 use haya_list::{ListRefusal, answer_elements, answer_entry_lines, answer_lines};
 use haya_printing::LinesError;
 use haya_stream::StreamFault;
@@ -81,31 +83,33 @@ pub fn ask_json_lines<'o, R: Read, W: Write>(
         Ok(done) => done,
         Err(fault) => return Err(list_fault(alloc, name, fault)),
     };
-    note_passed_over(alloc, asked.options, name, &reader.ignored, notes)?;
+    let told = Notes::of_names(alloc, reader.ignored);
+    note_passed_over(alloc, asked.options, name, &told, notes)?;
     Ok(asked)
 }
 
-/// The same of an input in CSL-JSON that is a list of items: each item is asked as it is read. What
-/// is printed is a contract where the bytes of the input are known.
+/// The same of an input in CSL-JSON that is a list of items, whose entries have this member as key:
+/// each item is asked as it is read. What is printed is a contract where the bytes of the input are known.
 pub fn ask_csl_json<'o, R: Read, W: Write>(
     asker: Asker<'o>,
+    key: ItemKey,
     name: &str,
     notes: &mut String,
     input: &mut R,
     out: &mut W,
 ) -> Result<Asker<'o>, Fault>
-    ensures asks { IfOk result (λ asked. AsksElements CslJson asker.entry.options.now
+    ensures asks { IfOk result (λ asked. AsksElements (CslJson key) asker.entry.options.now
         asked.options.now asker.entry.selector asked.selector asker.entry.hits asked.hits
         (R.remaining input.old) (R.remaining input.new) (W.contents out.old)
         (W.contents out.new)) }
-    ensures part { IfErr result (AsksElementsPart CslJson name.now asker.entry.options.now
+    ensures part { IfErr result (AsksElementsPart (CslJson key) name.now asker.entry.options.now
         asker.entry.selector (R.remaining input.old) (W.contents out.old) (W.contents out.new)) }
 {
     let alloc = asker.alloc;
     let (asked, items) = match answer_elements(
         alloc,
         Brackets::Square,
-        ItemReader::new(alloc, asker.keys),
+        ItemReader::new(alloc, asker.keys, key),
         asker,
         input,
         out,
@@ -113,7 +117,7 @@ pub fn ask_csl_json<'o, R: Read, W: Write>(
         Ok(done) => done,
         Err(fault) => return Err(list_fault(alloc, name, fault)),
     };
-    note_passed_over(alloc, asked.options, name, &items.ignored, notes)?;
+    note_passed_over(alloc, asked.options, name, &items.notes, notes)?;
     Ok(asked)
 }
 
@@ -144,7 +148,8 @@ pub fn ask_hayagriva<'o, R: Read, W: Write>(
         Ok(done) => done,
         Err(fault) => return Err(list_fault(alloc, name, fault)),
     };
-    note_passed_over(alloc, asked.options, name, &members.ignored, notes)?;
+    let told = Notes::of_names(alloc, members.ignored);
+    note_passed_over(alloc, asked.options, name, &told, notes)?;
     Ok(asked)
 }
 
@@ -163,7 +168,7 @@ fn list_fault<L: Into<InputError> + Drop>(
         StreamFault::CannotRead(error) => Fault::CannotRead(name, error),
         StreamFault::NotText => Fault::NotText(name),
         StreamFault::Refused(ListRefusal::Line(error)) => Fault::Input(name, error.into()),
-        StreamFault::Refused(ListRefusal::Entry(error)) => Fault::Unsaid(error),
+        StreamFault::Refused(ListRefusal::Entry(error)) => Fault::NotPrintable(error),
         StreamFault::CannotWrite(fault) => Fault::from(fault),
         StreamFault::OutOfMemory => Fault::OutOfMemory,
     }

@@ -1,9 +1,8 @@
--- The library of the entries that a text lists, an item a line.
-use Rattle.std.proofs.Common.{◌≡◌, ℕ, ◌+◌, Bool, true, false, ◌&&◌, cond, List, [], ◌∷◌, ◌++◌, None, Some, Ok, flat_map, refl, sym, ap, ◌∙◌, subst, append_assoc}
-use Rattle.std.specs.Prelude.{find}
+-- The library of the entries that a text lists, an item a line, and what is told of it.
+use Rattle.std.proofs.Common.{◌≡◌, ℕ, ◌+◌, Bool, true, false, ◌&&◌, List, [], ◌∷◌, ◌++◌, None, Some, Result, Ok, Err, flat_map, refl, sym, ap, ◌∙◌, subst, append_assoc}
+use Rattle.std.specs.Prelude.{find, fold}
 use Rattle.std.specs.List.{AllZip, list_any}
 use Rattle.std.proofs.lemmas.Bool.{or_parts}
-use Rattle.std.proofs.lemmas.List.{append-nil}
 use Rattle.std.proofs.lemmas.Slice.Eq.{bytes_eq-Decides}
 use Rattle.json.specs.Json as json
 use Rattle.json.specs.Json.{Json, Items, array, document}
@@ -13,77 +12,101 @@ use Rattle.haya_elements.specs.declared.place.Brackets.TheVariants.{Square}
 use Rattle.haya_elements.proofs.Complete.{items-of-array}
 use Rattle.haya_elements.proofs.Documents.{document_of_items}
 use Rattle.haya_entry.specs.Tree.{Tree}
-use Rattle.hayagriva.specs.Library.{AreDistinct, get, has_key, key_of, push}
-use Rattle.hayagriva.proofs.Parts.{AreApart-distinct}
-use Rattle.haya_json.specs.Refusal.{to_item, within}
-use Rattle.haya_json.specs.Ignored.{counts_of}
-use Rattle.haya_json.specs.Tally.{Counts, tally}
-use Rattle.haya_json.specs.declared.ignored.Ignored.{Ignored}
+use Rattle.hayagriva.specs.Library.{AreDistinct, from_entries, get, has_key, key_of, push}
+use Rattle.hayagriva.proofs.Parts.{AreApart-distinct, from_entries-distinct}
+use Rattle.haya_json.specs.Notes.{NoteView, NotesView, kept_of}
+use Rattle.haya_json.specs.Refusal.{Refusal, and_then, to_item, within}
 use Rattle.haya_json.proofs.ValuesAlone.{one_item}
 use Rattle.haya_json.proofs.TextsRead.{both_ok, ok_same, within_ok}
-use Rattle.haya_csl.specs.Ignored.{IsPassedOver, items_passed_over}
-use Rattle.haya_csl.specs.ItemLines.{IsItemLineOf, ItemsSay, LinesList, Lists, line_passed_over}
-use Rattle.haya_csl.specs.Items.{item_of}
+use Rattle.haya_csl.specs.ItemLines.{IsItemLineOf, ItemsSay, LinesList, Lists, line_told}
+use Rattle.haya_csl.specs.Items.{ItemView, item_of, item_said}
 use Rattle.haya_csl.specs.Libraries.{DescribesAsCsl, csl_library_of, items_pushed}
-use Rattle.haya_csl.proofs.NewIds.{item_alone, item_was_new}
+use Rattle.haya_csl.specs.Told.{TellsAsCsl, items_told, told_alone, told_first}
+use Rattle.haya_csl.specs.declared.item_key.ItemKey.{ItemKey}
 
--- ---- the items of lines
+module _ (by : ItemKey) where
+  -- ---- the items of lines
 
--- lines that say entries are items
-items_of_lines : (ls : List (List ℕ)) (entries : List Tree) → AllZip IsItemLineOf ls entries → (js : Items) × AreItems ls js
-items_of_lines [] [] listed = (json.no_items, tt)
-items_of_lines [] (t ∷ ts) listed = absurd listed
-items_of_lines (l ∷ ls) [] listed = absurd listed
-items_of_lines (l ∷ ls) (t ∷ ts) listed =
-    let first = listed.0 in
-    let more = items_of_lines ls ts listed.1 in
-    (json.item first.value more.0, (first.parsed, more.1))
+  -- lines that say entries are items
+  items_of_lines : (ls : List (List ℕ)) (entries : List Tree) → AllZip (IsItemLineOf by) ls entries → (js : Items) × AreItems ls js
+  items_of_lines [] [] listed = (json.no_items, tt)
+  items_of_lines [] (t ∷ ts) listed = absurd listed
+  items_of_lines (l ∷ ls) [] listed = absurd listed
+  items_of_lines (l ∷ ls) (t ∷ ts) listed =
+      let first = listed.0 in
+      let more = items_of_lines ls ts listed.1 in
+      (json.item first.value more.0, (first.parsed, more.1))
 
--- the items say the entries that the lines do, and no object in them has a name twice
-entries_of_lines : (ls : List (List ℕ)) (js : Items) (entries : List Tree) → AreItems ls js → AllZip IsItemLineOf ls entries → ItemsHaveUniqueKeys js × ItemsSay js entries
-entries_of_lines [] json.no_items [] are listed = (tt, tt)
-entries_of_lines [] json.no_items (t ∷ ts) are listed = absurd listed
-entries_of_lines [] (json.item j js) ts are listed = absurd are
-entries_of_lines (l ∷ ls) json.no_items ts are listed = absurd are
-entries_of_lines (l ∷ ls) (json.item j js) [] are listed = absurd listed
-entries_of_lines (l ∷ ls) (json.item j js) (t ∷ ts) are listed =
-    let first = listed.0 in
-    let same : first.value ≡ j = one_item l first.value j first.parsed are.0 in
-    let more = entries_of_lines ls js ts are.1 listed.1 in
-    ((rw (← same) first.unique, more.0), (rw (← same) first.read, more.1))
+  -- the items say the entries that the lines do, and no object in them has a name twice
+  entries_of_lines : (ls : List (List ℕ)) (js : Items) (entries : List Tree) → AreItems ls js → AllZip (IsItemLineOf by) ls entries → ItemsHaveUniqueKeys js × ItemsSay by js entries
+  entries_of_lines [] json.no_items [] are listed = (tt, tt)
+  entries_of_lines [] json.no_items (t ∷ ts) are listed = absurd listed
+  entries_of_lines [] (json.item j js) ts are listed = absurd are
+  entries_of_lines (l ∷ ls) json.no_items ts are listed = absurd are
+  entries_of_lines (l ∷ ls) (json.item j js) [] are listed = absurd listed
+  entries_of_lines (l ∷ ls) (json.item j js) (t ∷ ts) are listed =
+      let first = listed.0 in
+      let same : first.value ≡ j = one_item l first.value j first.parsed are.0 in
+      let more = entries_of_lines ls js ts are.1 listed.1 in
+      ((rw (← same) first.unique, more.0), (rw (← same) first.read, more.1))
 
--- the other way, lines that are items say the entries of these
-lines_of_entries : (ls : List (List ℕ)) (js : Items) (entries : List Tree) → AreItems ls js → ItemsHaveUniqueKeys js → ItemsSay js entries → AllZip IsItemLineOf ls entries
-lines_of_entries [] json.no_items [] are unique read = tt
-lines_of_entries [] json.no_items (t ∷ ts) are unique read = absurd read
-lines_of_entries [] (json.item j js) ts are unique read = absurd are
-lines_of_entries (l ∷ ls) json.no_items ts are unique read = absurd are
-lines_of_entries (l ∷ ls) (json.item j js) [] are unique read = absurd read
-lines_of_entries (l ∷ ls) (json.item j js) (t ∷ ts) are unique read =
-    (record { value = j; parsed = are.0; unique = unique.0; read = read.0 }, lines_of_entries ls js ts are.1 unique.1 read.1)
+  -- the other way, lines that are items say the entries of these
+  lines_of_entries : (ls : List (List ℕ)) (js : Items) (entries : List Tree) → AreItems ls js → ItemsHaveUniqueKeys js → ItemsSay by js entries → AllZip (IsItemLineOf by) ls entries
+  lines_of_entries [] json.no_items [] are unique read = tt
+  lines_of_entries [] json.no_items (t ∷ ts) are unique read = absurd read
+  lines_of_entries [] (json.item j js) ts are unique read = absurd are
+  lines_of_entries (l ∷ ls) json.no_items ts are unique read = absurd are
+  lines_of_entries (l ∷ ls) (json.item j js) [] are unique read = absurd read
+  lines_of_entries (l ∷ ls) (json.item j js) (t ∷ ts) are unique read =
+      (record { value = j; parsed = are.0; unique = unique.0; read = read.0 }, lines_of_entries ls js ts are.1 unique.1 read.1)
 
--- what is passed over of lines is what is passed over of their items
-passed_over_of_lines : (ls : List (List ℕ)) (js : Items) → AreItems ls js → flat_map line_passed_over ls ≡ items_passed_over js
-passed_over_of_lines [] json.no_items are = refl
-passed_over_of_lines [] (json.item j js) are = absurd are
-passed_over_of_lines (l ∷ ls) json.no_items are = absurd are
-passed_over_of_lines (l ∷ ls) (json.item j js) are = rw (are.0, passed_over_of_lines ls js are.1) refl
+  -- what is told of items whose keys aren't looked for
+  alone_told : Items → List NoteView
+  alone_told json.no_items = []
+  alone_told (json.item j js) = told_alone (item_said by j) ++ alone_told js
 
--- ---- entries that are pushed in turn
+  -- what is told of lines is what is told of their items
+  told_of_lines : (ls : List (List ℕ)) (js : Items) → AreItems ls js → flat_map (line_told by) ls ≡ alone_told js
+  unfolding alone_told
+  told_of_lines [] json.no_items are = refl
+  told_of_lines [] (json.item j js) are = absurd are
+  told_of_lines (l ∷ ls) json.no_items are = absurd are
+  told_of_lines (l ∷ ls) (json.item j js) are = rw (are.0, told_of_lines ls js are.1) refl
+
+  -- ---- entries that are pushed in turn
+
+  -- the entries of items are pushed in turn
+  pushed_of_entries : (js : Items) (library entries : List Tree) (place : ℕ) → ItemsSay by js entries → items_pushed by library place js ≡ Ok (fold (λ done t. push t done) library entries)
+  pushed_of_entries json.no_items library [] place says = refl
+  pushed_of_entries json.no_items library (t ∷ ts) place says = absurd says
+  pushed_of_entries (json.item j js) library [] place says = absurd says
+  pushed_of_entries (json.item j js) library (t ∷ ts) place says = rw says.0 (pushed_of_entries js (push t library) ts (place + 1) says.1)
+
+  -- the other way, items say the entries that are pushed
+  entries_of_pushed : (js : Items) (before library : List Tree) (place : ℕ) → items_pushed by before place js ≡ Ok library
+      → (ts : List Tree) × (library ≡ fold (λ done t. push t done) before ts) × ItemsSay by js ts
+  entries_of_pushed json.no_items before library place h = ([], sym (ok_same h), tt)
+  entries_of_pushed (json.item j js) before library place h =
+      let first = both_ok (within (to_item place) (item_of by j)) _ library h in
+      let t = first.value in
+      let more = entries_of_pushed js (push t before) library (place + 1) first.then in
+      (t ∷ more.0, more.1, (within_ok (to_item place) (item_of by j) t first.first, more.2))
+
+  -- ---- entries with distinct keys
+
+  -- what is told of an item whose key is new, and of those behind it
+  told_of_new : (library : List Tree) (said : Result ItemView Refusal) (t : Tree) (more : List Tree → List NoteView)
+      → and_then said (λ v. Ok v.entry) ≡ Ok t → get (key_of t) library ≡ None
+      → told_first library said more ≡ told_alone said ++ more (push t library)
+  told_of_new library (Ok v) t more is none =
+      let same : v.entry ≡ t = ok_same is in
+      rw (same, none) refl
+  told_of_new library (Err r) t more is none = cc
 
 -- what no entry passes is not found
 none_found : (p : Tree → Bool) (ts : List Tree) → list_any p ts ≡ false → find p ts ≡ None
 none_found p [] h = refl
 none_found p (t ∷ ts) h = let parts = or_parts (p t) (list_any p ts) h in rw parts.0 (none_found p ts parts.1)
-
--- what is not found no entry passes
-none_has : (p : Tree → Bool) (ts : List Tree) → find p ts ≡ None → list_any p ts ≡ false
-none_has p [] h = refl
-none_has p (t ∷ ts) h = by (none_has p ts) (p t) refl h
-  where
-    by : (find p ts ≡ None → list_any p ts ≡ false) → (b : Bool) → p t ≡ b → cond b (Some t) (find p ts) ≡ None → list_any p (t ∷ ts) ≡ false
-    by rest true is g = cc
-    by rest false is g = rw is (rest g)
 
 -- an entry whose key no entry before it has
 record IsNew (library : List Tree) (t : Tree) : Type 0 where
@@ -106,89 +129,85 @@ is_new library ts t d =
     first_none true b h k = cc
     first_none false b h k = refl
 
--- the entries of items are pushed, each behind those before it
-items_pushed_of_entries : (js : Items) (library entries : List Tree) (place : ℕ) → ItemsHaveUniqueKeys js → ItemsSay js entries → AreDistinct (library ++ entries)
-    → items_pushed library place js ≡ Ok (library ++ entries)
-items_pushed_of_entries json.no_items library [] place unique says d = ap Ok (sym (append-nil library))
-items_pushed_of_entries json.no_items library (t ∷ ts) place unique says d = absurd says
-items_pushed_of_entries (json.item j js) library [] place unique says d = absurd says
-items_pushed_of_entries (json.item j js) library (t ∷ ts) place unique says d =
-    let new = is_new library ts t d in
-    let read : item_of library j ≡ Ok t = item_alone library j t unique.0 says.0 new.unknown in
-    let behind : push t library ++ ts ≡ library ++ t ∷ ts = ap (λ l. l ++ ts) new.last ∙ append_assoc library (t ∷ []) ts in
-    let more = items_pushed_of_entries js (push t library) ts (place + 1) unique.1 says.1 (rw behind d) in
-    rw read (more ∙ ap Ok behind)
+module _ (by : ItemKey) where
+  -- of items whose keys are distinct no more is told than of each alone
+  told_of_entries : (js : Items) (library entries : List Tree) → ItemsSay by js entries → AreDistinct (library ++ entries) → items_told by library js ≡ alone_told by js
+  unfolding alone_told
+  told_of_entries json.no_items library [] says d = refl
+  told_of_entries json.no_items library (t ∷ ts) says d = absurd says
+  told_of_entries (json.item j js) library [] says d = absurd says
+  told_of_entries (json.item j js) library (t ∷ ts) says d =
+      let new = is_new library ts t d in
+      let behind : push t library ++ ts ≡ library ++ t ∷ ts = ap (λ l. l ++ ts) new.last ∙ append_assoc library (t ∷ []) ts in
+      told_of_new by library (item_said by j) t (λ more. items_told by more js) says.0 new.unknown
+      ∙ ap (λ more. told_alone (item_said by j) ++ more) (told_of_entries js (push t library) ts says.1 (rw behind d))
 
--- the other way, an entry that is pushed comes last
-was_new : (library : List Tree) (t : Tree) → get (key_of t) library ≡ None → push t library ≡ library ++ t ∷ []
-was_new library t none = rw (none_has (has_key (key_of t)) library none) refl
+  -- ---- a text
 
--- and items say the entries that are pushed
-entries_of_items_pushed : (js : Items) (before library : List Tree) (place : ℕ) → items_pushed before place js ≡ Ok library → (ts : List Tree) × (library ≡ before ++ ts) × ItemsSay js ts
-entries_of_items_pushed json.no_items before library place h = ([], sym (ok_same h) ∙ sym (append-nil before), tt)
-entries_of_items_pushed (json.item j js) before library place h =
-    let first = both_ok (within (to_item place) (item_of before j)) _ library h in
-    let t = first.value in
-    let new = item_was_new before j t (within_ok (to_item place) (item_of before j) t first.first) in
-    let more = entries_of_items_pushed js (push t before) library (place + 1) first.then in
-    (t ∷ more.0, more.1 ∙ ap (λ l. l ++ more.0) (was_new before t new.unknown) ∙ append_assoc before (t ∷ []) more.0, (new.alone, more.2))
+  -- the lines of a text that is an array are its items
+  record IsArrayOf (text : List ℕ) (js : Items) : Type 0 where
+    are : AreItems (elements Square text) js
+    parsed : document text ≡ Some (array js)
 
--- ---- a text
+  array_of_lines : (text : List ℕ) (entries : List Tree) → AllZip (IsItemLineOf by) (elements Square text) entries → (js : Items) × IsArrayOf text js
+  array_of_lines text entries each =
+      let js = items_of_lines by (elements Square text) entries each in
+      (js.0, record { are = js.1; parsed = document_of_items text js.0 js.1 })
 
--- the lines of a text that is an array are its items
-record IsArrayOf (text : List ℕ) (js : Items) : Type 0 where
-  are : AreItems (elements Square text) js
-  parsed : document text ≡ Some (array js)
+  -- a text lists what its lines do
+  pub list_of_lines : (text : List ℕ) (entries : List Tree) (kept : NotesView) → LinesList by text entries kept → Lists by text entries
+  list_of_lines text entries kept lines =
+      let whole = array_of_lines text entries lines.each in
+      let said = entries_of_lines by (elements Square text) whole.0 entries whole.1.are lines.each in
+      record { items = whole.0; parsed = whole.1.parsed; unique = said.0; read = said.1 }
 
-array_of_lines : (text : List ℕ) (entries : List Tree) (counts : Counts) → LinesList text entries counts → (js : Items) × IsArrayOf text js
-array_of_lines text entries counts lines =
-    let js = items_of_lines (elements Square text) entries lines.each in
-    (js.0, record { are = js.1; parsed = document_of_items text js.0 js.1 })
+  -- what is told of the lines is what is told of the whole, where no key comes twice
+  told_in_list : (text : List ℕ) (entries : List Tree) (list : Lists by text entries) → AreDistinct entries → items_told by [] list.items ≡ flat_map (line_told by) (elements Square text)
+  told_in_list text entries list distinct =
+      told_of_entries list.items [] entries list.read distinct
+      ∙ sym (told_of_lines by (elements Square text) list.items (items-of-array text list.items list.parsed))
 
--- a text lists what its lines do
-pub list_of_lines : (text : List ℕ) (entries : List Tree) (counts : Counts) → LinesList text entries counts → Lists text entries
-list_of_lines text entries counts lines =
-    let whole = array_of_lines text entries counts lines in
-    let said = entries_of_lines (elements Square text) whole.0 entries whole.1.are lines.each in
-    record { items = whole.0; parsed = whole.1.parsed; unique = said.0; read = said.1 }
+  pub notes_of_lines : (text : List ℕ) (entries : List Tree) (kept : NotesView) → LinesList by text entries kept → AreDistinct entries → TellsAsCsl by text kept
+  notes_of_lines text entries kept lines distinct =
+      let list = list_of_lines text entries kept lines in
+      rw list.parsed (lines.notes ∙ sym (ap kept_of (told_in_list text entries list distinct)))
 
--- what is passed over of the lines is what is passed over of the whole
-pub ignored_of_lines : (text : List ℕ) (entries : List Tree) (ignored : Ignored) → LinesList text entries (counts_of ignored) → IsPassedOver text ignored
-ignored_of_lines text entries ignored lines =
-    let whole = array_of_lines text entries (counts_of ignored) lines in
-    rw whole.1.parsed (lines.of_passed_over ∙ ap tally (passed_over_of_lines (elements Square text) whole.0 whole.1.are))
+  -- the other way, the lines of a text list what it does, and tell what it does
+  pub lines_of_list : (text : List ℕ) (entries : List Tree) (kept : NotesView) → Lists by text entries → AreDistinct entries → TellsAsCsl by text kept → LinesList by text entries kept
+  lines_of_list text entries kept list distinct told =
+      let of_items : kept ≡ kept_of (items_told by [] list.items) = rw list.parsed at told in
+      record {
+        each = lines_of_entries by (elements Square text) list.items entries (items-of-array text list.items list.parsed) list.unique list.read;
+        notes = of_items ∙ ap kept_of (told_in_list text entries list distinct);
+      }
 
--- the other way, the lines of a text list what it does, and pass over what it does
-pub lines_of_list : (text : List ℕ) (entries : List Tree) (ignored : Ignored) → Lists text entries → IsPassedOver text ignored → LinesList text entries (counts_of ignored)
-lines_of_list text entries ignored list counted =
-    let are = items-of-array text list.items list.parsed in
-    let of_items : counts_of ignored ≡ tally (items_passed_over list.items) = rw list.parsed at counted in
-    record {
-      each = lines_of_entries (elements Square text) list.items entries are list.unique list.read;
-      of_passed_over = of_items ∙ ap tally (sym (passed_over_of_lines (elements Square text) list.items are));
-    }
+  -- a text that lists entries describes the library of them
+  pub pushed_of_list : (text : List ℕ) (entries : List Tree) → Lists by text entries → DescribesAsCsl by text (from_entries entries)
+  pushed_of_list text entries list = record {
+    value = array list.items;
+    parsed = list.parsed;
+    unique = list.unique;
+    read = pushed_of_entries by list.items [] entries 0 list.read;
+  }
 
--- where no key comes twice, a text that lists entries describes the library of them
-pub library_of_list : (text : List ℕ) (entries : List Tree) → Lists text entries → AreDistinct entries → DescribesAsCsl text entries
-library_of_list text entries list distinct = record {
-  value = array list.items;
-  parsed = list.parsed;
-  unique = list.unique;
-  read = items_pushed_of_entries list.items [] entries 0 list.unique list.read distinct;
-}
+  -- which is these entries where no key comes twice
+  pub library_of_list : (text : List ℕ) (entries : List Tree) → Lists by text entries → AreDistinct entries → DescribesAsCsl by text entries
+  library_of_list text entries list distinct = subst (DescribesAsCsl by text) (from_entries-distinct entries distinct) (pushed_of_list text entries list)
 
--- the other way, an array that describes a library lists its entries
-pub list_of_library : (text : List ℕ) (js : Items) (library : List Tree) → document text ≡ Some (array js) → DescribesAsCsl text library → Lists text library
-list_of_library text js library is_array d =
-    let same : d.value ≡ array js = some_same (sym d.parsed ∙ is_array) in
-    let read : items_pushed [] 0 js ≡ Ok library = subst (λ j. csl_library_of j ≡ Ok library) same d.read in
-    let listed = entries_of_items_pushed js [] library 0 read in
-    record {
-      items = js;
-      parsed = is_array;
-      unique = subst HasUniqueKeys same d.unique;
-      read = rw listed.1 listed.2;
-    }
-  where
-    some_same : {i j : Json} → Some i ≡ Some j → i ≡ j
-    some_same h = cc
+  -- the other way, an array that describes a library lists entries of which it is the library
+  pub list_of_library : (text : List ℕ) (js : Items) (library : List Tree) → document text ≡ Some (array js) → DescribesAsCsl by text library
+      → (entries : List Tree) × (library ≡ from_entries entries) × Lists by text entries
+  list_of_library text js library is_array d =
+      let same : d.value ≡ array js = some_same (sym d.parsed ∙ is_array) in
+      let read : items_pushed by [] 0 js ≡ Ok library = subst (λ j. csl_library_of by j ≡ Ok library) same d.read in
+      let listed = entries_of_pushed by js [] library 0 read in
+      let list : Lists by text listed.0 = record {
+        items = js;
+        parsed = is_array;
+        unique = subst HasUniqueKeys same d.unique;
+        read = listed.2;
+      } in
+      (listed.0, listed.1, list)
+    where
+      some_same : {i j : Json} → Some i ≡ Some j → i ≡ j
+      some_same h = cc

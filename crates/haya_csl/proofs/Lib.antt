@@ -1,7 +1,7 @@
-mod ListTurns
-mod Lists
-mod MadeLemmas
 mod Pieces
-mod KeptKeys
-mod NewIds
+pub mod Prefixes
+mod ListTurns
+mod MadeLemmas
+mod MembersTold
+mod Refusals
 pub mod ItemLists

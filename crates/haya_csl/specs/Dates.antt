@@ -1,177 +1,256 @@
--- Dates.
-use Rattle.std.specs.Prelude.{ℕ, ◌-◌, ◌==◌, ℤ, pos, nat_lt, unsigned_abs, false, ◌&&◌, ◌||◌, List, [], ◌∷◌, Option, None, Some, ok_or, option_and_then, option_map, unwrap_or, Result, Ok, codes, if◌then◌else◌}
+-- Dates, and what is lost of them.
+use Rattle.std.specs.Prelude.{ℕ, Bool, true, false, ◌||◌, not, List, [], ◌∷◌, ◌++◌, Option, None, Some, codes, fold, is_some, option_and_then, option_map, unwrap_or, if◌then◌else◌}
 use Rattle.std.specs.Map.{lookup}
-use Rattle.std.specs.Ordering.{int_eq}
-use Rattle.std.specs.Result.{result_ok}
-use Rattle.std.specs.Str.{bytes_eq, chars}
+use Rattle.std.specs.Str.{bytes_eq}
 use Rattle.json.specs.Json as json
-use Rattle.json.specs.Json.{Json, Items, Members}
-use Rattle.json.specs.Find.{is_null}
-use Rattle.haya_time.specs.DateReadBack.{is_on_calendar}
-use Rattle.haya_time.specs.DateReading.{date_read}
+use Rattle.json.specs.Json.{Json, Members}
+use Rattle.json.specs.Find.{at, is_null}
 use Rattle.haya_time.specs.declared.date.Date.{Date}
 use Rattle.haya_time.specs.declared.date.Season.{Season}
 use Rattle.haya_time.specs.declared.date.Season.TheVariants.{Spring, Summer, Autumn, Winter}
-use Rattle.haya_json.specs.Refusal.{Refusal, here, refused, within, and_then, to_item, to_member}
-use Rattle.haya_json.specs.Parts.{bytes_of, items_of}
-use Rattle.haya_json.specs.Whole.{byte_of, season_of, whole_read}
-use Rattle.haya_json.specs.declared.fault.Why.TheVariants.{NotList, NotObject, NotDate}
-use Rattle.haya_csl.specs.Names.{said_of}
-use Rattle.haya_csl.specs.declared.dates.DateParts.{DateParts}
-use Rattle.haya_csl.specs.declared.dates.Part.{Part}
-use Rattle.haya_csl.specs.declared.dates.Part.TheVariants.{Missing, Unread, Number}
+use Rattle.haya_json.specs.Notes.{LossView, LostView, all_behind, lost_behind, lost_here, named, unread}
+use Rattle.haya_json.specs.Parts.{member_of, text_in}
+use Rattle.haya_json.specs.Refusal.{to_item, to_member}
+use Rattle.haya_json.specs.Whole.{whole_read}
+use Rattle.haya_json.specs.declared.fault.Why.TheVariants.{NotDate, NotList, NotObject, NotText, NotTruth}
+use Rattle.haya_csl.specs.DateNumbers.{all_seasons, date_at, edtf_seasons, first_of, month_seasons, part_by, part_season, season_in, unless_zero, with_season}
+use Rattle.haya_csl.specs.DateTexts.{date_in, marked, named_in, plain, range_start, season_names}
+use Rattle.haya_csl.specs.Said.{SaidView, said_behind, said_view}
+use Rattle.haya_csl.specs.declared.dates.calendar.Part.{Part}
+use Rattle.haya_csl.specs.declared.dates.calendar.Part.TheVariants.{Missing, Unread, Number}
+use Rattle.haya_csl.specs.declared.said.Said.{Said}
+
+-- ---- a date so far
+
+-- this date or none, and nothing is lost
+abbrev pub keeps : Option Date → SaidView Date
+keeps date = record { value = date; lost = [] }
+
+-- this date or none, and the value itself is lost
+abbrev pub keeps_but : LossView → Option Date → SaidView Date
+keeps_but loss date = record { value = date; lost = lost_here loss ∷ [] }
+
+-- a date that has to be one
+abbrev pub dated : Option Date → SaidView Date
+dated None = keeps_but (unread NotDate) None
+dated (Some d) = keeps (Some d)
+
+-- a date that begins a range, of which the end is lost
+abbrev pub range_end : List ℕ → List ℕ
+range_end name = name ++ codes ", the end of a range"
+
+abbrev pub ranged : List ℕ → SaidView Date → SaidView Date
+ranged name said = record {
+  value = said.value;
+  lost = said.lost ++ lost_here (named (range_end name)) ∷ [];
+}
 
 -- ---- a date by its parts
 
--- the first, and where there is none the second
-abbrev pub first_of : {T : Type 0} → Option T → Option T → Option T
-first_of None second = second
-first_of (Some x) second = Some x
+-- a number or digits; null and an empty text are as if the part were missing
+abbrev pub part_in : Option (List ℕ) → Part
+part_in None = Unread
+part_in (Some []) = Missing
+part_in (Some text) = part_by (whole_read text)
 
-abbrev pub part_by : Option ℤ → Part
-part_by None = Unread
-part_by (Some n) = Number n
+abbrev pub part_of : Json → Part
+part_of j = if is_null j then Missing else part_in (text_in j)
 
--- a part of a date: a number, digits, or null where there is none
-abbrev pub part_of : Json → Result Part Refusal
-part_of j =
-    if is_null j then Ok Missing
-    else and_then (bytes_of j) (λ text. Ok (part_by (whole_read text)))
+abbrev pub part_or_missing : Option Json → Part
+part_or_missing None = Missing
+part_or_missing (Some j) = part_of j
 
-abbrev pub date_with : ℤ → Option ℕ → Option ℕ → Date
-date_with year month day = record {
-  year = year;
-  month = month;
-  day = day;
-  approximate = false;
-  season = None;
-}
+-- the part at this place of a list
+abbrev pub part_at : ℕ → Json → Part
+part_at n j = part_or_missing (at n j)
 
--- the date, if it is one of the calendar's and of the years that texts of dates can write
-abbrev pub on_calendar : Date → Option Date
-on_calendar d =
-    if nat_lt (unsigned_abs d.year) 10000 && is_on_calendar d.year d.month d.day then Some d
-    else None
+-- a year, a month or a season, and a day; a day without its month is lost
+abbrev pub date_by : Part → Part → Part → SaidView Date
+date_by Missing Missing Missing = keeps None
+date_by (Number year) Missing Missing = dated (date_at year Missing Missing None)
+date_by (Number year) Missing day = keeps_but (unread NotDate) (date_at year Missing Missing None)
+date_by (Number year) month day = dated (date_at year month day (part_season month_seasons month))
+date_by _ _ _ = keeps_but (unread NotDate) None
 
--- a month or a day, which dates count from 0 on
-abbrev pub less_one : ℕ → Option ℕ
-less_one n = if n == 0 then None else Some (n - 1)
+-- three parts at most
+abbrev pub parts_read : Json → SaidView Date
+parts_read j =
+    if is_some (at 3 j) then keeps_but (unread NotDate) None
+    else date_by (part_at 0 j) (unless_zero (part_at 1 j)) (unless_zero (part_at 2 j))
 
-abbrev pub counted : ℤ → Option ℕ
-counted n = option_and_then less_one (byte_of n)
+abbrev pub parts_said : Json → SaidView Date
+parts_said json.null = keeps None
+parts_said (json.array parts) = parts_read (json.array parts)
+parts_said _ = keeps_but (unread NotList) None
 
--- the season in the place of a month
-abbrev pub season_at : ℤ → Option Season
-season_at n =
-    if int_eq n (pos 21) then Some Spring
-    else if int_eq n (pos 22) then Some Summer
-    else if int_eq n (pos 23) then Some Autumn
-    else if int_eq n (pos 24) then Some Winter
-    else None
+-- the first date of a list; a second is the end of a range
+abbrev pub first_said : List ℕ → Bool → Option Json → SaidView Date
+first_said name is_range None = keeps None
+first_said name is_range (Some j) =
+    if is_range then ranged name (said_behind (to_item 0) (parts_said j))
+    else said_behind (to_item 0) (parts_said j)
 
-abbrev pub in_month : ℤ → Option ℕ → Option Date
-in_month year None = None
-in_month year (Some month) = on_calendar (date_with year (Some month) None)
+abbrev pub dates_said : List ℕ → Option Date → Json → SaidView Date
+dates_said name found (json.array dates) =
+    first_said name (is_some (at 1 (json.array dates))) (at 0 (json.array dates))
+dates_said name found _ = keeps_but (unread NotList) found
 
-abbrev pub with_season : Season → Date → Date
-with_season season d = record d { season = Some season }
+-- ---- a date in a text
 
-abbrev pub in_season : Option Season → ℤ → ℤ → Option Date
-in_season None year month = in_month year (counted month)
-in_season (Some season) year month =
-    option_map (with_season season) (on_calendar (date_with year None None))
+abbrev pub start_said : List ℕ → Option Date → SaidView Date
+start_said name None = keeps_but (unread NotDate) None
+start_said name (Some d) = ranged name (keeps (Some d))
 
-abbrev pub on_day : ℤ → Option ℕ → Option ℕ → Option Date
-on_day year (Some month) (Some day) = on_calendar (date_with year (Some month) (Some day))
-on_day year _ _ = None
+abbrev pub range_said : List ℕ → List ℕ → Option (List ℕ) → SaidView Date
+range_said name text None = dated (date_in text)
+range_said name text (Some start) = start_said name (date_in start)
 
--- the date of a year, a month or a season, and a day
-abbrev pub date_at : ℤ → Part → Part → Option Date
-date_at year Missing Missing = on_calendar (date_with year None None)
-date_at year (Number month) Missing = in_season (season_at month) year month
-date_at year (Number month) (Number day) = on_day year (counted month) (counted day)
-date_at year _ _ = None
+-- the date of a text, or of the start of a range; an empty text says none
+unfoldable pub text_said : List ℕ → List ℕ → SaidView Date
+text_said name [] = keeps None
+text_said name text = range_said name (plain text) (range_start (plain text))
 
-abbrev pub some_date : Option Date → Result (Option Date) Refusal
-some_date date = and_then (ok_or date (here NotDate)) (λ d. Ok (Some d))
+abbrev pub first_text : List ℕ → Option (List ℕ) → SaidView Date
+first_text name None = keeps_but (unread NotText) None
+first_text name (Some text) = text_said name text
 
--- a date has one to three parts; without a year it is none
-abbrev pub date_by : List Part → Result (Option Date) Refusal
-date_by [] = Ok None
-date_by (Missing ∷ parts) = Ok None
-date_by (Number year ∷ []) = some_date (date_at year Missing Missing)
-date_by (Number year ∷ month ∷ []) = some_date (date_at year month Missing)
-date_by (Number year ∷ month ∷ day ∷ []) = some_date (date_at year month day)
-date_by (_ ∷ _) = refused NotDate
+-- a text that isn't needed, as there is a date
+abbrev pub spare_text : List ℕ → Date → Option (List ℕ) → SaidView Date
+spare_text spare d (Some []) = keeps (Some d)
+spare_text spare d text = keeps_but (named spare) (Some d)
 
--- the parts of the first date of a list; of a second date, which ends a range, nothing is taken
-abbrev pub parts_of : Json → Result (List Part) Refusal
-parts_of json.null = Ok []
-parts_of (json.array js) = items_of part_of 0 js
-parts_of _ = refused NotList
+abbrev pub next_text : List ℕ → List ℕ → Option Date → Json → SaidView Date
+next_text spare name None j = first_text name (text_in j)
+next_text spare name (Some d) j = spare_text spare d (text_in j)
 
-abbrev pub first_parts : Items → Result (List Part) Refusal
-first_parts json.no_items = Ok []
-first_parts (json.item j js) = within (to_item 0) (parts_of j)
+-- ---- the season
 
-abbrev pub dates_of : Json → Result (Option Date) Refusal
-dates_of (json.array js) = and_then (first_parts js) date_by
-dates_of _ = refused NotList
+-- by its number, or by its name in English
+unfoldable pub season_read : List ℕ → Option Season
+season_read text =
+    first_of (option_and_then (season_in all_seasons) (whole_read text))
+    (part_season edtf_seasons (named_in season_names text))
 
--- ---- what else a date says
+abbrev pub is_season : Season → Season → Bool
+is_season Spring Spring = true
+is_season Summer Summer = true
+is_season Autumn Autumn = true
+is_season Winter Winter = true
+is_season _ _ = false
 
-abbrev pub no_date : DateParts
-no_date = record { by_parts = None; by_text = None; season = None; circa = false }
+-- a date has one season
+abbrev pub with_first_season : Season → Date → Option Season → SaidView Date
+with_first_season s d None = keeps (Some (with_season s d))
+with_first_season s d (Some first) =
+    if is_season s first then keeps (Some d) else keeps_but (named (codes "season")) (Some d)
 
-abbrev pub season_said : Json → Result (Option Season) Refusal
-season_said j =
-    and_then (bytes_of j) (λ text. Ok (option_and_then season_of (whole_read text)))
+unfoldable pub in_season_said : Option Date → Option Season → SaidView Date
+in_season_said found None = keeps_but (unread NotDate) found
+in_season_said None (Some s) = keeps_but (named (codes "season")) None
+in_season_said (Some d) (Some s) = with_first_season s d d.season
 
--- the date of a text, where it is read as one
-abbrev pub date_said : Json → Result (Option Date) Refusal
-date_said j = and_then (bytes_of j) (λ text. Ok (result_ok (date_read (chars text))))
+unfoldable pub season_text : Option Date → List ℕ → SaidView Date
+season_text found [] = keeps found
+season_text found text = in_season_said found (season_read (plain text))
 
-abbrev pub DateSetter : Type 0
-DateSetter = Json → DateParts → Result DateParts Refusal
+abbrev pub season_by : Option Date → Option (List ℕ) → SaidView Date
+season_by found None = keeps_but (unread NotDate) found
+season_by found (Some text) = season_text found text
 
-abbrev pub date_setter : {V : Type 0} → (Json → Result V Refusal) → (V → DateParts → DateParts)
-    → DateSetter
-date_setter read put j d = and_then (read j) (λ v. Ok (put v d))
+abbrev pub season_said : List ℕ → Option Date → Json → SaidView Date
+season_said name found j = season_by found (text_in j)
 
-abbrev pub date_table : List (List ℕ × DateSetter)
+-- ---- whether the date is only about right
+
+abbrev pub is_true : List ℕ → Bool
+is_true text =
+    not (bytes_eq text (codes "") || bytes_eq text (codes "false") || bytes_eq text (codes "0"))
+
+abbrev pub truth_in : Json → Option Bool
+truth_in (json.boolean b) = Some b
+truth_in j = option_map is_true (text_in j)
+
+abbrev pub circa_by : Option Date → Option Bool → SaidView Date
+circa_by found None = keeps_but (unread NotTruth) found
+circa_by found (Some false) = keeps found
+circa_by None (Some true) = keeps_but (named (codes "circa")) None
+circa_by (Some d) (Some true) = keeps (Some (marked true d))
+
+abbrev pub circa_said : List ℕ → Option Date → Json → SaidView Date
+circa_said name found j = circa_by found (truth_in j)
+
+-- ---- the members of a date
+
+-- The date after a member: of the one so far, under the name of the whole date.
+abbrev pub DateReader : Type 0
+DateReader = List ℕ → Option Date → Json → SaidView Date
+
+abbrev pub date_table : List (List ℕ × DateReader)
 date_table =
-    (codes "date-parts", date_setter dates_of (λ v d. record d { by_parts = v }))
-    ∷ (codes "season", date_setter season_said (λ v d. record d { season = v }))
-    ∷ (codes "circa", date_setter said_of (λ v d. record d { circa = v }))
-    ∷ (codes "raw", date_setter date_said (λ v d. record d { by_text = first_of v d.by_text }))
-    ∷ (codes "edtf", date_setter date_said (λ v d. record d { by_text = first_of d.by_text v }))
+    (codes "date-parts", dates_said)
+    ∷ (codes "raw", next_text (codes "raw date"))
+    ∷ (codes "edtf", next_text (codes "edtf date"))
+    ∷ (codes "literal", next_text (codes "literal date"))
+    ∷ (codes "season", season_said)
+    ∷ (codes "circa", circa_said)
     ∷ []
 
-abbrev pub passing_date : DateSetter
-passing_date j d = Ok d
+abbrev pub no_reader : DateReader
+no_reader name found j = keeps found
 
-abbrev pub with_named_date : List ℕ → DateSetter
-with_named_date name = unwrap_or (lookup (bytes_eq name) date_table) passing_date
+abbrev pub reader_of : List ℕ → DateReader
+reader_of key = unwrap_or (lookup (bytes_eq key) date_table) no_reader
 
-abbrev pub with_date_member : List ℕ → DateSetter
-with_date_member name j d = if is_null j then Ok d else with_named_date name j d
-
-abbrev pub date_set : Members → DateParts → Result DateParts Refusal
-date_set json.no_members d = Ok d
-date_set (json.member k j ms) d =
-    and_then (within (to_member k) (with_date_member k j d)) (λ more. date_set ms more)
-
--- the date with its season and whether it is only about right
-abbrev pub marked_by : DateParts → Date → Date
-marked_by parts d = record d {
-  approximate = d.approximate || parts.circa;
-  season = first_of d.season parts.season;
+-- what a member says behind what is said so far
+abbrev pub followed_by : List ℕ → SaidView Date → SaidView Date → SaidView Date
+followed_by key so_far said = record {
+  value = said.value;
+  lost = so_far.lost ++ all_behind (to_member key) said.lost;
 }
 
-abbrev pub date_among : DateParts → Option Date
-date_among parts = option_map (marked_by parts) (first_of parts.by_parts parts.by_text)
+abbrev pub after_value : List ℕ → List ℕ → SaidView Date → Option Json → SaidView Date
+after_value name key so_far None = so_far
+after_value name key so_far (Some j) = followed_by key so_far (reader_of key name so_far.value j)
 
--- an object of a date, which may say none
-unfoldable pub csl_date_of : Json → Result (Option Date) Refusal
-csl_date_of (json.object ms) = and_then (date_set ms no_date) (λ parts. Ok (date_among parts))
-csl_date_of _ = refused NotObject
+unfoldable pub after_member : List ℕ → Json → SaidView Date → List ℕ → SaidView Date
+after_member name j so_far key = after_value name key so_far (member_of key j)
+
+-- the members of the table, in its order
+abbrev pub members_said : List ℕ → Json → SaidView Date
+members_said name j = fold (λ so_far row. after_member name j so_far row.0) (keeps None) date_table
+
+-- ---- other members
+
+abbrev pub is_known : List ℕ → Bool
+is_known key = is_some (lookup (bytes_eq key) date_table)
+
+abbrev pub unknown_name : List ℕ → List ℕ → List ℕ
+unknown_name name key = name ++ (codes ", member " ++ key)
+
+abbrev pub unknown_lost : List ℕ → List ℕ → Json → List LostView
+unknown_lost name key j =
+    if is_null j || is_known key then []
+    else lost_behind (to_member key) (lost_here (named (unknown_name name key))) ∷ []
+
+abbrev pub all_unknown : List ℕ → Members → List LostView
+all_unknown name json.no_members = []
+all_unknown name (json.member key j ms) = unknown_lost name key j ++ all_unknown name ms
+
+-- ---- a date
+
+abbrev pub object_said : List ℕ → Members → SaidView Date
+object_said name ms =
+    let said = members_said name (json.object ms) in
+    record { value = said.value; lost = said.lost ++ all_unknown name ms }
+
+-- the date that a value says, under the member of this name
+unfoldable pub date_said : List ℕ → Json → SaidView Date
+date_said name (json.object ms) = object_said name ms
+date_said name (json.string text) = text_said name text
+date_said name (json.number text) = text_said name text
+date_said name _ = keeps_but (unread NotObject) None
+
+-- ---- of the code's values
+
+abbrev pub date_view : Said Date → SaidView Date
+date_view said = said_view (λ d. d) said

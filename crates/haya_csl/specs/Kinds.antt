@@ -1,9 +1,11 @@
 -- The types of CSL 1.0.2: the type of an item's entry, what it appears in, and what goes there.
-use Rattle.std.specs.Prelude.{ℕ, nat_le, Bool, false, ◌&&◌, ◌||◌, List, [], ◌∷◌, length, map, take, Option, None, Some, is_some, option_and_then, option_map, unwrap_or, codes, if◌then◌else◌}
+use Rattle.std.specs.Prelude.{ℕ, nat_le, Bool, true, false, ◌&&◌, ◌||◌, List, [], ◌∷◌, length, map, take, Option, None, Some, is_some, option_and_then, option_map, unwrap_or, codes, if◌then◌else◌}
 use Rattle.std.specs.Char.{to_ascii_lowercase}
 use Rattle.std.specs.Map.{lookup}
 use Rattle.std.specs.Str.{bytes_eq}
+use Rattle.json.specs.Json as json
 use Rattle.json.specs.Json.{Json}
+use Rattle.json.specs.Find.{get}
 use Rattle.haya_entry.specs.declared.types.EntryType.{EntryType}
 use Rattle.haya_entry.specs.declared.types.EntryType.TheVariants as type
 use Rattle.haya_json.specs.Parts.{member_of, text_in}
@@ -36,9 +38,26 @@ given_at entry venue = record { entry = entry; own = own.Usual; host = None; ven
 
 -- ---- types that other members decide
 
--- whether the item has the member
+-- a value that is as if it weren't there: null, or an empty text, list or object
+abbrev pub is_empty : Json → Bool
+is_empty json.null = true
+is_empty (json.string []) = true
+is_empty (json.array json.no_items) = true
+is_empty (json.object json.no_members) = true
+is_empty _ = false
+
+-- a member, but where it is empty
+abbrev pub unless_empty : Option Json → Option Json
+unless_empty None = None
+unless_empty (Some j) = if is_empty j then None else Some j
+
+-- the member with this name, if there is one and it isn't empty
+abbrev pub filled : List ℕ → Json → Option Json
+filled name item = unless_empty (get name item)
+
+-- whether the item has it
 abbrev pub has : List ℕ → Json → Bool
-has name item = is_some (member_of name item)
+has name item = is_some (filled name item)
 
 abbrev pub in_periodical : EntryType → Kind
 in_periodical entry = appears_in entry type.Periodical takes.Issue

@@ -11,35 +11,37 @@ use Rattle.haya_json.specs.Parts.{member_of}
 use Rattle.haya_json.specs.declared.fault.Why.TheVariants.{NotList}
 use Rattle.haya_json.specs.declared.error.ReadError.{ReadError}
 use Rattle.haya_csl.specs.Items.{item_of}
+use Rattle.haya_csl.specs.declared.item_key.ItemKey.{ItemKey}
 
--- the library after the entries of items, the first of which stands at this place
-abbrev pub items_pushed : List Tree → ℕ → Items → Result (List Tree) Refusal
-items_pushed library n json.no_items = Ok library
-items_pushed library n (json.item j js) =
-    and_then (within (to_item n) (item_of library j)) (λ t.
-    items_pushed (push t library) (n + 1) js)
+-- The library after the entries of items are pushed, the first of which is at this place. An entry
+-- whose key comes again takes the place of the earlier one.
+abbrev pub items_pushed : ItemKey → List Tree → ℕ → Items → Result (List Tree) Refusal
+items_pushed by library n json.no_items = Ok library
+items_pushed by library n (json.item j js) =
+    and_then (within (to_item n) (item_of by j)) (λ t.
+    items_pushed by (push t library) (n + 1) js)
 
 -- a list of items
-abbrev pub list_of : Json → Result (List Tree) Refusal
-list_of (json.array js) = items_pushed [] 0 js
-list_of _ = refused NotList
+abbrev pub list_of : ItemKey → Json → Result (List Tree) Refusal
+list_of by (json.array js) = items_pushed by [] 0 js
+list_of by _ = refused NotList
 
-abbrev pub list_in : Option Json → Result (List Tree) Refusal
-list_in None = refused NotList
-list_in (Some j) = within (to_member (codes "items")) (list_of j)
+abbrev pub list_in : ItemKey → Option Json → Result (List Tree) Refusal
+list_in by None = refused NotList
+list_in by (Some j) = within (to_member (codes "items")) (list_of by j)
 
 -- the library that a value says: a list of items, or an object that has it as its `items`
-abbrev pub csl_library_of : Json → Result (List Tree) Refusal
-csl_library_of (json.object ms) = list_in (member_of (codes "items") (json.object ms))
-csl_library_of j = list_of j
+abbrev pub csl_library_of : ItemKey → Json → Result (List Tree) Refusal
+csl_library_of by (json.object ms) = list_in by (member_of (codes "items") (json.object ms))
+csl_library_of by j = list_of by j
 
 -- the text is JSON in which no object has a name twice, and it says this library in CSL-JSON
-pub record DescribesAsCsl (text : List ℕ) (library : List Tree) : Type 0 where
+pub record DescribesAsCsl (by : ItemKey) (text : List ℕ) (library : List Tree) : Type 0 where
   pub value : Json
   pub parsed : document text ≡ Some value
   pub unique : HasUniqueKeys value
-  pub read : csl_library_of value ≡ Ok library
+  pub read : csl_library_of by value ≡ Ok library
 
 -- what an error says of a text
-abbrev pub IsCslErrorOf : List ℕ → ReadError → Type 0
-IsCslErrorOf text error = IsErrorOfReading csl_library_of text error
+abbrev pub IsCslErrorOf : ItemKey → List ℕ → ReadError → Type 0
+IsCslErrorOf by text error = IsErrorOfReading (csl_library_of by) text error

@@ -1,5 +1,5 @@
 -- The members of an item: the field that each sets, and the entry whose field that is.
-use Rattle.std.specs.Prelude.{ℕ, List, [], ◌∷◌, Option, None, Some, option_map, codes, if◌then◌else◌}
+use Rattle.std.specs.Prelude.{ℕ, List, [], ◌∷◌, Option, None, Some, option_map, unwrap_or, codes, if◌then◌else◌}
 use Rattle.std.specs.Map.{lookup}
 use Rattle.std.specs.Str.{bytes_eq}
 use Rattle.json.specs.Json.{Json}
@@ -47,7 +47,7 @@ abbrev pub archive_location_in : Json → Choice
 archive_location_in item =
     if bytes_eq (text_at (codes "archive") item) (codes "arXiv") then
     Put (field.Serial serial.Arxiv)
-    else unless (codes "call-number") (field.Text text.CallNumber) item
+    else unless (codes "call-number") field.ArchiveNumber item
 
 abbrev pub own_texts : MemberTable
 own_texts =
@@ -251,3 +251,23 @@ abbrev pub place_of : Kind → List ℕ → Json → Option Place
 place_of kind name item =
     or_else (host_place kind.host name item)
     (or_else (venue_place kind.venue name item) (own_place kind.own name item))
+
+-- ---- a member in whose place the item has another
+
+-- what it is counted under: its name, and that of the one that is preferred
+abbrev pub beside_table : List (List ℕ × List ℕ)
+beside_table =
+    (codes "annote", codes "annote beside note")
+    ∷ (codes "archive_location", codes "archive_location beside call-number")
+    ∷ (codes "authority", codes "authority beside publisher")
+    ∷ (codes "container-title", codes "container-title beside title")
+    ∷ (codes "event", codes "event beside event-title")
+    ∷ (codes "event-place", codes "event-place beside publisher-place")
+    ∷ (codes "journalAbbreviation", codes "journalAbbreviation beside container-title-short")
+    ∷ (codes "medium", codes "medium beside genre")
+    ∷ (codes "number", codes "number beside issue")
+    ∷ (codes "shortTitle", codes "shortTitle beside title-short")
+    ∷ []
+
+abbrev pub beside : List ℕ → List ℕ
+beside name = unwrap_or (lookup (bytes_eq name) beside_table) name

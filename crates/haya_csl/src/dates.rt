@@ -1,328 +1,344 @@
-//! Dates.
-ghost use Rattle.std.specs.Prelude.{◌≡◌, Ok, codes, option_map, IfOk, IfErr, OnOk};
-ghost use Rattle.json.specs.Value.{items_view, members_view, value_view};
-ghost use Rattle.haya_json.specs.Refusal.{IsFaultOf};
-ghost use Rattle.haya_csl.specs.Dates.{counted, csl_date_of, date_among, date_at, date_by};
-ghost use Rattle.haya_csl.specs.Dates.{date_said, date_set, date_with, dates_of, first_of};
-ghost use Rattle.haya_csl.specs.Dates.{first_parts, in_month, in_season, marked_by, no_date};
-ghost use Rattle.haya_csl.specs.Dates.{on_calendar, on_day, part_of, parts_of, season_at};
-ghost use Rattle.haya_csl.specs.Dates.{season_said, some_date, with_date_member};
-ghost use Rattle.haya_csl.specs.Dates.{with_named_date, with_season};
-ghost use Rattle.haya_json.specs.Whole.{season_of};
+//! Dates, and what is lost of them.
+ghost use Rattle.std.specs.Prelude.{◌≡◌, ◌++◌, IfOk};
+ghost use Rattle.json.specs.Value.{members_view, value_view};
+ghost use Rattle.haya_json.specs.Notes.{losts_view};
+ghost use Rattle.haya_json.specs.Parts.{text_in};
+ghost use Rattle.haya_csl.specs.Dates.{after_member, all_unknown, circa_by, date_said};
+ghost use Rattle.haya_csl.specs.Dates.{date_view, in_season_said, is_known, is_season, is_true};
+ghost use Rattle.haya_csl.specs.Dates.{members_said, next_text, range_said, reader_of};
+ghost use Rattle.haya_csl.specs.Dates.{season_by, season_read, season_text, start_said};
+ghost use Rattle.haya_csl.specs.Dates.{text_said, truth_in, unknown_lost, with_first_season};
+ghost use Rattle.haya_csl.specs.DateTexts.{range_start};
+ghost use Rattle.haya_csl.specs.Said.{said_view};
 
-use crate::names::read_said;
-use haya_json::Why;
-use haya_json::reading::{Fault, FromJson, read_items, read_text, whole_read};
+pub(crate) mod calendar;
+pub(crate) mod kept;
+pub(crate) mod parts;
+pub(crate) mod texts;
+
+use crate::said::Said;
+use calendar::{any_season, edtf_season, with_season};
+use haya_json::reading::{member, text_in, whole_read};
+use haya_json::{Lost, Why};
+use haya_text::OutOfMemory;
 use haya_time::{Date, Season};
 use json::Value;
+use kept::{
+    dated, followed_by, kept, kept_but_named, kept_but_unread, ranged, unknown_member, with_all,
+    with_one,
+};
+use parts::read_dates;
 use std::alloc::Global;
+use texts::{date_in, marked, named_season, plain, range_start};
 
-// What an object says of a date.
-#[derive(Clone, Copy)]
-struct DateParts {
-    by_parts: Option<Date>,
-    by_text: Option<Date>,
-    season: Option<Season>,
-    circa: bool,
-}
-
-// A part of a date.
-#[derive(Clone, Copy, Drop)]
-enum Part {
-    // It is null.
-    Missing,
-    // It is no whole number.
-    Unread,
-    // A year, a month or a day, from 1 on.
-    Number(i32),
-}
-
-/// The date of an object, which may say none.
-#[tactic(auto, unfolding(crate::specs::Dates::csl_date_of))]
-pub(crate) fn read_date(alloc: Global, json: &Value<'_>) -> Result<Option<Date>, Fault>
-    ensures ok { IfOk result (λ date. csl_date_of (value_view json.now) ≡ Ok date) }
-    ensures fault { IfErr result (IsFaultOf (csl_date_of (value_view json.now))) }
-{
-    let Value::Object(members) = json else {
-        return Err(Fault::refused(alloc, Why::NotObject));
-    };
-    let parts = read_members(alloc, members)?;
-    Ok(date_among(parts))
-}
-
-// What the members of an object say of a date.
-fn read_members(alloc: Global, members: &Vec<(&str, Value<'_>)>) -> Result<DateParts, Fault>
-    ensures ok { IfOk result (λ parts.
-        date_set (members_view members.now.items) no_date ≡ Ok parts) }
-    ensures fault { IfErr result (IsFaultOf (date_set (members_view members.now.items) no_date)) }
-{
-    let mut parts = DateParts {
-        by_parts: None,
-        by_text: None,
-        season: None,
-        circa: false,
-    };
-    'parts: for member in members {
-        match parts.set(alloc, member.0, &member.1) {
-            Ok(()) => {}
-            Err(fault) => return Err(fault.in_member(alloc, member.0)),
-        }
-    }
-    Ok(parts)
-}
-
-impl DateParts {
-    // Sets what the member of this name says, but where it is null.
-    fn set(&mut self, alloc: Global, name: &str, json: &Value<'_>) -> Result<(), Fault>
-        ensures ok { OnOk result
-            (with_date_member name.now (value_view json.now) self.old ≡ Ok self.new) }
-        ensures fault { IfErr result
-            (IsFaultOf (with_date_member name.now (value_view json.now) self.old)) }
-    {
-        if json.is_null() {
-            return Ok(());
-        }
-        self.set_named(alloc, name, json)
-    }
-
-    // Sets what the member of this name says. Another name is passed over.
-    fn set_named(&mut self, alloc: Global, name: &str, json: &Value<'_>) -> Result<(), Fault>
-        ensures ok { OnOk result
-            (with_named_date name.now (value_view json.now) self.old ≡ Ok self.new) }
-        ensures fault { IfErr result
-            (IsFaultOf (with_named_date name.now (value_view json.now) self.old)) }
-    {
-        match name {
-            "date-parts" => self.by_parts = read_dates(alloc, json)?,
-            "season" => self.season = read_season(alloc, json)?,
-            "circa" => self.circa = read_said(alloc, json)?,
-            "raw" => self.by_text = first_of(read_date_text(alloc, json)?, self.by_text),
-            "edtf" => self.by_text = first_of(self.by_text, read_date_text(alloc, json)?),
-            _ => {}
-        }
-        Ok(())
-    }
-}
-
-// The first, and where there is none the second.
-fn first_of<T: Copy>(first: Option<T>, second: Option<T>) -> Option<T>
-    ensures { result ≡ first_of first second }
-{
-    match first {
-        Some(first) => Some(first),
-        None => second,
-    }
-}
-
-// The season with this number.
-fn read_season(alloc: Global, json: &Value<'_>) -> Result<Option<Season>, Fault>
-    ensures ok { IfOk result (λ s. season_said (value_view json.now) ≡ Ok s) }
-    ensures fault { IfErr result (IsFaultOf (season_said (value_view json.now))) }
-{
-    let text = read_text(alloc, json)?;
-    match whole_read(text) {
-        Some(number) => Ok(season_of(number)),
-        None => Ok(None),
-    }
-}
-
-// The season with this number, from 1 to 4.
-fn season_of(number: i32) -> Option<Season>
-    ensures { result ≡ season_of number }
-{
-    match number {
-        1 => Some(Season::Spring),
-        2 => Some(Season::Summer),
-        3 => Some(Season::Autumn),
-        4 => Some(Season::Winter),
-        _ => None,
-    }
-}
-
-// The date of a text, where it is read as one.
-fn read_date_text(alloc: Global, json: &Value<'_>) -> Result<Option<Date>, Fault>
-    ensures ok { IfOk result (λ d. date_said (value_view json.now) ≡ Ok d) }
-    ensures fault { IfErr result (IsFaultOf (date_said (value_view json.now))) }
-{
-    let text = read_text(alloc, json)?;
-    Ok(text.parse::<Date>().ok())
-}
-
-// The first date of a list.
-fn read_dates(alloc: Global, json: &Value<'_>) -> Result<Option<Date>, Fault>
-    ensures ok { IfOk result (λ d. dates_of (value_view json.now) ≡ Ok d) }
-    ensures fault { IfErr result (IsFaultOf (dates_of (value_view json.now))) }
-{
-    let Value::Array(items) = json else {
-        return Err(Fault::refused(alloc, Why::NotList));
-    };
-    let parts = first_parts(alloc, items)?;
-    date_by(alloc, parts.as_slice())
-}
-
-// The parts of the first date of a list.
-fn first_parts(alloc: Global, items: &Vec<Value<'_>>) -> Result<Vec<Part>, Fault>
-    ensures ok { IfOk result (λ parts.
-        first_parts (items_view items.now.items) ≡ Ok parts.items) }
-    ensures fault { IfErr result (IsFaultOf (first_parts (items_view items.now.items))) }
-{
-    let Some(first) = items.first() else {
-        return Ok(Vec::new(alloc));
-    };
-    match read_parts(alloc, first) {
-        Ok(parts) => Ok(parts),
-        Err(fault) => Err(fault.in_item(0)),
-    }
-}
-
-// The parts of a date.
-fn read_parts(alloc: Global, json: &Value<'_>) -> Result<Vec<Part>, Fault>
-    ensures ok { IfOk result (λ parts. parts_of (value_view json.now) ≡ Ok parts.items) }
-    ensures fault { IfErr result (IsFaultOf (parts_of (value_view json.now))) }
+/// The date that a value says, under the member of this name, and what is lost of it.
+#[tactic(auto, unfolding(crate::specs::Dates::date_said))]
+pub(crate) fn read_date(
+    alloc: Global,
+    name: &str,
+    json: &Value<'_>,
+) -> Result<Said<Date>, OutOfMemory>
+    ensures { IfOk result (λ said.
+        said_view (λ d. d) said ≡ date_said name.now (value_view json.now)) }
 {
     match json {
-        Value::Null => Ok(Vec::new(alloc)),
-        Value::Array(items) => read_items::<Part>(alloc, items),
-        _ => Err(Fault::refused(alloc, Why::NotList)),
+        Value::Object(members) => {
+            let said = read_members(alloc, name, json)?;
+            with_unknown(alloc, name, members, said)
+        }
+        Value::String(text) => read_date_text(alloc, name, text, json),
+        Value::Number(text) => read_date_text(alloc, name, text, json),
+        _ => kept_but_unread(alloc, None, Why::NotObject, json),
     }
 }
 
-impl FromJson for Part {
-    ghost use Rattle.haya_csl.specs.declared.dates.Part as part;
-    ghost use Rattle.haya_csl.specs.Dates.{part_of};
-
-    ghost View = { part.Part };
-
-    ghost view = { λ p. p };
-
-    ghost reads = { part_of };
-
-    /// A number, digits, or null where there is none.
-    fn from_json(alloc: Global, json: &Value<'_>) -> Result<Part, Fault> {
-        if json.is_null() {
-            return Ok(Part::Missing);
-        }
-        let text = read_text(alloc, json)?;
-        match whole_read(text) {
-            Some(number) => Ok(Part::Number(number)),
-            None => Ok(Part::Unread),
-        }
-    }
-}
-
-// The date of these parts.
-fn date_by(alloc: Global, parts: &[Part]) -> Result<Option<Date>, Fault>
-    ensures ok { IfOk result (λ d. date_by parts.now ≡ Ok d) }
-    ensures fault { IfErr result (IsFaultOf (date_by parts.now)) }
+// What the members say that dates have.
+fn read_members(alloc: Global, name: &str, json: &Value<'_>) -> Result<Said<Date>, OutOfMemory>
+    ensures { IfOk result (λ said. date_view said ≡ members_said name.now (value_view json.now)) }
 {
-    match parts {
-        [] | [Part::Missing, ..] => Ok(None),
-        [Part::Number(year)] => some_date(alloc, date_at(*year, Part::Missing, Part::Missing)),
-        [Part::Number(year), month] => some_date(alloc, date_at(*year, *month, Part::Missing)),
-        [Part::Number(year), month, day] => some_date(alloc, date_at(*year, *month, *day)),
-        _ => Err(Fault::refused(alloc, Why::NotDate)),
+    let said = kept(alloc, None);
+    let said = after_member(alloc, name, json, said, "date-parts")?;
+    let said = after_member(alloc, name, json, said, "raw")?;
+    let said = after_member(alloc, name, json, said, "edtf")?;
+    let said = after_member(alloc, name, json, said, "literal")?;
+    let said = after_member(alloc, name, json, said, "season")?;
+    after_member(alloc, name, json, said, "circa")
+}
+
+// What is said behind the member of this name, if there is one.
+#[tactic(auto, unfolding(crate::specs::Dates::after_member))]
+fn after_member(
+    alloc: Global,
+    name: &str,
+    json: &Value<'_>,
+    so_far: Said<Date>,
+    key: &str,
+) -> Result<Said<Date>, OutOfMemory>
+    ensures { IfOk result (λ said. date_view said
+        ≡ after_member name.now (value_view json.now) (date_view so_far) key.now) }
+{
+    let Some(value) = member(json, key) else {
+        return Ok(so_far);
+    };
+    let said = read_known(alloc, name, key, so_far.value, value)?;
+    followed_by(alloc, key, so_far, said)
+}
+
+// The date after the member of this name.
+fn read_known(
+    alloc: Global,
+    name: &str,
+    key: &str,
+    found: Option<Date>,
+    json: &Value<'_>,
+) -> Result<Said<Date>, OutOfMemory>
+    ensures { IfOk result (λ said.
+        date_view said ≡ reader_of key.now name.now found (value_view json.now)) }
+{
+    match key {
+        "date-parts" => read_dates(alloc, name, found, json),
+        "raw" => next_text(alloc, "raw date", name, found, json),
+        "edtf" => next_text(alloc, "edtf date", name, found, json),
+        "literal" => next_text(alloc, "literal date", name, found, json),
+        "season" => read_season(alloc, found, json),
+        "circa" => read_circa(alloc, found, json),
+        _ => Ok(kept(alloc, found)),
     }
 }
 
-// A date that has to be one.
-fn some_date(alloc: Global, date: Option<Date>) -> Result<Option<Date>, Fault>
-    ensures ok { IfOk result (λ d. some_date date ≡ Ok d) }
-    ensures fault { IfErr result (IsFaultOf (some_date date)) }
+// The same date, and the members that have no meaning are lost.
+fn with_unknown(
+    alloc: Global,
+    name: &str,
+    members: &Vec<(&str, Value<'_>)>,
+    said: Said<Date>,
+) -> Result<Said<Date>, OutOfMemory>
+    ensures { IfOk result (λ all. (all.value ≡ said.value)
+        × (losts_view all.lost.items ≡ losts_view said.lost.items
+        ++ all_unknown name.now (members_view members.now.items))) }
+{
+    let Said { value, mut lost } = said;
+    'members: for member in members {
+        lost = after_unknown(alloc, name, member.0, &member.1, lost)?;
+    }
+    Ok(Said { value, lost })
+}
+
+// These losses, and the member of this name where it has no meaning.
+fn after_unknown(
+    alloc: Global,
+    name: &str,
+    key: &str,
+    json: &Value<'_>,
+    lost: Vec<Lost>,
+) -> Result<Vec<Lost>, OutOfMemory>
+    ensures { IfOk result (λ all. losts_view all.items
+        ≡ losts_view lost.items ++ unknown_lost name.now key.now (value_view json.now)) }
+{
+    if json.is_null() || is_known(key) {
+        return Ok(lost);
+    }
+    let unknown = unknown_member(alloc, name, key)?;
+    let unknown = unknown.in_member(alloc, key)?;
+    with_one(lost, unknown)
+}
+
+// Whether dates have a member of this name.
+fn is_known(key: &str) -> bool
+    ensures { result ≡ is_known key.now }
+{
+    match key {
+        "date-parts" | "raw" | "edtf" | "literal" | "season" | "circa" => true,
+        _ => false,
+    }
+}
+
+// The date of a text, or of the start of a range. An empty text says none.
+#[tactic(auto, unfolding(crate::specs::Dates::text_said))]
+fn read_date_text(
+    alloc: Global,
+    name: &str,
+    text: &str,
+    json: &Value<'_>,
+) -> Result<Said<Date>, OutOfMemory>
+    ensures { IfOk result (λ said. date_view said ≡ text_said name.now text.now) }
+{
+    if text.is_empty() {
+        return Ok(kept(alloc, None));
+    }
+    let text = plain(alloc, text)?;
+    read_plain(alloc, name, text.as_str(), json)
+}
+
+// The date of a plain text, or of the start of a range.
+fn read_plain(
+    alloc: Global,
+    name: &str,
+    text: &str,
+    json: &Value<'_>,
+) -> Result<Said<Date>, OutOfMemory>
+    ensures { IfOk result (λ said.
+        date_view said ≡ range_said name.now text.now (range_start text.now)) }
+{
+    match range_start(text) {
+        Some(start) => start_said(alloc, name, date_in(start), json),
+        None => dated(alloc, date_in(text), json),
+    }
+}
+
+// The date that begins a range.
+fn start_said(
+    alloc: Global,
+    name: &str,
+    date: Option<Date>,
+    json: &Value<'_>,
+) -> Result<Said<Date>, OutOfMemory>
+    ensures { IfOk result (λ said. date_view said ≡ start_said name.now date) }
 {
     match date {
-        Some(date) => Ok(Some(date)),
-        None => Err(Fault::refused(alloc, Why::NotDate)),
+        Some(date) => ranged(alloc, name, kept(alloc, Some(date))),
+        None => kept_but_unread(alloc, None, Why::NotDate, json),
     }
 }
 
-// The date of a year, a month or a season, and a day.
-fn date_at(year: i32, month: Part, day: Part) -> Option<Date>
-    ensures { result ≡ date_at year month day }
+// The date after a text, which is counted under a name where it isn't needed.
+fn next_text(
+    alloc: Global,
+    spare: &str,
+    name: &str,
+    found: Option<Date>,
+    json: &Value<'_>,
+) -> Result<Said<Date>, OutOfMemory>
+    ensures { IfOk result (λ said.
+        date_view said ≡ next_text spare.now name.now found (value_view json.now)) }
 {
-    match (month, day) {
-        (Part::Missing, Part::Missing) => on_calendar(year, None, None),
-        (Part::Number(month), Part::Missing) => in_season(season_at(month), year, month),
-        (Part::Number(month), Part::Number(day)) => on_day(year, counted(month), counted(day)),
-        _ => None,
+    match (found, text_in(json)) {
+        (None, Some(text)) => read_date_text(alloc, name, text, json),
+        (None, None) => kept_but_unread(alloc, None, Why::NotText, json),
+        (Some(date), Some("")) => Ok(kept(alloc, Some(date))),
+        (Some(date), _) => kept_but_named(alloc, Some(date), spare),
     }
 }
 
-// The date of a month, or of the season in its place.
-fn in_season(season: Option<Season>, year: i32, month: i32) -> Option<Date>
-    ensures { result ≡ in_season season year month }
+// The date after its season.
+fn read_season(
+    alloc: Global,
+    found: Option<Date>,
+    json: &Value<'_>,
+) -> Result<Said<Date>, OutOfMemory>
+    ensures { IfOk result (λ said.
+        date_view said ≡ season_by found (text_in (value_view json.now))) }
 {
-    match season {
-        Some(season) => with_season(season, on_calendar(year, None, None)),
-        None => in_month(year, counted(month)),
+    match text_in(json) {
+        Some(text) => read_season_text(alloc, found, text, json),
+        None => kept_but_unread(alloc, found, Why::NotDate, json),
     }
 }
 
-// The date with this season, if there is one.
-fn with_season(season: Season, date: Option<Date>) -> Option<Date>
-    ensures { result ≡ option_map (with_season season) date }
+// The date after the text of its season.
+#[tactic(auto, unfolding(crate::specs::Dates::season_text))]
+fn read_season_text(
+    alloc: Global,
+    found: Option<Date>,
+    text: &str,
+    json: &Value<'_>,
+) -> Result<Said<Date>, OutOfMemory>
+    ensures { IfOk result (λ said. date_view said ≡ season_text found text.now) }
 {
-    let date = date?;
-    Some(Date {
-        season: Some(season),
-        ..date
-    })
+    if text.is_empty() {
+        return Ok(kept(alloc, found));
+    }
+    let text = plain(alloc, text)?;
+    in_season(alloc, found, season_read(text.as_str()), json)
 }
 
-// The date of a month.
-fn in_month(year: i32, month: Option<u8>) -> Option<Date>
-    ensures { result ≡ in_month year month }
+// The season of a plain text: by its number, or by its name in English.
+#[tactic(auto, unfolding(crate::specs::Dates::season_read))]
+fn season_read(text: &str) -> Option<Season>
+    ensures { result ≡ season_read text.now }
 {
-    on_calendar(year, Some(month?), None)
+    if let Some(number) = whole_read(text) {
+        if let Some(season) = any_season(number) {
+            return Some(season);
+        }
+    }
+    edtf_season(named_season(text))
 }
 
-// The date of a day.
-fn on_day(year: i32, month: Option<u8>, day: Option<u8>) -> Option<Date>
-    ensures { result ≡ on_day year month day }
+// The date in a season that is read, or isn't.
+#[tactic(auto, unfolding(crate::specs::Dates::in_season_said))]
+fn in_season(
+    alloc: Global,
+    found: Option<Date>,
+    season: Option<Season>,
+    json: &Value<'_>,
+) -> Result<Said<Date>, OutOfMemory>
+    ensures { IfOk result (λ said. date_view said ≡ in_season_said found season) }
 {
-    on_calendar(year, Some(month?), Some(day?))
-}
-
-// The season in the place of a month.
-fn season_at(month: i32) -> Option<Season>
-    ensures { result ≡ season_at month }
-{
-    match month {
-        21 => Some(Season::Spring),
-        22 => Some(Season::Summer),
-        23 => Some(Season::Autumn),
-        24 => Some(Season::Winter),
-        _ => None,
+    match (found, season) {
+        (found, None) => kept_but_unread(alloc, found, Why::NotDate, json),
+        (None, Some(_)) => kept_but_named(alloc, None, "season"),
+        (Some(date), Some(season)) => with_first_season(alloc, season, date),
     }
 }
 
-// A month or a day, which dates count from 0 on.
-fn counted(number: i32) -> Option<u8>
-    ensures { result ≡ counted number }
+// The date with this season, where it has no other.
+fn with_first_season(alloc: Global, season: Season, date: Date) -> Result<Said<Date>, OutOfMemory>
+    ensures { IfOk result (λ said. date_view said ≡ with_first_season season date date.season) }
 {
-    let number = u8::try_from(number).ok()?;
-    number.checked_sub(1)
+    match date.season {
+        None => Ok(kept(alloc, with_season(season, Some(date)))),
+        Some(first) if is_season(season, first) => Ok(kept(alloc, Some(date))),
+        Some(_) => kept_but_named(alloc, Some(date), "season"),
+    }
 }
 
-// The date, if it is one of the calendar's and of the years that texts of dates can write.
-fn on_calendar(year: i32, month: Option<u8>, day: Option<u8>) -> Option<Date>
-    ensures { result ≡ on_calendar (date_with year month day) }
+// Whether the two are one season.
+fn is_season(season: Season, other: Season) -> bool
+    ensures { result ≡ is_season season other }
 {
-    let date = Date {
-        month,
-        day,
-        ..Date::from_year(year)
-    };
-    if date.reads_back() { Some(date) } else { None }
+    match (season, other) {
+        (Season::Spring, Season::Spring) => true,
+        (Season::Summer, Season::Summer) => true,
+        (Season::Autumn, Season::Autumn) => true,
+        (Season::Winter, Season::Winter) => true,
+        _ => false,
+    }
 }
 
-// The date that an object says, with its season and whether it is only about right.
-fn date_among(parts: DateParts) -> Option<Date>
-    ensures { result ≡ date_among parts }
+// The date after it is told whether it is only about right.
+fn read_circa(
+    alloc: Global,
+    found: Option<Date>,
+    json: &Value<'_>,
+) -> Result<Said<Date>, OutOfMemory>
+    ensures { IfOk result (λ said.
+        date_view said ≡ circa_by found (truth_in (value_view json.now))) }
 {
-    let date = first_of(parts.by_parts, parts.by_text)?;
-    Some(Date {
-        approximate: date.approximate || parts.circa,
-        season: first_of(date.season, parts.season),
-        ..date
-    })
+    match (found, truth_in(json)) {
+        (found, None) => kept_but_unread(alloc, found, Why::NotTruth, json),
+        (found, Some(false)) => Ok(kept(alloc, found)),
+        (None, Some(true)) => kept_but_named(alloc, None, "circa"),
+        (Some(date), Some(true)) => Ok(kept(alloc, Some(marked(date, true)))),
+    }
+}
+
+// Whether a value is true, if it tells.
+fn truth_in(json: &Value<'_>) -> Option<bool>
+    ensures { result ≡ truth_in (value_view json.now) }
+{
+    match json {
+        Value::Bool(truth) => Some(*truth),
+        _ => {
+            let text = text_in(json)?;
+            Some(is_true(text))
+        }
+    }
+}
+
+// Whether a text is true.
+fn is_true(text: &str) -> bool
+    ensures { result ≡ is_true text.now }
+{
+    !(text == "" || text == "false" || text == "0")
 }

@@ -1,20 +1,19 @@
 //! The entries that an item makes: its own, and the parents that its members go to.
-ghost use Rattle.std.specs.Prelude.{◌≡◌, ◌++◌, Ok, map, IfOk, IfErr, OnOk};
+ghost use Rattle.std.specs.Prelude.{◌≡◌, ◌++◌, [], ◌∷◌, map, if◌then◌else◌, IfOk, OnOk};
 ghost use Rattle.json.specs.Value.{value_view};
-ghost use Rattle.haya_entry.specs.Tree.{view};
+ghost use Rattle.haya_entry.specs.Tree.{new_entry, view};
 ghost use Rattle.haya_people.specs.Roles.{role_view};
-ghost use Rattle.haya_json.specs.Refusal.{IsFaultOf};
-ghost use Rattle.haya_csl.specs.Draft.{draft_view};
+ghost use Rattle.haya_json.specs.Notes.{losts_view};
+ghost use Rattle.haya_csl.specs.Draft.{draft_view, member_view};
 ghost use Rattle.haya_csl.specs.Fields.{role_setter, setter_of};
-ghost use Rattle.haya_csl.specs.Items.{below, draft_of, entry_made, first_set, made};
-ghost use Rattle.haya_csl.specs.Items.{parent_set, set_at};
-ghost use Rattle.haya_json.specs.declared.fault.Fault.TheVariants as fault;
+ghost use Rattle.haya_csl.specs.Items.{below, draft_of, entry_made, parent_set, parents_after};
+ghost use Rattle.haya_csl.specs.Items.{set_at};
 ghost use Rattle.haya_csl.specs.declared.members.Level.TheVariants.{Own};
 
-use crate::fields::{Field, add_persons, set_field};
+use crate::fields::{Field, Set, add_persons, set_field};
 use crate::members::Level;
 use haya_entry::{Entry, EntryType};
-use haya_json::reading::Fault;
+use haya_json::Lost;
 use haya_people::PersonRole;
 use haya_text::OutOfMemory;
 use json::Value;
@@ -44,58 +43,72 @@ impl Draft {
         }
     }
 
-    /// Sets a field of one of the entries to what the value reads as.
+    /// Sets a field of one of the entries to what the value says, and answers what is lost of it.
     pub(crate) fn set(
         &mut self,
         alloc: Global,
         level: Level,
         key: &str,
         field: Field,
+        name: &str,
         item: &Value<'_>,
         json: &Value<'_>,
-    ) -> Result<(), Fault>
-        ensures ok { OnOk result (set_at level key.now (setter_of field (value_view item.now))
-            (value_view json.now) (draft_view self.old) ≡ Ok (draft_view self.new)) }
-        ensures fault { IfErr result (IsFaultOf
-            (set_at level key.now (setter_of field (value_view item.now))
-            (value_view json.now) (draft_view self.old))) }
+    ) -> Result<Vec<Lost>, OutOfMemory>
+        ensures { IfOk result (λ lost.
+            set_at level key.now (setter_of field name.now (value_view item.now))
+            (value_view json.now) (draft_view self.old) ≡ member_view lost.items self.new) }
     {
         match level {
-            Level::Own => set_field(alloc, &mut self.own, field, item, json),
-            Level::Host(kind) => set_parent(alloc, &mut self.host, key, kind, field, item, json),
-            Level::Venue(kind) => set_parent(alloc, &mut self.venue, key, kind, field, item, json),
+            Level::Own => set_own(alloc, &mut self.own, field, name, item, json),
+            Level::Host(kind) => {
+                set_parent(alloc, &mut self.host, key, kind, field, name, item, json)
+            }
+            Level::Venue(kind) => {
+                set_parent(alloc, &mut self.venue, key, kind, field, name, item, json)
+            }
             Level::Series => {
                 let kind = EntryType::Anthology;
-                set_parent(alloc, &mut self.series, key, kind, field, item, json)
+                set_parent(alloc, &mut self.series, key, kind, field, name, item, json)
             }
             Level::Original => {
                 let kind = EntryType::Original;
-                set_parent(alloc, &mut self.original, key, kind, field, item, json)
+                set_parent(
+                    alloc,
+                    &mut self.original,
+                    key,
+                    kind,
+                    field,
+                    name,
+                    item,
+                    json,
+                )
             }
         }
     }
 
-    /// Puts persons with this role behind those that the item's own entry has.
+    /// Puts persons with this role behind those that the item's own entry has, and answers what is
+    /// lost of the value.
     pub(crate) fn add_persons(
         &mut self,
         alloc: Global,
         role: PersonRole,
         key: &str,
+        name: &str,
         json: &Value<'_>,
-    ) -> Result<(), Fault>
-        ensures ok { OnOk result (set_at Own key.now (role_setter (role_view role))
-            (value_view json.now) (draft_view self.old) ≡ Ok (draft_view self.new)) }
-        ensures fault { IfErr result (IsFaultOf
-            (set_at Own key.now (role_setter (role_view role))
-            (value_view json.now) (draft_view self.old))) }
+    ) -> Result<Vec<Lost>, OutOfMemory>
+        ensures { IfOk result (λ lost.
+            set_at Own key.now (role_setter (role_view role) name.now) (value_view json.now)
+            (draft_view self.old) ≡ member_view lost.items self.new) }
     {
-        add_persons(alloc, &mut self.own, role, json)
+        match add_persons(alloc, &mut self.own, role, name, json) {
+            Ok(set) => Ok(set.lost),
+            Err(error) => Err(error),
+        }
     }
 
     /// The item's own entry, with the parents that were made.
-    pub(crate) fn into_entry(self) -> Result<Entry, Fault>
-        ensures made { IfOk result (λ entry. view entry ≡ entry_made (draft_view self)) }
-        ensures memory { IfErr result (λ e. e ≡ fault.OutOfMemory) }
+    pub(crate) fn into_entry(self) -> Result<Entry, OutOfMemory>
+        ensures { IfOk result (λ entry. view entry ≡ entry_made (draft_view self)) }
     {
         let mut own = self.own;
         let parents = below(self.host, below(self.venue, self.series));
@@ -104,58 +117,101 @@ impl Draft {
     }
 }
 
-// Sets a field of a parent, which is made where it isn't there yet.
+// Sets a field of an entry, and answers what is lost of the value.
+fn set_own(
+    alloc: Global,
+    entry: &mut Entry,
+    field: Field,
+    name: &str,
+    item: &Value<'_>,
+    json: &Value<'_>,
+) -> Result<Vec<Lost>, OutOfMemory>
+    ensures after { OnOk result
+        ((setter_of field name.now (value_view item.now) (value_view json.now)
+        (view entry.old)).after ≡ view entry.new) }
+    ensures lost { IfOk result (λ lost.
+        (setter_of field name.now (value_view item.now) (value_view json.now)
+        (view entry.old)).lost ≡ losts_view lost.items) }
+{
+    match set_field(alloc, entry, field, name, item, json) {
+        Ok(set) => Ok(set.lost),
+        Err(error) => Err(error),
+    }
+}
+
+// The same of a parent, which is made where it isn't there yet, and where the value sets anything.
 fn set_parent(
     alloc: Global,
-    parent: &mut Vec<Entry>,
+    parents: &mut Vec<Entry>,
     key: &str,
     kind: EntryType,
     field: Field,
+    name: &str,
     item: &Value<'_>,
     json: &Value<'_>,
-) -> Result<(), Fault>
-    ensures ok { OnOk result
-        (parent_set key.now kind (setter_of field (value_view item.now)) (value_view json.now)
-        (map view parent.old.items) ≡ Ok (map view parent.new.items)) }
-    ensures fault { IfErr result (IsFaultOf
-        (parent_set key.now kind (setter_of field (value_view item.now)) (value_view json.now)
-        (map view parent.old.items))) }
+) -> Result<Vec<Lost>, OutOfMemory>
+    ensures after { OnOk result
+        (parents_after (parent_set key.now kind (setter_of field name.now (value_view item.now))
+        (value_view json.now) (map view parents.old.items)) (map view parents.old.items)
+        ≡ map view parents.new.items) }
+    ensures lost { IfOk result (λ lost.
+        (parent_set key.now kind (setter_of field name.now (value_view item.now))
+        (value_view json.now) (map view parents.old.items)).lost ≡ losts_view lost.items) }
 {
-    make(alloc, parent, key, kind)?;
-    set_first(alloc, parent, field, item, json)
-}
-
-// Makes the parent where it isn't there yet.
-fn make(alloc: Global, parent: &mut Vec<Entry>, key: &str, kind: EntryType) -> Result<(), Fault>
-    ensures made { OnOk result
-        (map view parent.new.items ≡ made key.now kind (map view parent.old.items)) }
-    ensures memory { IfErr result (λ e. e ≡ fault.OutOfMemory) }
-{
-    if parent.is_empty() {
-        parent.push(Entry::new(alloc, key, kind)?)?;
+    if parents.is_empty() {
+        return set_new(alloc, parents, key, kind, field, name, item, json);
     }
-    Ok(())
+    set_own(alloc, &mut parents[0], field, name, item, json)
 }
 
-// Sets a field of the first of these entries, if there is one.
-fn set_first(
+// The same of a new entry, which comes last.
+fn set_new(
     alloc: Global,
     entries: &mut Vec<Entry>,
+    key: &str,
+    kind: EntryType,
     field: Field,
+    name: &str,
     item: &Value<'_>,
     json: &Value<'_>,
-) -> Result<(), Fault>
-    ensures ok { OnOk result
-        (first_set (setter_of field (value_view item.now)) (value_view json.now)
-        (map view entries.old.items) ≡ Ok (map view entries.new.items)) }
-    ensures fault { IfErr result (IsFaultOf
-        (first_set (setter_of field (value_view item.now)) (value_view json.now)
-        (map view entries.old.items))) }
+) -> Result<Vec<Lost>, OutOfMemory>
+    ensures after { OnOk result
+        (let set = setter_of field name.now (value_view item.now) (value_view json.now)
+        (new_entry key.now kind) in
+        map view entries.new.items
+        ≡ map view entries.old.items ++ (if set.is_set then set.after ∷ [] else [])) }
+    ensures lost { IfOk result (λ lost.
+        (setter_of field name.now (value_view item.now) (value_view json.now)
+        (new_entry key.now kind)).lost ≡ losts_view lost.items) }
 {
-    if entries.is_empty() {
-        return Ok(());
+    let mut entry = Entry::new(alloc, key, kind)?;
+    match set_field(alloc, &mut entry, field, name, item, json) {
+        Ok(set) => keep_new(entries, entry, set),
+        Err(error) => {
+            drop(entry);
+            Err(error)
+        }
     }
-    set_field(alloc, &mut entries[0], field, item, json)
+}
+
+// Puts an entry last where anything is set on it, and answers what is lost of the value.
+fn keep_new(entries: &mut Vec<Entry>, entry: Entry, set: Set) -> Result<Vec<Lost>, OutOfMemory>
+    ensures after { OnOk result (map view entries.new.items
+        ≡ map view entries.old.items ++ (if set.is_set then view entry ∷ [] else [])) }
+    ensures lost { IfOk result (λ lost. lost.items ≡ set.lost.items) }
+{
+    let Set { is_set, lost } = set;
+    if !is_set {
+        drop(entry);
+        return Ok(lost);
+    }
+    match entries.push(entry) {
+        Ok(()) => Ok(lost),
+        Err(_) => {
+            drop(lost);
+            Err(OutOfMemory)
+        }
+    }
 }
 
 // An entry in these parents, and they alone where there is none.

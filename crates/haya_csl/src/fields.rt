@@ -1,40 +1,37 @@
 //! The fields that the members of an item set.
-ghost use Rattle.std.specs.Prelude.{◌≡◌, Ok, codes, map, option_map, string_bytes};
-ghost use Rattle.std.specs.Prelude.{IfOk, IfErr, OnOk};
+ghost use Rattle.std.specs.Prelude.{◌≡◌, ◌++◌, ◌∷◌, false, [], codes, is_some, option_map, IfOk};
 ghost use Rattle.json.specs.Value.{value_view};
 ghost use Rattle.haya_text.specs.Chunks.{chunks};
 ghost use Rattle.haya_text.specs.Texts.{text_view};
-ghost use Rattle.haya_numbers.specs.Numeric.{numeric_view};
-ghost use Rattle.haya_numbers.specs.Pages.{parts};
-ghost use Rattle.haya_people.specs.Person.{person_view};
 ghost use Rattle.haya_people.specs.Roles.{role_view};
-ghost use Rattle.haya_values.specs.MaybeTyped.{maybe_typed_view};
 ghost use Rattle.haya_values.specs.Publisher.{publisher_view};
-ghost use Rattle.haya_entry.specs.Tree.{view};
-ghost use Rattle.haya_json.specs.Refusal.{IsFaultOf};
-ghost use Rattle.haya_csl.specs.Dates.{csl_date_of};
-ghost use Rattle.haya_csl.specs.Fields.{count_of, date_field, doi_read, markup_of, number_key};
-ghost use Rattle.haya_csl.specs.Fields.{number_setter, numeric_of, pages_of, publisher_name_setter};
-ghost use Rattle.haya_csl.specs.Fields.{publisher_place_setter, role_setter, runtime_of};
-ghost use Rattle.haya_csl.specs.Fields.{runtime_setter};
-ghost use Rattle.haya_csl.specs.Fields.{serial_read, serial_setter, setter_of};
-ghost use Rattle.haya_csl.specs.Fields.{short_title_setter, text_of, text_setter, title_setter};
-ghost use Rattle.haya_csl.specs.Fields.{url_setter, visit_date};
-ghost use Rattle.haya_csl.specs.Fields.{PassesDate, location_of, name_of_publisher, with_short};
-ghost use Rattle.haya_csl.specs.Fields.{without};
-ghost use Rattle.haya_csl.specs.declared.fields.Field.TheVariants.{Authors, Editors, Language};
+ghost use Rattle.haya_entry.specs.Tree.{view, with_fields};
+ghost use Rattle.haya_json.specs.Notes.{lost_view, losts_view};
+ghost use Rattle.haya_csl.specs.Dates.{date_said};
+ghost use Rattle.haya_csl.specs.Fields.{field_setter, lost_visit, location_of, name_of_publisher, role_setter};
+ghost use Rattle.haya_csl.specs.Fields.{said_at, serial_setter, set_by, set_view, setter_of};
+ghost use Rattle.haya_csl.specs.Fields.{url_setter, visit_date, visit_date_setter, with_authors};
+ghost use Rattle.haya_csl.specs.Fields.{with_date, with_editors, with_key, with_language};
+ghost use Rattle.haya_csl.specs.Fields.{with_publisher_name, with_publisher_place, with_short};
+ghost use Rattle.haya_csl.specs.Fields.{with_short_title, with_text, with_title, without_url};
+ghost use Rattle.haya_csl.specs.Names.{names_said};
+ghost use Rattle.haya_csl.specs.Serials.{archive_number_said, keyed, serial_key, serial_text};
+ghost use Rattle.haya_csl.specs.Texts.{format_said, markup_said, plain_said};
+ghost use Rattle.haya_csl.specs.declared.fields.TextField.TheVariants.{CallNumber};
 
 use crate::dates::read_date;
-use crate::markup::read_markup;
 use crate::names::read_names;
+use crate::numbers::set_number;
+use crate::said::Said;
+use crate::serials::{read_archive_number, serial_key, serial_text};
+use crate::texts::{read_format, read_markup_text, read_plain};
 use haya_entry::Entry;
-use haya_json::Why;
-use haya_json::reading::{Fault, FromJson, member, read_by, read_text, read_typed};
-use haya_numbers::{Numeric, PageRanges};
+use haya_json::reading::{member, text_in};
+use haya_json::{Lost, Why};
 use haya_people::PersonRole;
 use haya_text::{ChunkedString, FormatString, OutOfMemory, TryClone};
-use haya_time::{Date, Duration};
-use haya_values::{MaybeTyped, Publisher, QualifiedUrl};
+use haya_time::Date;
+use haya_values::{Publisher, QualifiedUrl};
 use json::Value;
 use std::alloc::Global;
 
@@ -61,15 +58,17 @@ pub(crate) enum Field {
     PublisherPlace,
     /// The language.
     Language,
-    /// A text that stands for itself.
+    /// A text without a short form.
     Text(TextField),
+    /// Where an item is kept, as a call number.
+    ArchiveNumber,
     /// A number, pages or a duration.
     Number(NumberField),
     /// A serial number.
     Serial(SerialField),
 }
 
-/// A field of a text that stands for itself.
+/// A field of a text without a short form.
 #[derive(Clone, Copy)]
 pub(crate) enum TextField {
     Location,
@@ -108,32 +107,39 @@ pub(crate) enum SerialField {
     Number,
 }
 
-/// Sets the field to what the value reads as.
+/// Whether a value sets anything, and what is lost of it.
+#[derive(Drop)]
+pub(crate) struct Set {
+    pub(crate) is_set: bool,
+    pub(crate) lost: Vec<Lost>,
+}
+
+/// Sets the field to what the value says, if it says anything. `name` is the name of the member.
 pub(crate) fn set_field(
     alloc: Global,
     entry: &mut Entry,
     field: Field,
+    name: &str,
     item: &Value<'_>,
     json: &Value<'_>,
-) -> Result<(), Fault>
-    ensures ok { OnOk result
-        (setter_of field (value_view item.now) (value_view json.now) (view entry.old)
-        ≡ Ok (view entry.new)) }
-    ensures fault { IfErr result (IsFaultOf
-        (setter_of field (value_view item.now) (value_view json.now) (view entry.old))) }
+) -> Result<Set, OutOfMemory>
+    ensures { IfOk result (λ set.
+        setter_of field name.now (value_view item.now) (value_view json.now) (view entry.old)
+        ≡ set_view set (view entry.new)) }
 {
     match field {
         Field::Title => set_title(alloc, entry, json),
         Field::ShortTitle => set_short_title(alloc, entry, json),
-        Field::Authors => set_authors(alloc, entry, json),
-        Field::Editors => set_editors(alloc, entry, json),
-        Field::Date => set_date(alloc, entry, json),
-        Field::VisitDate => check_visit_date(alloc, json),
+        Field::Authors => set_authors(alloc, entry, name, json),
+        Field::Editors => set_editors(alloc, entry, name, json),
+        Field::Date => set_date(alloc, entry, name, json),
+        Field::VisitDate => lose_visit_date(alloc, entry, name, item, json),
         Field::Url => set_url(alloc, entry, item, json),
         Field::PublisherName => set_publisher_name(alloc, entry, json),
         Field::PublisherPlace => set_publisher_place(alloc, entry, json),
         Field::Language => set_language(alloc, entry, json),
         Field::Text(text) => set_text(alloc, entry, text, json),
+        Field::ArchiveNumber => set_archive_number(alloc, entry, json),
         Field::Number(number) => set_number(alloc, entry, number, json),
         Field::Serial(serial) => set_serial(alloc, entry, serial, json),
     }
@@ -141,36 +147,22 @@ pub(crate) fn set_field(
 
 // ---- texts
 
-// A text with CSL's markup.
-#[tactic(auto, unfolding(crate::specs::Fields::markup_of))]
-fn markup(alloc: Global, json: &Value<'_>) -> Result<ChunkedString, Fault>
-    ensures ok { IfOk result (λ cs. markup_of (value_view json.now) ≡ Ok (chunks cs)) }
-    ensures fault { IfErr result (IsFaultOf (markup_of (value_view json.now))) }
-{
-    let text = read_text(alloc, json)?;
-    Ok(read_markup(alloc, text)?)
-}
-
-// A text that stands for itself.
-#[tactic(auto, unfolding(crate::specs::Fields::text_of))]
-fn text(alloc: Global, json: &Value<'_>) -> Result<FormatString, Fault>
-    ensures ok { IfOk result (λ text. text_of (value_view json.now) ≡ Ok (text_view text)) }
-    ensures fault { IfErr result (IsFaultOf (text_of (value_view json.now))) }
-{
-    let text = String::from_json(alloc, json)?;
-    Ok(FormatString::with_value(alloc, text)?)
-}
-
 // The title, beside a short form that may have come before it.
-fn set_title(alloc: Global, entry: &mut Entry, json: &Value<'_>) -> Result<(), Fault>
-    ensures ok { OnOk result
-        (title_setter (value_view json.now) (view entry.old) ≡ Ok (view entry.new)) }
-    ensures fault { IfErr result (IsFaultOf (title_setter (value_view json.now) (view entry.old))) }
+fn set_title(alloc: Global, entry: &mut Entry, json: &Value<'_>) -> Result<Set, OutOfMemory>
+    ensures { IfOk result (λ set.
+        field_setter markup_said with_title (value_view json.now) (view entry.old)
+        ≡ set_view set (view entry.new)) }
 {
-    let value = markup(alloc, json)?;
+    let Said { value, lost } = read_markup_text(alloc, json)?;
+    let Some(value) = value else {
+        return Ok(Set {
+            is_set: false,
+            lost,
+        });
+    };
     let short = copy_value(alloc, entry.title())?;
     entry.set_title(FormatString { value, short });
-    Ok(())
+    Ok(Set { is_set: true, lost })
 }
 
 // A copy of the long form of a title, if there is one.
@@ -188,16 +180,21 @@ fn copy_value(
 }
 
 // The short form of the title, which is the title itself as long as there is no other.
-fn set_short_title(alloc: Global, entry: &mut Entry, json: &Value<'_>) -> Result<(), Fault>
-    ensures ok { OnOk result
-        (short_title_setter (value_view json.now) (view entry.old) ≡ Ok (view entry.new)) }
-    ensures fault { IfErr result
-        (IsFaultOf (short_title_setter (value_view json.now) (view entry.old))) }
+fn set_short_title(alloc: Global, entry: &mut Entry, json: &Value<'_>) -> Result<Set, OutOfMemory>
+    ensures { IfOk result (λ set.
+        field_setter markup_said with_short_title (value_view json.now) (view entry.old)
+        ≡ set_view set (view entry.new)) }
 {
-    let short = markup(alloc, json)?;
-    let title = with_short(alloc, short, entry.title())?;
+    let Said { value, lost } = read_markup_text(alloc, json)?;
+    let Some(value) = value else {
+        return Ok(Set {
+            is_set: false,
+            lost,
+        });
+    };
+    let title = with_short(alloc, value, entry.title())?;
     entry.set_title(title);
-    Ok(())
+    Ok(Set { is_set: true, lost })
 }
 
 // A title with this short form, which is the title itself where there is no other.
@@ -221,19 +218,32 @@ fn with_short(
     }
 }
 
-// A text that stands for itself, as the value of this field.
+// A text without a short form, as the value of this field.
 fn set_text(
     alloc: Global,
     entry: &mut Entry,
     field: TextField,
     json: &Value<'_>,
-) -> Result<(), Fault>
-    ensures ok { OnOk result
-        (text_setter field (value_view json.now) (view entry.old) ≡ Ok (view entry.new)) }
-    ensures fault { IfErr result
-        (IsFaultOf (text_setter field (value_view json.now) (view entry.old))) }
+) -> Result<Set, OutOfMemory>
+    ensures { IfOk result (λ set.
+        field_setter format_said (with_text field) (value_view json.now) (view entry.old)
+        ≡ set_view set (view entry.new)) }
 {
-    let text = text(alloc, json)?;
+    let Said { value, lost } = read_format(alloc, json)?;
+    let Some(value) = value else {
+        return Ok(Set {
+            is_set: false,
+            lost,
+        });
+    };
+    put_text(entry, field, value);
+    Ok(Set { is_set: true, lost })
+}
+
+// Sets the field of a text.
+fn put_text(entry: &mut Entry, field: TextField, text: FormatString)
+    ensures { view entry.new ≡ with_fields (with_text field (text_view text)) (view entry.old) }
+{
     match field {
         TextField::Location => entry.set_location(text),
         TextField::Organization => entry.set_organization(text),
@@ -244,42 +254,86 @@ fn set_text(
         TextField::Abstract => entry.set_abstract_(text),
         TextField::Genre => entry.set_genre(text),
     }
-    Ok(())
 }
 
-fn set_language(alloc: Global, entry: &mut Entry, json: &Value<'_>) -> Result<(), Fault>
-    ensures ok { OnOk result
-        (setter_of Language (value_view json.now) (value_view json.now) (view entry.old)
-        ≡ Ok (view entry.new)) }
-    ensures fault { IfErr result (IsFaultOf
-        (setter_of Language (value_view json.now) (value_view json.now) (view entry.old))) }
+fn set_archive_number(
+    alloc: Global,
+    entry: &mut Entry,
+    json: &Value<'_>,
+) -> Result<Set, OutOfMemory>
+    ensures { IfOk result (λ set.
+        field_setter archive_number_said (with_text CallNumber) (value_view json.now)
+        (view entry.old) ≡ set_view set (view entry.new)) }
 {
-    entry.set_language(FromJson::from_json(alloc, json)?);
-    Ok(())
+    let Said { value, lost } = read_archive_number(alloc, json)?;
+    let Some(value) = value else {
+        return Ok(Set {
+            is_set: false,
+            lost,
+        });
+    };
+    entry.set_call_number(value);
+    Ok(Set { is_set: true, lost })
+}
+
+fn set_language(alloc: Global, entry: &mut Entry, json: &Value<'_>) -> Result<Set, OutOfMemory>
+    ensures { IfOk result (λ set.
+        field_setter plain_said with_language (value_view json.now) (view entry.old)
+        ≡ set_view set (view entry.new)) }
+{
+    let Said { value, lost } = read_plain(alloc, json)?;
+    let Some(value) = value else {
+        return Ok(Set {
+            is_set: false,
+            lost,
+        });
+    };
+    entry.set_language(value);
+    Ok(Set { is_set: true, lost })
 }
 
 // ---- people
 
-fn set_authors(alloc: Global, entry: &mut Entry, json: &Value<'_>) -> Result<(), Fault>
-    ensures ok { OnOk result
-        (setter_of Authors (value_view json.now) (value_view json.now) (view entry.old)
-        ≡ Ok (view entry.new)) }
-    ensures fault { IfErr result (IsFaultOf
-        (setter_of Authors (value_view json.now) (value_view json.now) (view entry.old))) }
+fn set_authors(
+    alloc: Global,
+    entry: &mut Entry,
+    name: &str,
+    json: &Value<'_>,
+) -> Result<Set, OutOfMemory>
+    ensures { IfOk result (λ set.
+        field_setter (names_said name.now) with_authors (value_view json.now) (view entry.old)
+        ≡ set_view set (view entry.new)) }
 {
-    entry.set_authors(read_names(alloc, json)?);
-    Ok(())
+    let Said { value, lost } = read_names(alloc, name, json)?;
+    let Some(value) = value else {
+        return Ok(Set {
+            is_set: false,
+            lost,
+        });
+    };
+    entry.set_authors(value);
+    Ok(Set { is_set: true, lost })
 }
 
-fn set_editors(alloc: Global, entry: &mut Entry, json: &Value<'_>) -> Result<(), Fault>
-    ensures ok { OnOk result
-        (setter_of Editors (value_view json.now) (value_view json.now) (view entry.old)
-        ≡ Ok (view entry.new)) }
-    ensures fault { IfErr result (IsFaultOf
-        (setter_of Editors (value_view json.now) (value_view json.now) (view entry.old))) }
+fn set_editors(
+    alloc: Global,
+    entry: &mut Entry,
+    name: &str,
+    json: &Value<'_>,
+) -> Result<Set, OutOfMemory>
+    ensures { IfOk result (λ set.
+        field_setter (names_said name.now) with_editors (value_view json.now) (view entry.old)
+        ≡ set_view set (view entry.new)) }
 {
-    entry.set_editors(read_names(alloc, json)?);
-    Ok(())
+    let Said { value, lost } = read_names(alloc, name, json)?;
+    let Some(value) = value else {
+        return Ok(Set {
+            is_set: false,
+            lost,
+        });
+    };
+    entry.set_editors(value);
+    Ok(Set { is_set: true, lost })
 }
 
 /// Puts persons with this role behind those that are there.
@@ -287,42 +341,109 @@ pub(crate) fn add_persons(
     alloc: Global,
     entry: &mut Entry,
     role: PersonRole,
+    name: &str,
     json: &Value<'_>,
-) -> Result<(), Fault>
-    ensures ok { OnOk result
-        (role_setter (role_view role) (value_view json.now) (view entry.old)
-        ≡ Ok (view entry.new)) }
-    ensures fault { IfErr result (IsFaultOf
-        (role_setter (role_view role) (value_view json.now) (view entry.old))) }
+) -> Result<Set, OutOfMemory>
+    ensures { IfOk result (λ set.
+        role_setter (role_view role) name.now (value_view json.now) (view entry.old)
+        ≡ set_view set (view entry.new)) }
 {
-    let names = read_names(alloc, json)?;
-    match entry.add_affiliated_persons((names, role)) {
-        Ok(()) => Ok(()),
-        Err(_) => Err(Fault::OutOfMemory),
+    let Said { value, lost } = read_names(alloc, name, json)?;
+    let Some(value) = value else {
+        return Ok(Set {
+            is_set: false,
+            lost,
+        });
+    };
+    match entry.add_affiliated_persons((value, role)) {
+        Ok(()) => Ok(Set { is_set: true, lost }),
+        Err(_) => Err(OutOfMemory),
     }
 }
 
 // ---- dates and addresses
 
-fn set_date(alloc: Global, entry: &mut Entry, json: &Value<'_>) -> Result<(), Fault>
-    ensures ok { OnOk result
-        (date_field (value_view json.now) (view entry.old) ≡ Ok (view entry.new)) }
-    ensures fault { IfErr result (IsFaultOf (date_field (value_view json.now) (view entry.old))) }
+fn set_date(
+    alloc: Global,
+    entry: &mut Entry,
+    name: &str,
+    json: &Value<'_>,
+) -> Result<Set, OutOfMemory>
+    ensures { IfOk result (λ set.
+        field_setter (date_said name.now) with_date (value_view json.now) (view entry.old)
+        ≡ set_view set (view entry.new)) }
 {
-    if let Some(date) = read_date(alloc, json)? {
-        entry.set_date(date);
-    }
-    Ok(())
+    let Said { value, lost } = read_date(alloc, name, json)?;
+    let Some(value) = value else {
+        return Ok(Set {
+            is_set: false,
+            lost,
+        });
+    };
+    entry.set_date(value);
+    Ok(Set { is_set: true, lost })
 }
 
-// Refuses what is no date. It is kept with the address.
-fn check_visit_date(alloc: Global, json: &Value<'_>) -> Result<(), Fault>
-    ensures ok { OnOk result (PassesDate (value_view json.now)) }
-    ensures fault { IfErr result (IsFaultOf (csl_date_of (value_view json.now))) }
+// Loses the date of a visit where the item has no address. Otherwise it is kept with that.
+fn lose_visit_date(
+    alloc: Global,
+    entry: &mut Entry,
+    name: &str,
+    item: &Value<'_>,
+    json: &Value<'_>,
+) -> Result<Set, OutOfMemory>
+    ensures { IfOk result (λ set.
+        visit_date_setter name.now (value_view item.now) (value_view json.now) (view entry.old)
+        ≡ set_view set (view entry.new)) }
 {
-    match read_date(alloc, json) {
-        Ok(_) => Ok(()),
-        Err(fault) => Err(fault),
+    let Said { value, lost } = read_date(alloc, name, json)?;
+    let lost = with_unplaced(alloc, lost, has_url(item), value)?;
+    Ok(Set {
+        is_set: false,
+        lost,
+    })
+}
+
+// What is lost, and the date of a visit where there is no address.
+fn with_unplaced(
+    alloc: Global,
+    lost: Vec<Lost>,
+    has_url: bool,
+    date: Option<Date>,
+) -> Result<Vec<Lost>, OutOfMemory>
+    ensures { IfOk result (λ all.
+        losts_view all.items ≡ losts_view lost.items ++ without_url has_url date) }
+{
+    match date {
+        None => Ok(lost),
+        Some(_) if has_url => Ok(lost),
+        Some(_) => with_visit(alloc, lost),
+    }
+}
+
+// What is lost, and the date of a visit.
+fn with_visit(alloc: Global, mut lost: Vec<Lost>) -> Result<Vec<Lost>, OutOfMemory>
+    ensures { IfOk result (λ all.
+        losts_view all.items ≡ losts_view lost.items ++ lost_visit ∷ []) }
+{
+    lost.push(lost_visit(alloc)?)?;
+    Ok(lost)
+}
+
+// The date of a visit that is lost.
+fn lost_visit(alloc: Global) -> Result<Lost, OutOfMemory>
+    ensures { IfOk result (λ lost. lost_view lost ≡ lost_visit) }
+{
+    Lost::named(alloc, "accessed without URL")
+}
+
+// Whether the item has an address.
+fn has_url(item: &Value<'_>) -> bool
+    ensures { result ≡ is_some (said_at (codes "URL") plain_said (value_view item.now)) }
+{
+    match member(item, "URL") {
+        Some(url) => !text_in(url).unwrap_or("").is_empty(),
+        None => false,
     }
 }
 
@@ -331,57 +452,75 @@ fn set_url(
     entry: &mut Entry,
     item: &Value<'_>,
     json: &Value<'_>,
-) -> Result<(), Fault>
-    ensures ok { OnOk result
-        (url_setter (value_view item.now) (value_view json.now) (view entry.old)
-        ≡ Ok (view entry.new)) }
-    ensures fault { IfErr result (IsFaultOf
-        (url_setter (value_view item.now) (value_view json.now) (view entry.old))) }
+) -> Result<Set, OutOfMemory>
+    ensures { IfOk result (λ set.
+        url_setter (value_view item.now) (value_view json.now) (view entry.old)
+        ≡ set_view set (view entry.new)) }
 {
-    let value = String::from_json(alloc, json)?;
+    let Said { value, lost } = read_plain(alloc, json)?;
+    let Some(value) = value else {
+        return Ok(Set {
+            is_set: false,
+            lost,
+        });
+    };
     let visit_date = visit_date(alloc, item)?;
     entry.set_url(QualifiedUrl::new(value, visit_date));
-    Ok(())
+    Ok(Set { is_set: true, lost })
 }
 
 // The date of the visit, where the item says one.
 fn visit_date(alloc: Global, item: &Value<'_>) -> Result<Option<Date>, OutOfMemory>
     ensures { IfOk result (λ date. date ≡ visit_date (value_view item.now)) }
 {
-    let Some(accessed) = member(item, "accessed") else {
-        return Ok(None);
-    };
-    match read_date(alloc, accessed) {
-        Ok(date) => Ok(date),
-        Err(Fault::Refused(_, _)) => Ok(None),
-        Err(Fault::OutOfMemory) => Err(OutOfMemory),
+    match member(item, "accessed") {
+        Some(accessed) => Ok(read_date(alloc, "accessed", accessed)?.value),
+        None => Ok(None),
     }
 }
 
 // ---- publishers
 
-fn set_publisher_name(alloc: Global, entry: &mut Entry, json: &Value<'_>) -> Result<(), Fault>
-    ensures ok { OnOk result
-        (publisher_name_setter (value_view json.now) (view entry.old) ≡ Ok (view entry.new)) }
-    ensures fault { IfErr result
-        (IsFaultOf (publisher_name_setter (value_view json.now) (view entry.old))) }
+fn set_publisher_name(
+    alloc: Global,
+    entry: &mut Entry,
+    json: &Value<'_>,
+) -> Result<Set, OutOfMemory>
+    ensures { IfOk result (λ set.
+        field_setter format_said with_publisher_name (value_view json.now) (view entry.old)
+        ≡ set_view set (view entry.new)) }
 {
-    let name = text(alloc, json)?;
+    let Said { value, lost } = read_format(alloc, json)?;
+    let Some(value) = value else {
+        return Ok(Set {
+            is_set: false,
+            lost,
+        });
+    };
     let location = copy_location(alloc, entry.publisher())?;
-    entry.set_publisher(Publisher::new(Some(name), location));
-    Ok(())
+    entry.set_publisher(Publisher::new(Some(value), location));
+    Ok(Set { is_set: true, lost })
 }
 
-fn set_publisher_place(alloc: Global, entry: &mut Entry, json: &Value<'_>) -> Result<(), Fault>
-    ensures ok { OnOk result
-        (publisher_place_setter (value_view json.now) (view entry.old) ≡ Ok (view entry.new)) }
-    ensures fault { IfErr result
-        (IsFaultOf (publisher_place_setter (value_view json.now) (view entry.old))) }
+fn set_publisher_place(
+    alloc: Global,
+    entry: &mut Entry,
+    json: &Value<'_>,
+) -> Result<Set, OutOfMemory>
+    ensures { IfOk result (λ set.
+        field_setter format_said with_publisher_place (value_view json.now) (view entry.old)
+        ≡ set_view set (view entry.new)) }
 {
-    let location = text(alloc, json)?;
+    let Said { value, lost } = read_format(alloc, json)?;
+    let Some(value) = value else {
+        return Ok(Set {
+            is_set: false,
+            lost,
+        });
+    };
     let name = copy_name(alloc, entry.publisher())?;
-    entry.set_publisher(Publisher::new(name, Some(location)));
-    Ok(())
+    entry.set_publisher(Publisher::new(name, Some(value)));
+    Ok(Set { is_set: true, lost })
 }
 
 // A copy of the publisher's place, if it is known.
@@ -426,84 +565,6 @@ fn copy_text(
     }
 }
 
-// ---- numbers
-
-fn set_number(
-    alloc: Global,
-    entry: &mut Entry,
-    field: NumberField,
-    json: &Value<'_>,
-) -> Result<(), Fault>
-    ensures ok { OnOk result
-        (number_setter field (value_view json.now) (view entry.old) ≡ Ok (view entry.new)) }
-    ensures fault { IfErr result
-        (IsFaultOf (number_setter field (value_view json.now) (view entry.old))) }
-{
-    match field {
-        NumberField::Volume => entry.set_volume(numeric(alloc, json)?),
-        NumberField::Issue => entry.set_issue(numeric(alloc, json)?),
-        NumberField::Edition => entry.set_edition(numeric(alloc, json)?),
-        NumberField::Chapter => entry.set_chapter(numeric(alloc, json)?),
-        NumberField::VolumeTotal => entry.set_volume_total(count(alloc, json)?),
-        NumberField::PageTotal => entry.set_page_total(count(alloc, json)?),
-        NumberField::Pages => entry.set_page_range(pages(alloc, json)?),
-        NumberField::Runtime => return set_runtime(alloc, entry, json),
-    }
-    Ok(())
-}
-
-// The text of a number, or any other text.
-#[tactic(auto, unfolding(crate::specs::Fields::numeric_of))]
-fn numeric(alloc: Global, json: &Value<'_>) -> Result<MaybeTyped<Numeric>, Fault>
-    ensures ok { IfOk result (λ n.
-        numeric_of (value_view json.now) ≡ Ok (maybe_typed_view numeric_view n)) }
-    ensures fault { IfErr result (IsFaultOf (numeric_of (value_view json.now))) }
-{
-    read_typed(alloc, json)
-}
-
-// The text of a number.
-#[tactic(auto, unfolding(crate::specs::Fields::count_of))]
-fn count(alloc: Global, json: &Value<'_>) -> Result<Numeric, Fault>
-    ensures ok { IfOk result (λ n. count_of (value_view json.now) ≡ Ok (numeric_view n)) }
-    ensures fault { IfErr result (IsFaultOf (count_of (value_view json.now))) }
-{
-    read_by(alloc, json, Why::NotNumber)
-}
-
-// The text of pages, or any other text.
-#[tactic(auto, unfolding(crate::specs::Fields::pages_of))]
-fn pages(alloc: Global, json: &Value<'_>) -> Result<MaybeTyped<PageRanges>, Fault>
-    ensures ok { IfOk result (λ p.
-        pages_of (value_view json.now) ≡ Ok (maybe_typed_view parts p)) }
-    ensures fault { IfErr result (IsFaultOf (pages_of (value_view json.now))) }
-{
-    read_typed(alloc, json)
-}
-
-// The runtime, where the text is read as one.
-fn set_runtime(alloc: Global, entry: &mut Entry, json: &Value<'_>) -> Result<(), Fault>
-    ensures ok { OnOk result
-        (runtime_setter (value_view json.now) (view entry.old) ≡ Ok (view entry.new)) }
-    ensures fault { IfErr result
-        (IsFaultOf (runtime_setter (value_view json.now) (view entry.old))) }
-{
-    if let Some(duration) = runtime(alloc, json)? {
-        entry.set_runtime(MaybeTyped::Typed(duration));
-    }
-    Ok(())
-}
-
-// A duration, where the text is read as one.
-#[tactic(auto, unfolding(crate::specs::Fields::runtime_of))]
-fn runtime(alloc: Global, json: &Value<'_>) -> Result<Option<Duration>, Fault>
-    ensures ok { IfOk result (λ d. runtime_of (value_view json.now) ≡ Ok d) }
-    ensures fault { IfErr result (IsFaultOf (runtime_of (value_view json.now))) }
-{
-    let text = read_text(alloc, json)?;
-    Ok(text.parse::<Duration>().ok())
-}
-
 // ---- serial numbers
 
 fn set_serial(
@@ -511,54 +572,54 @@ fn set_serial(
     entry: &mut Entry,
     field: SerialField,
     json: &Value<'_>,
-) -> Result<(), Fault>
-    ensures ok { OnOk result
-        (serial_setter field (value_view json.now) (view entry.old) ≡ Ok (view entry.new)) }
-    ensures fault { IfErr result
-        (IsFaultOf (serial_setter field (value_view json.now) (view entry.old))) }
+) -> Result<Set, OutOfMemory>
+    ensures { IfOk result (λ set.
+        serial_setter field (value_view json.now)
+        (view entry.old) ≡ set_view set (view entry.new)) }
 {
-    let text = read_text(alloc, json)?;
-    let (key, number) = serial_read(field, text);
+    match text_in(json) {
+        None => {
+            let lost = Lost::unread(alloc, Why::NotText, json)?;
+            Ok(Set {
+                is_set: false,
+                lost: vec![in alloc; lost]?,
+            })
+        }
+        Some("") => Ok(unset(alloc)),
+        Some(text) => put_serial(alloc, entry, field, text),
+    }
+}
+
+// Sets the serial number, but where it is empty.
+fn put_serial(
+    alloc: Global,
+    entry: &mut Entry,
+    field: SerialField,
+    text: &str,
+) -> Result<Set, OutOfMemory>
+    ensures { IfOk result (λ set.
+        set_by with_key (keyed (serial_key field text.now) (serial_text field text.now))
+        (view entry.old) ≡ set_view set (view entry.new)) }
+{
+    let number = serial_text(field, text);
+    if number.is_empty() {
+        return Ok(unset(alloc));
+    }
+    let key = serial_key(field, text);
     entry.set_keyed_serial_number(key, String::from_str(alloc, number)?)?;
-    Ok(())
+    Ok(Set {
+        is_set: true,
+        lost: Vec::new(alloc),
+    })
 }
 
-// The key and the text of a serial number.
-fn serial_read(field: SerialField, text: &str) -> (&str, &str)
-    ensures { (result.0.now, result.1.now) ≡ serial_read field text.now }
+// Nothing is set, and nothing lost.
+fn unset(alloc: Global) -> Set
+    ensures is_set { result.is_set ≡ false }
+    ensures lost { losts_view result.lost.items ≡ [] }
 {
-    match field {
-        SerialField::Doi => ("doi", doi_read(text)),
-        SerialField::Pmid => ("pmid", text),
-        SerialField::Pmcid => ("pmcid", text),
-        SerialField::Isbn => ("isbn", text),
-        SerialField::Issn => ("issn", text),
-        SerialField::Arxiv => ("arxiv", text),
-        SerialField::Number => (number_key(text), text),
+    Set {
+        is_set: false,
+        lost: Vec::new(alloc),
     }
-}
-
-// The key of a number, which is one of arXiv where it begins with its name.
-fn number_key(text: &str) -> &str
-    ensures { result.now ≡ number_key text.now }
-{
-    if text.starts_with("arXiv:") {
-        "arxiv"
-    } else {
-        "serial"
-    }
-}
-
-// A DOI without the address of its resolver, or its scheme.
-fn doi_read(text: &str) -> &str
-    ensures { result.now ≡ doi_read text.now }
-{
-    without("doi:", without("https://doi.org/", text))
-}
-
-// The text behind a prefix, if it begins with it.
-fn without<'t>(prefix: &str, text: &'t str) -> &'t str
-    ensures { result.now ≡ without prefix.now text.now }
-{
-    text.strip_prefix(prefix).unwrap_or(text)
 }

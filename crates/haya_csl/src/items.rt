@@ -1,248 +1,290 @@
-//! Items, with the parents that they make.
+//! Items, with the parents that they make, and what is lost of them.
 ghost use Rattle.std.specs.Map.{lookup};
+ghost use Rattle.std.specs.Option.{option_map_or};
 ghost use Rattle.std.specs.Str.{bytes_eq};
-ghost use Rattle.std.specs.Prelude.{◌≡◌, ◌||◌, [], ◌∷◌, Ok, is_some, option_map};
-ghost use Rattle.std.specs.Prelude.{IfErr, IfOk, OnOk, if◌then◌else◌};
-ghost use Rattle.json.specs.Find.{is_null};
+ghost use Rattle.std.specs.Prelude.{◌≡◌, ◌++◌, [], ◌∷◌, Ok, false, option_map, IfErr, IfOk, OnOk};
 ghost use Rattle.json.specs.Value.{members_view, value_view};
-ghost use Rattle.haya_entry.specs.Tree.{view};
 ghost use Rattle.haya_people.specs.Roles.{role_view};
-ghost use Rattle.haya_json.specs.Ignored.{counts_of};
-ghost use Rattle.haya_json.specs.Refusal.{IsFaultOf, and_then};
-ghost use Rattle.haya_json.specs.Tally.{all_counted};
-ghost use Rattle.haya_csl.specs.Draft.{draft_view};
-ghost use Rattle.haya_csl.specs.Ignored.{is_read, item_passed_over, members_passed_over};
-ghost use Rattle.haya_csl.specs.Items.{Passes, Refuses, entry_made, id_checked};
-ghost use Rattle.haya_csl.specs.Items.{item_of, item_under, members_set, new_draft, placed};
-ghost use Rattle.haya_csl.specs.Items.{role_of, type_checked, with_field, with_member};
-ghost use Rattle.haya_csl.specs.Items.{key_in, later_roles};
-ghost use Rattle.haya_csl.specs.Kinds.{kind_of};
-ghost use Rattle.haya_csl.specs.Members.{place_of};
+ghost use Rattle.haya_json.specs.Notes.{all_behind, lost_here, lost_view, losts_view, named};
+ghost use Rattle.haya_json.specs.Notes.{unread};
+ghost use Rattle.haya_json.specs.Parts.{text_in};
+ghost use Rattle.haya_json.specs.Refusal.{IsFaultOf, to_member};
+ghost use Rattle.haya_csl.specs.Draft.{draft_view, item_view, member_view};
+ghost use Rattle.haya_csl.specs.Items.{citation_key_lost, is_place_again, item_of, item_said};
+ghost use Rattle.haya_csl.specs.Items.{item_under, later_roles, members_set, only_lost, placed};
+ghost use Rattle.haya_csl.specs.Items.{role_of, text_lost, type_lost, with_field, with_member};
 
 use crate::draft::Draft;
-use crate::kinds::{Kind, kind_named, kind_of};
-use crate::members::{Choice, Place, place_of};
+use crate::item_key::{ItemKey, item_key};
+use crate::kinds::{Kind, has, is_empty, kind_named, kind_of, text_at};
+use crate::members::{Choice, Place, beside, place_of};
 use haya_entry::Entry;
-use haya_json::reading::{Fault, member, read_text, text_in};
-use haya_json::{Ignored, Why};
+use haya_json::reading::{Fault, text_in};
+use haya_json::{Lost, Why, all_in_member};
 use haya_people::PersonRole;
 use haya_text::OutOfMemory;
-use hayagriva::Library;
 use json::Value;
 use std::alloc::Global;
 
-/// The entry of an item, an object with an `id` that no entry of the library has. The members that
-/// are passed over are counted.
-pub(crate) fn read_item(
-    alloc: Global,
-    library: &Library,
-    item: &Value<'_>,
-    ignored: &mut Ignored,
-) -> Result<Entry, Fault>
-    ensures ok { IfOk result (λ entry.
-        item_of library.now (value_view item.now) ≡ Ok (view entry)) }
-    ensures counts { OnOk result (counts_of ignored.new
-        ≡ all_counted (item_passed_over (value_view item.now)) (counts_of ignored.old)) }
-    ensures fault { IfErr result (IsFaultOf (item_of library.now (value_view item.now))) }
+/// What an item says: its entry, and what is lost of it.
+#[derive(Drop)]
+pub(crate) struct Item {
+    pub(crate) entry: Entry,
+    pub(crate) lost: Vec<Lost>,
+}
+
+/// What an item says, an object that has a key.
+pub(crate) fn read_item(alloc: Global, by: ItemKey, item: &Value<'_>) -> Result<Item, Fault>
+    ensures ok { IfOk result (λ read.
+        item_said by (value_view item.now) ≡ Ok (item_view read)) }
+    ensures fault { IfErr result (IsFaultOf (item_of by (value_view item.now))) }
 {
     let Value::Object(members) = item else {
         return Err(Fault::refused(alloc, Why::NotObject));
     };
-    read_under(alloc, library, member(item, "id"), item, members, ignored)
+    let key = match item_key(alloc, by, item) {
+        Ok(key) => key,
+        Err(fault) => return Err(fault),
+    };
+    match read_under(alloc, by, key, item, members) {
+        Ok(read) => Ok(read),
+        Err(_) => Err(Fault::OutOfMemory),
+    }
 }
 
-// The entry of an item with this id.
+// What an item says under this key.
 fn read_under(
     alloc: Global,
-    library: &Library,
-    id: Option<&Value<'_>>,
+    by: ItemKey,
+    key: &str,
     item: &Value<'_>,
     members: &Vec<(&str, Value<'_>)>,
-    ignored: &mut Ignored,
-) -> Result<Entry, Fault>
-    ensures ok { IfOk result (λ entry.
-        item_under (option_map (λ j. value_view j.now) id.entry) library.now
-        (value_view item.now) (members_view members.now.items) ≡ Ok (view entry)) }
-    ensures counts { OnOk result (counts_of ignored.new
-        ≡ all_counted (members_passed_over (kind_of (value_view item.now)) (value_view item.now)
-        (members_view members.now.items)) (counts_of ignored.old)) }
-    ensures fault { IfErr result (IsFaultOf
-        (item_under (option_map (λ j. value_view j.now) id.entry) library.now
-        (value_view item.now) (members_view members.now.items))) }
+) -> Result<Item, OutOfMemory>
+    ensures { IfOk result (λ read. item_under by key.now (value_view item.now)
+        (members_view members.now.items) ≡ item_view read) }
 {
-    let Some(id) = id else {
-        return Err(Fault::refused(alloc, Why::Missing).in_member(alloc, "id"));
-    };
-    let key = key_in(id);
     let kind = kind_of(item);
     let mut draft = Draft::new(alloc, Entry::new(alloc, key, kind.entry)?);
-    set_members(
-        alloc, &mut draft, library, kind, item, key, members, ignored,
-    )?;
-    draft.into_entry()
+    let lost = match set_members(alloc, &mut draft, by, kind, key, item, members) {
+        Ok(lost) => lost,
+        Err(error) => {
+            drop(draft);
+            return Err(error);
+        }
+    };
+    match draft.into_entry() {
+        Ok(entry) => Ok(Item { entry, lost }),
+        Err(error) => {
+            drop(lost);
+            Err(error)
+        }
+    }
 }
 
-// The key of an item with this id, or an empty text where it is none.
-fn key_in<'a>(id: &Value<'a>) -> &'a str
-    ensures { result.now ≡ key_in (value_view id.now) }
-{
-    text_in(id).unwrap_or("")
-}
-
-// Sets the members in turn, and counts those that are passed over.
-#[tactic(auto, using(haya_json::proofs::Tallies::counted_together))]
+// Sets the members in turn, and answers what is lost of them.
 fn set_members(
     alloc: Global,
     draft: &mut Draft,
-    library: &Library,
+    by: ItemKey,
     kind: Kind,
-    item: &Value<'_>,
     key: &str,
+    item: &Value<'_>,
     members: &Vec<(&str, Value<'_>)>,
-    ignored: &mut Ignored,
-) -> Result<(), Fault>
-    ensures ok { OnOk result
-        (members_set library.now kind (value_view item.now) key.now
-        (members_view members.now.items) (draft_view draft.old) ≡ Ok (draft_view draft.new)) }
-    ensures counts { OnOk result (counts_of ignored.new
-        ≡ all_counted (members_passed_over kind (value_view item.now)
-        (members_view members.now.items)) (counts_of ignored.old)) }
-    ensures fault { IfErr result (IsFaultOf
-        (members_set library.now kind (value_view item.now) key.now
-        (members_view members.now.items) (draft_view draft.old))) }
+) -> Result<Vec<Lost>, OutOfMemory>
+    ensures { IfOk result (λ lost.
+        members_set by kind key.now (value_view item.now) (members_view members.now.items)
+        (only_lost [] (draft_view draft.old)) ≡ member_view lost.items draft.new) }
 {
+    let mut lost = Vec::new(alloc);
     'members: for member in members {
-        let is_read = match set_member(
-            alloc, draft, library, kind, item, key, member.0, &member.1,
-        ) {
-            Ok(is_read) => is_read,
-            Err(fault) => return Err(fault.in_member(alloc, member.0)),
-        };
-        note_unless(is_read, ignored, member.0)?;
+        let of_member = set_member(alloc, draft, by, kind, key, member.0, item, &member.1)?;
+        add_lost(alloc, &mut lost, of_member, member.0)?;
     }
-    Ok(())
+    Ok(lost)
 }
 
-// Counts the name of a member that isn't read.
-fn note_unless(is_read: bool, ignored: &mut Ignored, name: &str) -> Result<(), OutOfMemory>
-    ensures { OnOk result (counts_of ignored.new
-        ≡ all_counted (if is_read then [] else name.now ∷ []) (counts_of ignored.old)) }
+// Puts what is lost of a member last, as it is seen from the item.
+fn add_lost(
+    alloc: Global,
+    lost: &mut Vec<Lost>,
+    of_member: Vec<Lost>,
+    name: &str,
+) -> Result<(), OutOfMemory>
+    ensures { OnOk result (losts_view lost.new.items ≡ losts_view lost.old.items
+        ++ all_behind (to_member name.now) (losts_view of_member.items)) }
 {
-    if is_read { Ok(()) } else { ignored.add(name) }
+    let mut more = all_in_member(alloc, of_member, name)?;
+    let added = lost.append(&mut more);
+    drop(more);
+    match added {
+        Ok(()) => Ok(()),
+        Err(_) => Err(OutOfMemory),
+    }
 }
 
-// Sets one member, and says whether it has a place in the entry. Null sets nothing.
+// Sets one member, and answers what is lost of it.
 fn set_member(
     alloc: Global,
     draft: &mut Draft,
-    library: &Library,
+    by: ItemKey,
     kind: Kind,
-    item: &Value<'_>,
     key: &str,
     name: &str,
+    item: &Value<'_>,
     json: &Value<'_>,
-) -> Result<bool, Fault>
-    ensures ok { OnOk result
-        (with_member library.now kind (value_view item.now) key.now name.now
-        (value_view json.now) (draft_view draft.old) ≡ Ok (draft_view draft.new)) }
-    ensures read { IfOk result (λ b. b
-        ≡ (is_null (value_view json.now) || is_read kind (value_view item.now) name.now)) }
-    ensures fault { IfErr result (IsFaultOf
-        (with_member library.now kind (value_view item.now) key.now name.now
-        (value_view json.now) (draft_view draft.old))) }
+) -> Result<Vec<Lost>, OutOfMemory>
+    ensures { IfOk result (λ lost.
+        with_member by kind key.now name.now (value_view item.now) (value_view json.now)
+        (draft_view draft.old) ≡ member_view lost.items draft.new) }
 {
-    if json.is_null() {
-        return Ok(true);
+    if is_empty(json) || name == "id" {
+        return Ok(Vec::new(alloc));
     }
-    if name == "id" {
-        check_id(alloc, library, json)?;
-        return Ok(true);
+    if name == "citation-key" {
+        return citation_key_lost(alloc, by, json);
     }
     if name == "type" {
-        check_type(alloc, item, json)?;
-        return Ok(true);
+        return type_lost(alloc, text_in(json), item, json);
     }
-    set_field(alloc, draft, kind, item, key, name, json)
+    if is_place_again(name, item, json) {
+        return Ok(Vec::new(alloc));
+    }
+    set_field(alloc, draft, kind, key, name, item, json)
 }
 
-// Refuses what is no text, or the key of an entry that was read before.
-fn check_id(alloc: Global, library: &Library, json: &Value<'_>) -> Result<(), Fault>
-    ensures ok { OnOk result (Passes (id_checked library.now (value_view json.now))) }
-    ensures fault { IfErr result (Refuses (id_checked library.now (value_view json.now))) }
+// The value itself is lost, under this name.
+fn named(alloc: Global, name: &str) -> Result<Vec<Lost>, OutOfMemory>
+    ensures { IfOk result (λ lost.
+        losts_view lost.items ≡ lost_here (named name.now) ∷ []) }
 {
-    let key = read_text(alloc, json)?;
-    if library.get(key).is_some() {
-        return Err(Fault::refused(alloc, Why::SameId));
-    }
-    Ok(())
+    only(alloc, Lost::named(alloc, name)?)
 }
 
-// Refuses what is no type of CSL.
-fn check_type(alloc: Global, item: &Value<'_>, json: &Value<'_>) -> Result<(), Fault>
-    ensures ok { OnOk result
-        (Passes (type_checked (value_view item.now) (value_view json.now))) }
-    ensures fault { IfErr result
-        (Refuses (type_checked (value_view item.now) (value_view json.now))) }
+// The value itself isn't read, for this reason.
+fn unread(alloc: Global, why: Why, json: &Value<'_>) -> Result<Vec<Lost>, OutOfMemory>
+    ensures { IfOk result (λ lost. losts_view lost.items ≡ lost_here (unread why) ∷ []) }
 {
-    let name = read_text(alloc, json)?;
+    only(alloc, Lost::unread(alloc, why, json)?)
+}
+
+// This alone is lost.
+fn only(alloc: Global, lost: Lost) -> Result<Vec<Lost>, OutOfMemory>
+    ensures { IfOk result (λ losts. losts_view losts.items ≡ lost_view lost ∷ []) }
+{
+    let mut losts = Vec::new(alloc);
+    losts.push(lost)?;
+    Ok(losts)
+}
+
+// What is lost of a `citation-key`: where it isn't the key, all of it.
+fn citation_key_lost(alloc: Global, by: ItemKey, json: &Value<'_>) -> Result<Vec<Lost>, OutOfMemory>
+    ensures { IfOk result (λ lost.
+        losts_view lost.items ≡ citation_key_lost by (value_view json.now)) }
+{
+    match by {
+        ItemKey::CitationKey => text_lost(alloc, text_in(json), json),
+        ItemKey::Id => named(alloc, "citation-key"),
+    }
+}
+
+// A value that has no text is lost.
+fn text_lost(alloc: Global, text: Option<&str>, json: &Value<'_>) -> Result<Vec<Lost>, OutOfMemory>
+    ensures { IfOk result (λ lost.
+        losts_view lost.items ≡ text_lost (option_map (λ t. t.now) text.entry)) }
+{
+    match text {
+        Some(_) => Ok(Vec::new(alloc)),
+        None => unread(alloc, Why::NotText, json),
+    }
+}
+
+// What is lost of a `type` with this text: one that is no text, or that CSL doesn't have.
+fn type_lost(
+    alloc: Global,
+    name: Option<&str>,
+    item: &Value<'_>,
+    json: &Value<'_>,
+) -> Result<Vec<Lost>, OutOfMemory>
+    ensures { IfOk result (λ lost. losts_view lost.items
+        ≡ type_lost (option_map (λ t. t.now) name.entry) (value_view item.now)) }
+{
+    let Some(name) = name else {
+        return unread(alloc, Why::NotText, json);
+    };
     match kind_named(name, item) {
-        Some(_) => Ok(()),
-        None => Err(Fault::refused(alloc, Why::UnknownType)),
+        Some(_) => Ok(Vec::new(alloc)),
+        None => unread(alloc, Why::UnknownType, json),
     }
 }
 
-// Adds persons with a role, or sets the field of the member, and says whether it has a place in the
-// entry.
+// Whether a member is the place of the publisher, said again as that of an event that isn't there.
+fn is_place_again(name: &str, item: &Value<'_>, json: &Value<'_>) -> bool
+    ensures { result ≡ is_place_again name.now (value_view item.now) (value_view json.now) }
+{
+    name == "event-place"
+        && has_text(json, text_at(item, "publisher-place"))
+        && !(has(item, "event-title") || has(item, "event"))
+}
+
+// Whether this is the text of the value.
+fn has_text(json: &Value<'_>, text: &str) -> bool
+    ensures { result ≡ option_map_or (bytes_eq text.now) (text_in (value_view json.now)) false }
+{
+    match text_in(json) {
+        Some(own) => text == own,
+        None => false,
+    }
+}
+
+// Adds persons with a role, or sets the field of the member, and answers what is lost of it.
 fn set_field(
     alloc: Global,
     draft: &mut Draft,
     kind: Kind,
-    item: &Value<'_>,
     key: &str,
     name: &str,
+    item: &Value<'_>,
     json: &Value<'_>,
-) -> Result<bool, Fault>
-    ensures ok { OnOk result
-        (with_field kind (value_view item.now) key.now name.now (value_view json.now)
-        (draft_view draft.old) ≡ Ok (draft_view draft.new)) }
-    ensures read { IfOk result (λ b. b
-        ≡ (is_some (role_of name.now) || is_some (place_of kind name.now (value_view item.now)))) }
-    ensures fault { IfErr result (IsFaultOf
-        (with_field kind (value_view item.now) key.now name.now (value_view json.now)
-        (draft_view draft.old))) }
+) -> Result<Vec<Lost>, OutOfMemory>
+    ensures { IfOk result (λ lost.
+        with_field kind key.now name.now (value_view item.now) (value_view json.now)
+        (draft_view draft.old) ≡ member_view lost.items draft.new) }
 {
     if let Some(role) = role_of(name) {
-        draft.add_persons(alloc, role, key, json)?;
-        return Ok(true);
+        return draft.add_persons(alloc, role, key, name, json);
     }
-    set_placed(alloc, draft, place_of(kind, name, item), item, key, json)
+    set_placed(
+        alloc,
+        draft,
+        place_of(kind, name, item),
+        key,
+        name,
+        item,
+        json,
+    )
 }
 
-// Sets the field at its place, and says whether there is one.
+// Sets the field at its place, and answers what is lost of the member.
 fn set_placed(
     alloc: Global,
     draft: &mut Draft,
     place: Option<Place>,
-    item: &Value<'_>,
     key: &str,
+    name: &str,
+    item: &Value<'_>,
     json: &Value<'_>,
-) -> Result<bool, Fault>
-    ensures ok { OnOk result
-        (placed place (value_view item.now) key.now (value_view json.now) (draft_view draft.old)
-        ≡ Ok (draft_view draft.new)) }
-    ensures read { IfOk result (λ b. b ≡ is_some place) }
-    ensures fault { IfErr result (IsFaultOf
-        (placed place (value_view item.now) key.now (value_view json.now)
-        (draft_view draft.old))) }
+) -> Result<Vec<Lost>, OutOfMemory>
+    ensures { IfOk result (λ lost.
+        placed place key.now name.now (value_view item.now) (value_view json.now)
+        (draft_view draft.old) ≡ member_view lost.items draft.new) }
 {
     let Some(place) = place else {
-        return Ok(false);
+        return named(alloc, name);
     };
     match place.choice {
-        Choice::Pass => {}
-        Choice::Put(field) => draft.set(alloc, place.level, key, field, item, json)?,
+        Choice::Pass => named(alloc, beside(name)),
+        Choice::Put(field) => draft.set(alloc, place.level, key, field, name, item, json),
     }
-    Ok(true)
 }
 
 /// The role of the persons whom a member names.

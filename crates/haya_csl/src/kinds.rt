@@ -3,7 +3,8 @@ ghost use Rattle.std.specs.Prelude.{◌≡◌, codes, option_and_then, option_ma
 ghost use Rattle.json.specs.Value.{value_view};
 ghost use Rattle.haya_json.specs.Parts.{member_of, text_in};
 ghost use Rattle.haya_csl.specs.Kinds.{alone, appears_in, article_in, begins_with, book_kinds};
-ghost use Rattle.haya_csl.specs.Kinds.{broadcast_in, chapter_in, given_at, has, in_periodical};
+ghost use Rattle.haya_csl.specs.Kinds.{broadcast_in, chapter_in, filled, given_at, has};
+ghost use Rattle.haya_csl.specs.Kinds.{in_periodical, is_empty};
 ghost use Rattle.haya_csl.specs.Kinds.{kind_among, kind_by, kind_named, kind_of, later_kinds};
 ghost use Rattle.haya_csl.specs.Kinds.{law_kinds, letter_in, media_kinds, paper, says};
 ghost use Rattle.haya_csl.specs.Kinds.{says_audio, text_at, with_own};
@@ -251,11 +252,32 @@ fn paper() -> Kind
     }
 }
 
-/// Whether the item has the member.
+/// Whether a value is as if it weren't there: null, or an empty text, list or object.
+pub(crate) fn is_empty(json: &Value<'_>) -> bool
+    ensures { result ≡ is_empty (value_view json.now) }
+{
+    match json {
+        Value::Null => true,
+        Value::String(text) => text.is_empty(),
+        Value::Array(items) => items.is_empty(),
+        Value::Object(members) => members.is_empty(),
+        _ => false,
+    }
+}
+
+/// The member with this name, if there is one and it isn't empty.
+pub(crate) fn filled<'v, 'a>(item: &'v Value<'a>, name: &str) -> Option<&'v Value<'a>>
+    ensures { option_map (λ v. value_view v.now) result ≡ filled name.now (value_view item.now) }
+{
+    let value = item.get(name)?;
+    if is_empty(value) { None } else { Some(value) }
+}
+
+/// Whether the item has it.
 pub(crate) fn has(item: &Value<'_>, name: &str) -> bool
     ensures { result ≡ has name.now (value_view item.now) }
 {
-    member(item, name).is_some()
+    filled(item, name).is_some()
 }
 
 // An article of a periodical, or a preprint in an archive, which may be named as a publisher.

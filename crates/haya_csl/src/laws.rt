@@ -1,36 +1,62 @@
-//! Laws of the definitions. A call of one, as `item_lines_are_a_list();`, gives its statement to
-//! the caller's proof.
-ghost use Rattle.std.specs.Prelude.{◌≡◌, ℕ, List, Some};
-ghost use Rattle.json.specs.Json.{Items, array, document};
+//! Laws of the definitions. A call of one, as `lists_are_libraries();`, gives its statement to the
+//! caller's proof.
+ghost use Rattle.std.specs.Prelude.{◌≡◌, ℕ, List, Err, Ok, Some};
+ghost use Rattle.std.specs.List.{Contains};
+ghost use Rattle.json.specs.Json.{Items, Json, Members, array, document, object};
 ghost use Rattle.haya_entry.specs.Tree.{Tree};
-ghost use Rattle.hayagriva.specs.Library.{AreDistinct};
-ghost use Rattle.haya_json.specs.Ignored.{counts_of};
-ghost use Rattle.haya_json.specs.Tally.{Counts};
-ghost use Rattle.haya_json.specs.declared.ignored.Ignored.{Ignored};
-ghost use Rattle.haya_csl.specs.Ignored.{IsPassedOver};
+ghost use Rattle.hayagriva.specs.Library.{AreDistinct, from_entries};
+ghost use Rattle.haya_json.specs.Notes.{NotesView};
+ghost use Rattle.haya_json.specs.Refusal.{Refusal};
 ghost use Rattle.haya_csl.specs.ItemLines.{LinesList, Lists};
-ghost use Rattle.haya_csl.specs.Libraries.{DescribesAsCsl};
+ghost use Rattle.haya_csl.specs.Items.{ItemView, item_said};
+ghost use Rattle.haya_csl.specs.Libraries.{DescribesAsCsl, csl_library_of};
+ghost use Rattle.haya_csl.specs.LostMembers.{HasMember, lost_as, told_as};
+ghost use Rattle.haya_csl.specs.Refused.{RefusesLibrary};
+ghost use Rattle.haya_csl.specs.Told.{TellsAsCsl};
+ghost use Rattle.haya_csl.specs.declared.item_key.ItemKey.{ItemKey};
 
-/// The items of a text, each read on a line of its own, say entries exactly where the text is an
-/// array in JSON that lists them, and what is passed over of these lines is passed over of it.
+/// The items of a text, each read on a line of its own, say entries only where the text is an array
+/// in JSON that lists them. Where no key comes twice, what is told of these lines is what is told
+/// of it, and the other way.
 pub fn item_lines_are_a_list()
-    ensures list { (text : List ℕ) (entries : List Tree) (counts : Counts) →
-        LinesList text entries counts → Lists text entries }
-    ensures ignored { (text : List ℕ) (entries : List Tree) (ignored : Ignored) →
-        LinesList text entries (counts_of ignored) → IsPassedOver text ignored }
-    ensures lines { (text : List ℕ) (entries : List Tree) (ignored : Ignored) →
-        Lists text entries → IsPassedOver text ignored →
-        LinesList text entries (counts_of ignored) }
+    ensures list { (by : ItemKey) (text : List ℕ) (entries : List Tree) (kept : NotesView) →
+        LinesList by text entries kept → Lists by text entries }
+    ensures notes { (by : ItemKey) (text : List ℕ) (entries : List Tree) (kept : NotesView) →
+        LinesList by text entries kept → AreDistinct entries → TellsAsCsl by text kept }
+    ensures lines { (by : ItemKey) (text : List ℕ) (entries : List Tree) (kept : NotesView) →
+        Lists by text entries → AreDistinct entries → TellsAsCsl by text kept →
+        LinesList by text entries kept }
 {}
 
-/// Where no key comes twice, a text that lists entries describes the library of them in CSL-JSON.
+/// A text that lists entries describes the library of them in CSL-JSON. Where no key comes twice,
+/// these are its entries.
 pub fn lists_are_libraries()
-    ensures { (text : List ℕ) (entries : List Tree) →
-        Lists text entries → AreDistinct entries → DescribesAsCsl text entries }
+    ensures pushed { (by : ItemKey) (text : List ℕ) (entries : List Tree) →
+        Lists by text entries → DescribesAsCsl by text (from_entries entries) }
+    ensures distinct { (by : ItemKey) (text : List ℕ) (entries : List Tree) →
+        Lists by text entries → AreDistinct entries → DescribesAsCsl by text entries }
 {}
 
-/// A text that is an array and describes a library in CSL-JSON lists its entries.
+/// A text that is an array and describes a library in CSL-JSON lists entries, of which that is the
+/// library.
 pub fn libraries_are_lists()
-    ensures { (text : List ℕ) (js : Items) (library : List Tree) →
-        document text ≡ Some (array js) → DescribesAsCsl text library → Lists text library }
+    ensures { (by : ItemKey) (text : List ℕ) (js : Items) (library : List Tree) →
+        document text ≡ Some (array js) → DescribesAsCsl by text library →
+        (entries : List Tree) × (library ≡ from_entries entries) × Lists by text entries }
+{}
+
+/// A member of an item that sets nothing is told under its name: one that has no place in an entry,
+/// or in whose place the item has another.
+pub fn lost_members_are_told()
+    ensures { (by : ItemKey) (ms : Members) (said : ItemView) (name : List ℕ) (j : Json)
+        (told : List ℕ) →
+        item_said by (object ms) ≡ Ok said → HasMember ms name j →
+        told_as (object ms) name j ≡ Some told → Contains said.lost (lost_as name told) }
+{}
+
+/// No value of an item refuses a library but its key: a library is refused that has no list of
+/// items, or an item that is no object, or has no `id`, or one that is no text.
+pub fn refusals_are_few()
+    ensures { (by : ItemKey) (j : Json) (r : Refusal) →
+        csl_library_of by j ≡ Err r → RefusesLibrary r }
 {}

@@ -4,6 +4,7 @@
 mod dates;
 mod draft;
 mod fields;
+mod item_key;
 mod item_lines;
 mod items;
 mod kinds;
@@ -12,7 +13,13 @@ mod libraries;
 mod markup;
 mod members;
 mod names;
+mod numbers;
+mod said;
+mod serials;
+mod texts;
+mod told;
 mod turns;
 
+pub use item_key::ItemKey;
 pub use item_lines::read_item_line;
 pub use libraries::{read_csl_json, read_csl_json_with_hash_keys};

@@ -1,72 +1,76 @@
 //! Libraries from a text.
 ghost use Rattle.std.specs.Prelude.{◌≡◌, [], Ok, option_map, IfErr, IfOk, OnOk};
 ghost use Rattle.json.specs.Value.{items_view, value_view};
+ghost use Rattle.haya_json.specs.Notes.{all_kept, kept_of, notes_view};
 ghost use Rattle.haya_json.specs.Refusal.{IsFaultOf};
 ghost use Rattle.haya_csl.specs.Libraries.{DescribesAsCsl, IsCslErrorOf, csl_library_of};
 ghost use Rattle.haya_csl.specs.Libraries.{items_pushed, list_in, list_of};
-ghost use Rattle.haya_csl.specs.Ignored.{IsPassedOver, items_passed_over, list_in_passed_over};
-ghost use Rattle.haya_csl.specs.Ignored.{list_passed_over, passed_over};
-ghost use Rattle.haya_json.specs.Ignored.{counts_of};
-ghost use Rattle.haya_json.specs.Tally.{all_counted, tally};
+ghost use Rattle.haya_csl.specs.Told.{TellsAsCsl, items_told, list_in_told, list_told, told};
 
+use crate::item_key::ItemKey;
 use crate::items::read_item;
+use crate::told::push_item;
 use crate::turns::read_list_text;
 use haya_json::reading::{Fault, member, name_twice, not_json};
-use haya_json::{Ignored, ReadError, Why};
+use haya_json::{Notes, ReadError, Why};
 use hayagriva::{HashKeys, Library};
 use json::{Scratch, Value};
 use std::alloc::Global;
 
 /// The library that a text says in CSL-JSON: a list of items, or an object that has it as its
-/// `items`. The order is that of the list, and the key of an entry is the item's `id`. A member
-/// that has no place in an entry is passed over, and counted; members of the objects inside values
-/// aren't, nor is a null, or a member in whose place the item has another that is preferred.
+/// `items`. The order is that of the list. An item whose key comes again takes the place of the
+/// earlier one.
+///
+/// A value of an item that isn't read is left out, and so is a member that has no place in an
+/// entry, or in whose place the item has another. All of these are told, and so are keys that come
+/// again. A member that is null, or an empty text, list or object, is as if it weren't there.
 ///
 /// `NotJson`: the text is no JSON. `NameTwice`: it is, and an object has a member twice. `Refused`:
-/// a value is not what its place asks for, a type is none of CSL's, or an `id` is missing or comes
-/// a second time.
+/// it has no list of items, or an item is no object, or has no key.
 ///
-/// The maps of the library and of what is passed over hash with keys that are always the same.
-pub fn read_csl_json(alloc: Global, text: &str) -> Result<(Library, Ignored), ReadError>
-    ensures library { IfOk result (λ read. DescribesAsCsl text.now read.0) }
-    ensures ignored { IfOk result (λ read. IsPassedOver text.now read.1) }
-    ensures error { IfErr result (IsCslErrorOf text.now) }
+/// The maps of the library and of the notes hash with keys that are always the same.
+pub fn read_csl_json(alloc: Global, by: ItemKey, text: &str) -> Result<(Library, Notes), ReadError>
+    ensures library { IfOk result (λ read. DescribesAsCsl by text.now read.0) }
+    ensures notes { IfOk result (λ read. TellsAsCsl by text.now (notes_view read.1)) }
+    ensures error { IfErr result (IsCslErrorOf by text.now) }
 {
-    read_csl_json_with_hash_keys(alloc, HashKeys::new(0, 0), text)
+    read_csl_json_with_hash_keys(alloc, HashKeys::new(0, 0), by, text)
 }
 
 /// As `read_csl_json`, with maps that hash with these keys.
 pub fn read_csl_json_with_hash_keys(
     alloc: Global,
     keys: HashKeys,
+    by: ItemKey,
     text: &str,
-) -> Result<(Library, Ignored), ReadError>
-    ensures library { IfOk result (λ read. DescribesAsCsl text.now read.0) }
-    ensures ignored { IfOk result (λ read. IsPassedOver text.now read.1) }
-    ensures error { IfErr result (IsCslErrorOf text.now) }
+) -> Result<(Library, Notes), ReadError>
+    ensures library { IfOk result (λ read. DescribesAsCsl by text.now read.0) }
+    ensures notes { IfOk result (λ read. TellsAsCsl by text.now (notes_view read.1)) }
+    ensures error { IfErr result (IsCslErrorOf by text.now) }
 {
     let mut scratch = Scratch::new(alloc);
-    match read_list_text(alloc, keys, text, &mut scratch) {
+    match read_list_text(alloc, keys, by, text, &mut scratch) {
         Ok(Some(read)) => Ok(read),
-        Ok(None) => read_text(alloc, keys, text, &mut scratch),
+        Ok(None) => read_text(alloc, keys, by, text, &mut scratch),
         Err(error) => Err(error),
     }
 }
 
-// The library of a text that is no list, and what is passed over of it.
+// The library of a text that is no list, and what is told of it.
 #[tactic(auto, using(haya_json::proofs::ParseErrors::parse_errors))]
 fn read_text(
     alloc: Global,
     keys: HashKeys,
+    by: ItemKey,
     text: &str,
     scratch: &mut Scratch,
-) -> Result<(Library, Ignored), ReadError>
-    ensures library { IfOk result (λ read. DescribesAsCsl text.now read.0) }
-    ensures ignored { IfOk result (λ read. IsPassedOver text.now read.1) }
-    ensures error { IfErr result (IsCslErrorOf text.now) }
+) -> Result<(Library, Notes), ReadError>
+    ensures library { IfOk result (λ read. DescribesAsCsl by text.now read.0) }
+    ensures notes { IfOk result (λ read. TellsAsCsl by text.now (notes_view read.1)) }
+    ensures error { IfErr result (IsCslErrorOf by text.now) }
 {
     match Value::parse_strict(alloc, text, scratch) {
-        Ok(json) => match library_and_ignored(alloc, keys, &json) {
+        Ok(json) => match library_and_notes(alloc, keys, by, &json) {
             Ok(read) => Ok(read),
             Err(Fault::Refused(path, why)) => Err(ReadError::Refused(path, why)),
             Err(Fault::OutOfMemory) => Err(ReadError::OutOfMemory),
@@ -77,22 +81,26 @@ fn read_text(
     }
 }
 
-// The library that a value says, and what is passed over of it.
-#[tactic(auto, using(haya_json::proofs::Tallies::counted_from_none))]
-fn library_and_ignored(
+// The library that a value says, and what is told of it.
+#[tactic(auto, using(haya_json::proofs::NotesKept::kept_from_none))]
+fn library_and_notes(
     alloc: Global,
     keys: HashKeys,
+    by: ItemKey,
     json: &Value<'_>,
-) -> Result<(Library, Ignored), Fault>
-    ensures ok { IfOk result (λ read. csl_library_of (value_view json.now) ≡ Ok read.0) }
-    ensures ignored { IfOk result (λ read.
-        counts_of read.1 ≡ tally (passed_over (value_view json.now))) }
-    ensures fault { IfErr result (IsFaultOf (csl_library_of (value_view json.now))) }
+) -> Result<(Library, Notes), Fault>
+    ensures ok { IfOk result (λ read. csl_library_of by (value_view json.now) ≡ Ok read.0) }
+    ensures notes { IfOk result (λ read.
+        notes_view read.1 ≡ kept_of (told by (value_view json.now))) }
+    ensures fault { IfErr result (IsFaultOf (csl_library_of by (value_view json.now))) }
 {
-    let mut ignored = Ignored::with_hash_keys(alloc, keys);
-    match library_of(alloc, keys, json, &mut ignored) {
-        Ok(library) => Ok((library, ignored)),
-        Err(fault) => Err(fault),
+    let mut notes = Notes::with_hash_keys(alloc, keys);
+    match library_of(alloc, keys, by, json, &mut notes) {
+        Ok(library) => Ok((library, notes)),
+        Err(fault) => {
+            drop(notes);
+            Err(fault)
+        }
     }
 }
 
@@ -100,17 +108,18 @@ fn library_and_ignored(
 fn library_of(
     alloc: Global,
     keys: HashKeys,
+    by: ItemKey,
     json: &Value<'_>,
-    ignored: &mut Ignored,
+    notes: &mut Notes,
 ) -> Result<Library, Fault>
-    ensures ok { IfOk result (λ library. csl_library_of (value_view json.now) ≡ Ok library) }
-    ensures counts { OnOk result (counts_of ignored.new
-        ≡ all_counted (passed_over (value_view json.now)) (counts_of ignored.old)) }
-    ensures fault { IfErr result (IsFaultOf (csl_library_of (value_view json.now))) }
+    ensures ok { IfOk result (λ library. csl_library_of by (value_view json.now) ≡ Ok library) }
+    ensures notes { OnOk result (notes_view notes.new
+        ≡ all_kept (told by (value_view json.now)) (notes_view notes.old)) }
+    ensures fault { IfErr result (IsFaultOf (csl_library_of by (value_view json.now))) }
 {
     match json {
-        Value::Object(_) => read_in(alloc, keys, member(json, "items"), ignored),
-        _ => read_list(alloc, keys, json, ignored),
+        Value::Object(_) => read_in(alloc, keys, by, member(json, "items"), notes),
+        _ => read_list(alloc, keys, by, json, notes),
     }
 }
 
@@ -118,21 +127,22 @@ fn library_of(
 fn read_in(
     alloc: Global,
     keys: HashKeys,
+    by: ItemKey,
     list: Option<&Value<'_>>,
-    ignored: &mut Ignored,
+    notes: &mut Notes,
 ) -> Result<Library, Fault>
     ensures ok { IfOk result (λ library.
-        list_in (option_map (λ j. value_view j.now) list.entry) ≡ Ok library) }
-    ensures counts { OnOk result (counts_of ignored.new ≡ all_counted
-        (list_in_passed_over (option_map (λ j. value_view j.now) list.entry))
-        (counts_of ignored.old)) }
+        list_in by (option_map (λ j. value_view j.now) list.entry) ≡ Ok library) }
+    ensures notes { OnOk result (notes_view notes.new
+        ≡ all_kept (list_in_told by (option_map (λ j. value_view j.now) list.entry))
+        (notes_view notes.old)) }
     ensures fault { IfErr result (IsFaultOf
-        (list_in (option_map (λ j. value_view j.now) list.entry))) }
+        (list_in by (option_map (λ j. value_view j.now) list.entry))) }
 {
     let Some(list) = list else {
         return Err(Fault::refused(alloc, Why::NotList));
     };
-    match read_list(alloc, keys, list, ignored) {
+    match read_list(alloc, keys, by, list, notes) {
         Ok(library) => Ok(library),
         Err(fault) => Err(fault.in_member(alloc, "items")),
     }
@@ -142,38 +152,40 @@ fn read_in(
 fn read_list(
     alloc: Global,
     keys: HashKeys,
+    by: ItemKey,
     json: &Value<'_>,
-    ignored: &mut Ignored,
+    notes: &mut Notes,
 ) -> Result<Library, Fault>
-    ensures ok { IfOk result (λ library. list_of (value_view json.now) ≡ Ok library) }
-    ensures counts { OnOk result (counts_of ignored.new
-        ≡ all_counted (list_passed_over (value_view json.now)) (counts_of ignored.old)) }
-    ensures fault { IfErr result (IsFaultOf (list_of (value_view json.now))) }
+    ensures ok { IfOk result (λ library. list_of by (value_view json.now) ≡ Ok library) }
+    ensures notes { OnOk result (notes_view notes.new
+        ≡ all_kept (list_told by (value_view json.now)) (notes_view notes.old)) }
+    ensures fault { IfErr result (IsFaultOf (list_of by (value_view json.now))) }
 {
     match json {
-        Value::Array(items) => read_items(alloc, keys, items, ignored),
+        Value::Array(items) => read_items(alloc, keys, by, items, notes),
         _ => Err(Fault::refused(alloc, Why::NotList)),
     }
 }
 
 // The entries of items, pushed in turn.
-#[tactic(auto, using(haya_json::proofs::Tallies::counted_together))]
+#[tactic(auto, using(haya_json::proofs::NotesKept::kept_together))]
 fn read_items(
     alloc: Global,
     keys: HashKeys,
+    by: ItemKey,
     items: &Vec<Value<'_>>,
-    ignored: &mut Ignored,
+    notes: &mut Notes,
 ) -> Result<Library, Fault>
     ensures ok { IfOk result (λ library.
-        items_pushed [] 0 (items_view items.now.items) ≡ Ok library) }
-    ensures counts { OnOk result (counts_of ignored.new
-        ≡ all_counted (items_passed_over (items_view items.now.items)) (counts_of ignored.old)) }
-    ensures fault { IfErr result (IsFaultOf (items_pushed [] 0 (items_view items.now.items))) }
+        items_pushed by [] 0 (items_view items.now.items) ≡ Ok library) }
+    ensures notes { OnOk result (notes_view notes.new
+        ≡ all_kept (items_told by [] (items_view items.now.items)) (notes_view notes.old)) }
+    ensures fault { IfErr result (IsFaultOf (items_pushed by [] 0 (items_view items.now.items))) }
 {
     let mut library = Library::with_hash_keys(alloc, keys);
     'items: for place in 0..items.len() {
-        match read_item(alloc, &library, &items[place], ignored) {
-            Ok(entry) => library.insert(entry)?,
+        match read_item(alloc, by, &items[place]) {
+            Ok(read) => push_item(alloc, &mut library, notes, read)?,
             Err(fault) => return Err(fault.in_item(place)),
         }
     }

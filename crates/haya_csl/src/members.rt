@@ -1,7 +1,8 @@
 //! The members of an item: the field that each sets, and the entry whose field that is.
 ghost use Rattle.std.specs.Prelude.{◌≡◌, Some};
 ghost use Rattle.json.specs.Value.{value_view};
-ghost use Rattle.haya_csl.specs.Members.{archive_location_in, choice_in, conference_table};
+ghost use Rattle.haya_csl.specs.Members.{archive_location_in, beside, choice_in};
+ghost use Rattle.haya_csl.specs.Members.{conference_table};
 ghost use Rattle.haya_csl.specs.Members.{event_title, exceptions, host_book, host_figure};
 ghost use Rattle.haya_csl.specs.Members.{host_issue, host_newspaper, host_place};
 ghost use Rattle.haya_csl.specs.Members.{host_proceedings, host_publisher, host_reference};
@@ -258,7 +259,7 @@ fn archive_location(item: &Value<'_>) -> Choice
     if has(item, "call-number") {
         Choice::Pass
     } else {
-        Choice::Put(Field::Text(TextField::CallNumber))
+        Choice::Put(Field::ArchiveNumber)
     }
 }
 
@@ -437,5 +438,24 @@ fn original_choice(name: &str, item: &Value<'_>) -> Option<Choice>
         "original-title" => always(Field::Title),
         "original-publisher" => always(Field::PublisherName),
         _ => None,
+    }
+}
+
+/// What a member is counted under in whose place the item has another: both names.
+pub(crate) fn beside(name: &str) -> &str
+    ensures { result.now ≡ beside name.now }
+{
+    match name {
+        "annote" => "annote beside note",
+        "archive_location" => "archive_location beside call-number",
+        "authority" => "authority beside publisher",
+        "container-title" => "container-title beside title",
+        "event" => "event beside event-title",
+        "event-place" => "event-place beside publisher-place",
+        "journalAbbreviation" => "journalAbbreviation beside container-title-short",
+        "medium" => "medium beside genre",
+        "number" => "number beside issue",
+        "shortTitle" => "shortTitle beside title-short",
+        _ => name,
     }
 }

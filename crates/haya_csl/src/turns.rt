@@ -4,15 +4,18 @@ ghost use Rattle.std.specs.Prelude.{IfOk, IfSome, IsTrue, MatchBool, OnOk, true}
 ghost use Rattle.json.specs.Json.{no_items};
 ghost use Rattle.json.specs.Strict.{HasUniqueKeys};
 ghost use Rattle.json.specs.Value.{value_view};
-ghost use Rattle.haya_csl.specs.Ignored.{IsPassedOver};
+ghost use Rattle.haya_json.specs.Notes.{notes_view};
 ghost use Rattle.haya_csl.specs.Libraries.{DescribesAsCsl, IsCslErrorOf};
 ghost use Rattle.haya_csl.specs.Made.{IsErrorWith, IsMadeOf, IsMadeOfNone, IsMadeOfText};
 ghost use Rattle.haya_csl.specs.Made.{MakesEntry, TakesItem};
+ghost use Rattle.haya_csl.specs.Told.{TellsAsCsl};
 ghost use Rattle.haya_csl.specs.Turns.{first_and_left, items_left};
 
+use crate::item_key::ItemKey;
 use crate::items::read_item;
+use crate::told::push_item;
 use haya_json::reading::{ELEMENT_DEPTH, Fault, has_unique_names, name_twice, not_json};
-use haya_json::{Ignored, ReadError};
+use haya_json::{Notes, ReadError};
 use haya_text::OutOfMemory;
 use hayagriva::{HashKeys, Library};
 use json::{Error, Reader, Scratch, Token, Value};
@@ -23,30 +26,32 @@ use std::alloc::Global;
 struct Made {
     // The entries of the items before the first that is refused.
     library: Library,
-    // What is passed over of these items.
-    ignored: Ignored,
+    // What is told of these items.
+    notes: Notes,
     // Why the first that is refused is refused.
     fault: Option<Fault>,
     // Whether no object in any item has a member twice.
     are_unique: bool,
 }
 
-/// The library of a text that begins as a list, and what is passed over of it. `None` where it
+/// The library of a text that begins as a list, and what is told of it. `None` where it
 /// begins as anything else.
 pub(crate) fn read_list_text(
     alloc: Global,
     keys: HashKeys,
+    by: ItemKey,
     text: &str,
     scratch: &mut Scratch,
-) -> Result<Option<(Library, Ignored)>, ReadError>
-    ensures library { IfOk result (λ r. IfSome r (λ read. DescribesAsCsl text.now read.0)) }
-    ensures ignored { IfOk result (λ r. IfSome r (λ read. IsPassedOver text.now read.1)) }
-    ensures error { IfErr result (IsCslErrorOf text.now) }
+) -> Result<Option<(Library, Notes)>, ReadError>
+    ensures library { IfOk result (λ r. IfSome r (λ read. DescribesAsCsl by text.now read.0)) }
+    ensures notes { IfOk result (λ r. IfSome r (λ read.
+        TellsAsCsl by text.now (notes_view read.1))) }
+    ensures error { IfErr result (IsCslErrorOf by text.now) }
 {
     let mut made = Made::new(alloc, keys);
     // By calls: at an exit, the drop of a library is proved field by field.
-    match made.take_text(alloc, text, scratch) {
-        Ok(true) => match made.into_read(alloc, text) {
+    match made.take_text(alloc, by, text, scratch) {
+        Ok(true) => match made.into_read(alloc, by, text) {
             Ok(read) => Ok(Some(read)),
             Err(error) => Err(error),
         },
@@ -78,13 +83,13 @@ fn next_item<'a>(alloc: Global, reader: &mut Reader<'a>) -> Result<Option<Value<
 
 impl Made {
     // Of no items.
-    #[tactic(auto, using(haya_json::proofs::Tallies::counted_from_none))]
+    #[tactic(auto, using(haya_json::proofs::NotesKept::kept_from_none))]
     fn new(alloc: Global, keys: HashKeys) -> Made
         ensures { IsMadeOfNone result }
     {
         Made {
             library: Library::with_hash_keys(alloc, keys),
-            ignored: Ignored::with_hash_keys(alloc, keys),
+            notes: Notes::with_hash_keys(alloc, keys),
             fault: None,
             are_unique: true,
         }
@@ -94,12 +99,13 @@ impl Made {
     fn take_text(
         &mut self,
         alloc: Global,
+        by: ItemKey,
         text: &str,
         scratch: &mut Scratch,
     ) -> Result<bool, ReadError>
         requires { IsMadeOfNone self.old }
-        ensures made { result ≡ Ok true → IsMadeOfText text.now self.new }
-        ensures error { IfErr result (IsCslErrorOf text.now) }
+        ensures made { result ≡ Ok true → IsMadeOfText by text.now self.new }
+        ensures error { IfErr result (IsCslErrorOf by text.now) }
     {
         let Ok(mut reader) = Reader::new(text, scratch) else {
             return Err(ReadError::OutOfMemory);
@@ -107,7 +113,7 @@ impl Made {
         let Some(Token::BeginArray) = reader.next() else {
             return Ok(false);
         };
-        match self.take_items(alloc, &mut reader) {
+        match self.take_items(alloc, by, &mut reader) {
             Ok(true) => {}
             Ok(false) => return Err(not_json(alloc, text)),
             Err(OutOfMemory) => return Err(ReadError::OutOfMemory),
@@ -119,10 +125,15 @@ impl Made {
     }
 
     // Takes all items of a list, and answers whether it is one, of JSON values.
-    fn take_items(&mut self, alloc: Global, reader: &mut Reader<'_>) -> Result<bool, OutOfMemory>
+    fn take_items(
+        &mut self,
+        alloc: Global,
+        by: ItemKey,
+        reader: &mut Reader<'_>,
+    ) -> Result<bool, OutOfMemory>
         requires { IsMadeOfNone self.old }
         ensures { IfOk result (λ is_list. MatchBool is_list ((place : ℕ) ×
-            IsMadeOf (Some (no_items, reader.new)) (items_left reader.old) place self.new)
+            IsMadeOf by (Some (no_items, reader.new)) (items_left reader.old) place self.new)
             (items_left reader.old ≡ None)) }
     {
         let mut names = Vec::new(alloc);
@@ -133,7 +144,7 @@ impl Made {
                 Err(Error::Invalid) => return Ok(false),
                 Err(_) => return Err(OutOfMemory),
             };
-            let taken = self.take(alloc, &item, place, &mut names);
+            let taken = self.take(alloc, by, &item, place, &mut names);
             drop(item);
             taken?;
         }
@@ -145,14 +156,15 @@ impl Made {
     fn take<'a>(
         &mut self,
         alloc: Global,
+        by: ItemKey,
         item: &Value<'a>,
         place: usize,
         names: &mut Vec<&'a str>,
     ) -> Result<(), OutOfMemory>
-        ensures { OnOk result (TakesItem (value_view item.now) place self.old self.new) }
+        ensures { OnOk result (TakesItem by (value_view item.now) place self.old self.new) }
     {
         self.check_names(item, names)?;
-        self.add_entry(alloc, item, place)
+        self.add_entry(alloc, by, item, place)
     }
 
     // Sees whether the item has a member twice.
@@ -176,17 +188,18 @@ impl Made {
     fn add_entry(
         &mut self,
         alloc: Global,
+        by: ItemKey,
         item: &Value<'_>,
         place: usize,
     ) -> Result<(), OutOfMemory>
-        ensures entry { OnOk result (MakesEntry (value_view item.now) place self.old self.new) }
+        ensures entry { OnOk result (MakesEntry by (value_view item.now) place self.old self.new) }
         ensures same { OnOk result (self.new.are_unique ≡ self.old.are_unique) }
     {
         if self.fault.is_some() {
             return Ok(());
         }
-        match read_item(alloc, &self.library, item, &mut self.ignored) {
-            Ok(entry) => self.library.insert(entry),
+        match read_item(alloc, by, item) {
+            Ok(read) => push_item(alloc, &mut self.library, &mut self.notes, read),
             Err(fault) => self.refuse(fault.in_item(place)),
         }
     }
@@ -206,29 +219,36 @@ impl Made {
 
     // What is read of the text in the end, where these were all its items.
     #[tactic(auto, using(haya_json::proofs::ParseErrors::parse_errors))]
-    fn into_read(self, alloc: Global, text: &str) -> Result<(Library, Ignored), ReadError>
+    fn into_read(
+        self,
+        alloc: Global,
+        by: ItemKey,
+        text: &str,
+    ) -> Result<(Library, Notes), ReadError>
         ensures library { IfOk result (λ read.
-            IsMadeOfText text.now self → DescribesAsCsl text.now read.0) }
-        ensures ignored { IfOk result (λ read.
-            IsMadeOfText text.now self → IsPassedOver text.now read.1) }
+            IsMadeOfText by text.now self → DescribesAsCsl by text.now read.0) }
+        ensures notes { IfOk result (λ read.
+            IsMadeOfText by text.now self → TellsAsCsl by text.now (notes_view read.1)) }
         ensures error { IfErr result (λ e.
-            IsMadeOfText text.now self → IsCslErrorOf text.now e) }
+            IsMadeOfText by text.now self → IsCslErrorOf by text.now e) }
     {
         let Made {
             library,
-            ignored,
+            notes,
             fault,
             are_unique,
         } = self;
         if !are_unique {
             // By a call: at an exit, the drop of a library is proved field by field.
             drop(library);
+            drop(notes);
             return Err(name_twice(alloc, text));
         }
         match fault {
-            None => Ok((library, ignored)),
+            None => Ok((library, notes)),
             Some(fault) => {
                 drop(library);
+                drop(notes);
                 Err(error_of(fault))
             }
         }

@@ -1,10 +1,7 @@
-//! Rows of the format: items, and the entries that they say or why they say none. An entry is shown
-//! as hayagriva's file format writes it in JSON.
+//! Libraries in CSL-JSON: the items of the example, an item on a line of its own, what refuses a
+//! text, and what is told of one. `tests/csl` tries what each type and member becomes.
 mod examples;
-mod fields;
-mod ignored;
 mod item_lines;
-mod kinds;
 mod refused;
 mod shown;
-mod values;
+mod told;

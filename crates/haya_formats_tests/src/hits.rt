@@ -1,5 +1,5 @@
 //! Rows: the hits of a selector in each form.
-use haya_command::{Form, hits_text, picks};
+use haya_command::{Form, LeftNotes, hits_text, picks};
 use haya_input::read_library;
 use hayagriva::{HashKeys, SelectorError};
 use std::process::Abort;
@@ -56,7 +56,8 @@ fn prints_each_form(rt: HostRuntime) {
     let library = read_library(alloc, HashKeys::new(0, 0), LIBRARY).expect(&rt, "lines");
     for (selector, invert, form, wanted) in ROWS {
         let hits = picks(alloc, &library, selector, *invert).expect(&rt, "a selector");
-        let text = hits_text(alloc, hits.as_slice(), *form).expect(&rt, "said");
+        let mut left = LeftNotes::new(alloc);
+        let text = hits_text(alloc, hits.as_slice(), *form, true, &mut left).expect(&rt, "said");
         assert_eq!(rt; text.as_str(), *wanted);
     }
 }

@@ -1,10 +1,10 @@
 //! Rows: lines that are read and printed again, and entries that no lines say.
 use haya_entry::{Entry, EntryType};
 use haya_input::read_library;
-use haya_printing::entry_lines;
+use haya_printing::{PrintableLines, entry_lines, printable_lines};
 use haya_text::{ChunkedString, FormatString, ReadText};
 use haya_time::Date;
-use haya_values::QualifiedUrl;
+use haya_values::{Publisher, QualifiedUrl};
 use hayagriva::HashKeys;
 use std::process::Abort;
 
@@ -18,6 +18,10 @@ const LINES: &[(&str, &str)] = &[
     (
         "0\tx\tmisc\tauthor=Doe, Jane\tauthor=van der Berg, Jr., Jan\teditor=ACM\taffiliated=translator:Kwan, Kevin\n",
         "",
+    ),
+    (
+        "0\tx\tmisc\tissue=1&2x\tpage-range=1\\-4\n",
+        "0\tx\tmisc\tissue=1& 2x\tpage-range=1\\-4\n",
     ),
     (
         "0\tx\tmisc\tdate=~2014-07\tpublisher=P {Q}\turl=http://a=b\tissue=3\tvolume=a\tvolume-total=12\tpage-range=12-15, 20\truntime=01:30:00\tserial-number=n\tlanguage=en\n",
@@ -69,20 +73,20 @@ fn shortened<R: Abort + AllocGlobal>(rt: &R) -> FormatString {
 fn names_the_value_that_no_line_says(rt: HostRuntime) {
     let mut short = new_entry(&rt, "k");
     short.set_title(shortened(&rt));
-    refuses(&rt, short, "no line says the title of `k`");
+    refuses(&rt, short, "`k` can't be printed in lines: title");
     let mut visited = new_entry(&rt, "k");
     let address = text(&rt, "http://a");
     visited.set_url(QualifiedUrl::new(address, Some(Date::from_year(2014))));
     visited.set_language(text(&rt, "en"));
-    refuses(&rt, visited, "no line says the url of `k`");
+    refuses(&rt, visited, "`k` can't be printed in lines: url");
     let mut keyed = new_entry(&rt, "k");
     keyed
         .set_keyed_serial_number("eric", text(&rt, "1"))
         .expect(&rt, "room");
-    refuses(&rt, keyed, "no line says the serial-number of `k`");
+    refuses(&rt, keyed, "`k` can't be printed in lines: serial-number");
     let mut unwritten = new_entry(&rt, "k");
     unwritten.set_authors(Vec::new(rt.alloc()));
-    refuses(&rt, unwritten, "no line says the author of `k`");
+    refuses(&rt, unwritten, "`k` can't be printed in lines: author");
 }
 
 #[test]
@@ -90,12 +94,53 @@ fn names_the_entry_that_no_line_says(rt: HostRuntime) {
     refuses(
         &rt,
         new_entry(&rt, "a\nb"),
-        "no line says the key of `a\nb`",
+        "`a\nb` can't be printed in lines: key",
     );
     let mut parent = new_entry(&rt, "p");
     parent.set_language(text(&rt, "a\tb"));
     let mut below = new_entry(&rt, "k");
     below.add_parent(parent).expect(&rt, "room");
     below.add_parent(new_entry(&rt, "a\nb")).expect(&rt, "room");
-    refuses(&rt, below, "no line says the language of `p`");
+    refuses(&rt, below, "`p` can't be printed in lines: language");
+}
+
+// Checks what is printed of an entry, and what is told of it: a line each, of a key and a part.
+fn prints<R: Abort + AllocGlobal>(rt: &R, entry: Entry, wanted: &str, told: &[&str]) {
+    let alloc = rt.alloc();
+    let PrintableLines { text, left_out } = printable_lines(alloc, &entry).expect(rt, "room");
+    drop(entry);
+    assert_eq!(rt; text.as_str(), wanted);
+    assert_eq!(rt; left_out.len(), told.len());
+    for (left, wanted) in left_out.iter().zip(told) {
+        let shown = format!(in alloc; "{}: {}", left.key, left.part).expect(rt, "room");
+        assert_eq!(rt; shown.as_str(), *wanted);
+    }
+}
+
+#[test]
+fn prints_all_but_what_no_line_says(rt: HostRuntime) {
+    prints(&rt, new_entry(&rt, "k"), "0\tk\tbook\n", &[]);
+    let mut short = new_entry(&rt, "k");
+    short.set_title(shortened(&rt));
+    let name = FormatString::from_str(rt.alloc(), "P").expect(&rt, "a text");
+    let place = FormatString::from_str(rt.alloc(), "L").expect(&rt, "a text");
+    short.set_publisher(Publisher::new(Some(name), Some(place)));
+    let mut parent = new_entry(&rt, "p");
+    parent.set_language(text(&rt, "a\tb"));
+    parent.set_doi(text(&rt, "10.1/x")).expect(&rt, "room");
+    short.add_parent(parent).expect(&rt, "room");
+    short.add_parent(new_entry(&rt, "a\nb")).expect(&rt, "room");
+    short.add_parent(new_entry(&rt, "q")).expect(&rt, "room");
+    prints(
+        &rt,
+        short,
+        "0\tk\tbook\ttitle=A\tpublisher=P\n1\tp\tbook\tdoi=10.1/x\n1\tq\tbook\n",
+        &[
+            "k: title's short form",
+            "k: publisher's location",
+            "p: language",
+            "a\nb: key",
+        ],
+    );
+    prints(&rt, new_entry(&rt, "a\tb"), "", &["a\tb: key"]);
 }

@@ -1,5 +1,6 @@
 //! Rows: whole runs of the command.
 use haya_command::{Form, Format, Input, Options, run};
+use haya_csl::ItemKey;
 use hayagriva::HashKeys;
 use std::io;
 use std::io::Write;
@@ -17,21 +18,32 @@ const JSON: (&str, &str) = (
     "{\"k\":{\"type\":\"book\",\"colour\":1,\"size\":2,\"parent\":{\"colour\":null,\"size\":3}}}",
 );
 
-const CSL: (&str, &str) = ("d.json", " [{\"id\":\"m\",\"type\":\"book\",\"x\":1}]");
+const CSL: (&str, &str) = (
+    "d.json",
+    " [{\"id\":\"m\",\"citation-key\":\"n\",\"type\":\"tale\",\"x\":1}]",
+);
 
 const BAD: (&str, &str) = ("e.json", "{\"k\":{\"type\":\"book\",\"date\":\"soon\"}}");
 
 const NOTE: &str = "haya: c.json: passed over: colour (1), size (2)\n";
 
-const CSL_NOTE: &str = "haya: d.json: passed over: x (1)\n";
+const CSL_NOTE: &str = "haya: d.json: passed over: x (1)\n\
+    haya: d.json: `n`: type: unknown type: \"tale\"\n";
 
-// A selector; the first letters of what else is asked, as `c` for count, where `l` is for lines and
-// `f` for input in lines; inputs; and the status, what is printed, and what is said.
+const ID_NOTE: &str = "haya: d.json: passed over: citation-key (1), x (1)\n\
+    haya: d.json: `m`: type: unknown type: \"tale\"\n";
+
+const AGAIN: &str = "haya: b.tsv: `x` comes again\n";
+
+// A selector; the first letters of what else is asked, as `c` for count, where `l` is for lines,
+// `f` for input in lines, and `k` for the `id` as key; inputs; and the status, what is printed, and
+// what is said.
 const ROWS: &[(&str, &str, &[(&str, &str)], u8, &str, &str)] = &[
     ("*", "", &[LINES], 0, "x\ny\n", ""),
     ("a:article > p:*", "", &[LINES], 0, "x\ta=x\tp=j\n", ""),
-    ("*", "", &[LINES, MORE], 0, "x\ny\nz\n", ""),
-    ("video", "", &[LINES, MORE], 0, "x\n", ""),
+    ("*", "", &[LINES, MORE], 0, "x\ny\nz\n", AGAIN),
+    ("video", "", &[LINES, MORE], 0, "x\n", AGAIN),
+    ("*", "s", &[LINES, MORE], 2, "", AGAIN),
     ("video", "", &[LINES], 1, "", ""),
     ("*", "", &[], 1, "", ""),
     ("*", "c", &[LINES], 0, "2\n", ""),
@@ -42,10 +54,12 @@ const ROWS: &[(&str, &str, &[(&str, &str)], u8, &str, &str)] = &[
     ("video", "qc", &[JSON], 1, "", ""),
     ("(", "q", &[JSON], 2, "", ""),
     ("*", "", &[JSON], 0, "k\n", NOTE),
-    ("*", "", &[CSL], 0, "m\n", CSL_NOTE),
+    ("*", "", &[CSL], 0, "n\n", CSL_NOTE),
+    ("*", "k", &[CSL], 0, "m\n", ID_NOTE),
     ("*", "s", &[LINES], 0, "x\ny\n", ""),
     ("*", "s", &[LINES, JSON], 2, "", JSON_FAULT),
     ("*", "s", &[CSL], 2, "", CSL_FAULT),
+    ("*", "sk", &[CSL], 2, "", ID_FAULT),
     ("*", "f", &[JSON], 2, "", "haya: c.json: line 1: shape\n"),
     ("*", "", &[LINES, BAD], 2, "", BAD_FAULT),
     (
@@ -63,9 +77,11 @@ const ROWS: &[(&str, &str, &[(&str, &str)], u8, &str, &str)] = &[
 
 const JSON_FAULT: &str = "haya: c.json: unknown members: colour (1), size (2)\n";
 
-const CSL_FAULT: &str = "haya: d.json: unknown members: x (1)\n";
+const CSL_FAULT: &str = "haya: d.json: `n`: type: unknown type: \"tale\"\n";
 
-const BAD_FAULT: &str = "haya: e.json: /k/date: not read as a date\n";
+const ID_FAULT: &str = "haya: d.json: `m`: citation-key: passed over: citation-key\n";
+
+const BAD_FAULT: &str = "haya: e.json: /k/date: no date\n";
 
 const TYPE_FAULT: &str = "haya: book > Artcle\n             \
     ^^^^^^ unknown entry type: `artcle`; did you mean `article`?\n";
@@ -80,6 +96,11 @@ fn options(rt: &(impl Abort + AllocGlobal), selector: &str, letters: &str) -> Op
     Options {
         selector: String::from_str(rt.alloc(), selector).expect(rt, "memory"),
         from: letters.contains('f').then_some(Format::Lines),
+        key: if letters.contains('k') {
+            ItemKey::Id
+        } else {
+            ItemKey::CitationKey
+        },
         to: if letters.contains('l') {
             Form::Lines
         } else {
@@ -89,6 +110,7 @@ fn options(rt: &(impl Abort + AllocGlobal), selector: &str, letters: &str) -> Op
         quiet: letters.contains('q'),
         invert: letters.contains('i'),
         strict: letters.contains('s'),
+        notes: true,
         files: Vec::new(rt.alloc()),
     }
 }

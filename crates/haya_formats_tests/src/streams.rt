@@ -2,6 +2,7 @@
 use haya_command::{
     Asker, Fault, Form, Format, Options, ask_csl_json, ask_hayagriva, ask_json_lines, ask_lines,
 };
+use haya_csl::ItemKey;
 use hayagriva::HashKeys;
 use std::io;
 use std::io::Read;
@@ -49,12 +50,12 @@ const ROWS: &[(Format, &[u8], &str)] = &[
         "",
     ),
     (
-        Format::CslJson,
+        Format::CslJson(ItemKey::CitationKey),
         b"[{\"id\":\"a\",\"type\":\"book\"},{\"id\":\"b\",\"type\":\"book\"}",
         "a\n",
     ),
     (
-        Format::CslJson,
+        Format::CslJson(ItemKey::CitationKey),
         b"[{\"id\":\"a\",\"type\":\"book\"},{\"id\":\"b\",\"type\":\"book\"},",
         "a\nb\n",
     ),
@@ -78,11 +79,13 @@ fn options(rt: &(impl Abort + AllocGlobal)) -> Options {
     Options {
         selector: String::from_str(rt.alloc(), "*").expect(rt, "memory"),
         from: None,
+        key: ItemKey::CitationKey,
         to: Form::Keys,
         count: false,
         quiet: false,
         invert: false,
         strict: false,
+        notes: true,
         files: Vec::new(rt.alloc()),
     }
 }
@@ -115,7 +118,9 @@ fn are_printed(
     let asked = match format {
         Format::Lines => ask_lines(asker, "a file", &mut input, &mut out),
         Format::JsonLines => ask_json_lines(asker, "a file", &mut notes, &mut input, &mut out),
-        Format::CslJson => ask_csl_json(asker, "a file", &mut notes, &mut input, &mut out),
+        Format::CslJson(key) => {
+            ask_csl_json(asker, key, "a file", &mut notes, &mut input, &mut out)
+        }
         Format::Hayagriva => ask_hayagriva(asker, "a file", &mut notes, &mut input, &mut out),
     };
     is_cut_off(asked) && out.as_slice() == keys.as_bytes()

@@ -1,3 +1,4 @@
 mod Collected
 pub mod Lines
 mod Rows
+mod ShownKeys

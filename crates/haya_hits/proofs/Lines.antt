@@ -20,7 +20,7 @@ line_at s x hit line h l = record {
   names = l.names;
   all = λ name. l.all name ∙ mapped_twice key_of (λ e. view e.now) _ ∙ ap (option_map key_of) (h.bindings.entries name);
   order = l.order;
-  text = l.text ∙ ap (λ t. key_of t ++ flat_map binding_text l.names ++ 10 ∷ []) h.entry;
+  text = l.text ∙ ap (λ t. key_of t ++ flat_map (binding_text (λ text. text)) l.names ++ 10 ∷ []) h.entry;
 }
 
 zip_more : {A B : Type 0} (R : A → B → Type 0) (xs : List A) (ys : List B) (x : A) (y : B) → AllZip R xs ys → R x y → AllZip R (xs ++ x ∷ []) (ys ++ y ∷ [])

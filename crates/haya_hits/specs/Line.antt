@@ -16,31 +16,41 @@ use Rattle.hayagriva.specs.Tree.{Tree, view}
 use Rattle.hayagriva.specs.declared.Entry.{Entry}
 use Rattle.hayagriva.specs.declared.query.Hit.{Hit}
 use Rattle.haya_lines.specs.Signs.{tab, equals_sign, line_feed}
+use Rattle.haya_hits.specs.Shown.{shown_key}
 
--- a tab, a name, `=` and a key
-abbrev pub binding_text : List ℕ × List ℕ → List ℕ
-binding_text p = tab ∷ p.0 ++ equals_sign ∷ p.1
+-- a tab, a name, `=` and a key, as texts are shown
+abbrev pub binding_text : (List ℕ → List ℕ) → List ℕ × List ℕ → List ℕ
+binding_text show p = tab ∷ show p.0 ++ equals_sign ∷ show p.1
 
--- a key, then each name that stands for a key, in byte order, and a line feed
-pub record IsLine (key : List ℕ) (stands_for : List ℕ → Option (List ℕ)) (line : List ℕ)
-    : Type 0 where
+-- A key, then each name that stands for a key, in byte order, and a line feed. A name and a key
+-- are printed as `show` says.
+pub record IsLine (show : List ℕ → List ℕ) (key : List ℕ)
+    (stands_for : List ℕ → Option (List ℕ)) (line : List ℕ) : Type 0 where
   pub names : List (List ℕ × List ℕ)
   pub all : (name : List ℕ) → lookup (bytes_eq name) names ≡ stands_for name
   pub order : IsStrictlySortedBy (slice_cmp nat_cmp) (keys_of names)
-  pub text : line ≡ key ++ flat_map binding_text names ++ line_feed ∷ []
+  pub text : line ≡ show key ++ flat_map (binding_text show) names ++ line_feed ∷ []
 
 -- the key of the entry that a hit binds to a name, if it binds one
 abbrev pub bound_key : Hit → List ℕ → Option (List ℕ)
 bound_key hit name = option_map (λ e. key_of (view e.now)) (get_by_text hit.bindings name)
 
--- the line of a hit
+-- the line of a hit, as texts are shown
+abbrev pub IsLineAs : (List ℕ → List ℕ) → Hit → List ℕ → Type 0
+IsLineAs show hit = IsLine show (key_of (view hit.entry.now)) (bound_key hit)
+
+-- the line of a hit, with the texts as they are
 abbrev pub IsLineOf : Hit → List ℕ → Type 0
-IsLineOf hit = IsLine (key_of (view hit.entry.now)) (bound_key hit)
+IsLineOf = IsLineAs (λ text. text)
+
+-- the line of a hit, in which no text has a sign of the line
+abbrev pub IsEscapedLineOf : Hit → List ℕ → Type 0
+IsEscapedLineOf = IsLineAs shown_key
 
 -- the line of an entry where a selector holds: its key, and the keys of the entries that its names
 -- are bound to
 abbrev pub IsLineAt : Syntax → Tree → List ℕ → Type 0
-IsLineAt s x = IsLine (key_of x) (λ name. option_map key_of (bound_to s x name))
+IsLineAt s x = IsLine (λ text. text) (key_of x) (λ name. option_map key_of (bound_to s x name))
 
 -- a line for each, in order
 pub record AreLines {A : Type 0} (IsLineFor : A → List ℕ → Type 0) (xs : List A) (printed : List ℕ)

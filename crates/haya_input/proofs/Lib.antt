@@ -4,3 +4,4 @@ mod Progress
 mod InputRows
 pub mod OneLibrary
 pub mod Parts
+mod Again

@@ -19,7 +19,7 @@ pub record Progress (all : List (List ℕ)) (count : ℕ) (library chain : List 
   pub taken : Taken (take count all) given chain
   pub of_given : library ≡ from_entries given
 
-pub Progress-start : (all : List (List ℕ)) (library chain : List Tree) → library ≡ [] → chain ≡ [] → Progress all 0 library chain
+abbrev pub Progress-start : (all : List (List ℕ)) (library chain : List Tree) → library ≡ [] → chain ≡ [] → Progress all 0 library chain
 Progress-start all library chain no_library no_chain = record {
   given = [];
   taken = rw no_chain Taken-start;
@@ -27,12 +27,12 @@ Progress-start all library chain no_library no_chain = record {
 }
 
 -- a library after one more entry, or none
-pushed_on : (given library next closed : List Tree) → library ≡ from_entries given → next ≡ fold (λ done t. push t done) library closed → next ≡ from_entries (given ++ closed)
+pub pushed_on : (given library next closed : List Tree) → library ≡ from_entries given → next ≡ fold (λ done t. push t done) library closed → next ≡ from_entries (given ++ closed)
 pushed_on given library next closed of_given put =
     put ∙ ap (λ l. fold (λ done t. push t done) l closed) of_given ∙ sym (fold-append (λ done t. push t done) [] given closed)
 
 module _ (all : List (List ℕ)) (count : ℕ) (library chain : List Tree) (so_far : Progress all count library chain) where
-  pub Progress-line : (line : List ℕ) → count < length all → line ≡ get_or all count line → (now : Opened) → TakesLine line chain now
+  abbrev pub Progress-line : (line : List ℕ) → count < length all → line ≡ get_or all count line → (now : Opened) → TakesLine line chain now
       → (next : List Tree) → next ≡ fold (λ done t. push t done) library (option_to_list now.closed) → (left : List Tree) → left ≡ now.chain → Progress all (count + 1) next left
   Progress-line line within is now takes next put left same =
       let front : take (count + 1) all ≡ take count all ++ line ∷ [] = take_more all count line within ∙ ap (λ l. take count all ++ l ∷ []) (sym is) in
@@ -50,7 +50,7 @@ module _ (all : List (List ℕ)) (count : ℕ) (library chain : List Tree) (so_f
       (Taken-fault (take count all) so_far.given chain so_far.taken line (drop (count + 1) all) e (subst (λ n. FaultInLine (n + 1) (length chain) line e) (sym so_many) fault))
 
 -- all rows are those of the library's entries
-pub Progress-end : (text : List ℕ) (count : ℕ) (library chain last : List Tree) → Progress (lines text) count library chain → length (lines text) ≡ count
+abbrev pub Progress-end : (text : List ℕ) (count : ℕ) (library chain last : List Tree) → Progress (lines text) count library chain → length (lines text) ≡ count
     → (now : Opened) → LastOf chain now → last ≡ fold (λ done t. push t done) library (option_to_list now.closed) → Describes text last
 Progress-end text count library chain last so_far whole now ends put =
     let all : take count (lines text) ≡ lines text = take_all count (lines text) (omega (arith, whole)) in

@@ -3,3 +3,4 @@ pub mod Chain
 pub mod Input
 pub mod Parts
 pub mod TextReading
+pub mod Repeats

@@ -5,7 +5,9 @@ mod fault;
 pub mod laws;
 mod library_text;
 mod open_entries;
+mod repeat;
 
 pub use fault::InputFault;
-pub use library_text::read_library;
+pub use library_text::{read_library, read_library_with_repeats};
 pub use open_entries::OpenEntries;
+pub use repeat::Repeat;

@@ -7,6 +7,7 @@ ghost use Rattle.hayagriva.specs.Tree.{fields, new_entry, view};
 ghost use Rattle.haya_input.specs.declared.fault.InputFault.TheVariants.{OutOfMemory};
 ghost use Rattle.haya_input.specs.Chain.{LastOf, OpensEntry, Stands, TakesLine};
 ghost use Rattle.haya_input.specs.Chain.{chain_rows, chain_view, left_rows};
+ghost use Rattle.haya_input.specs.Repeats.{begun_of};
 ghost use Rattle.haya_input.specs.TextReading.{FaultInLine};
 ghost use Rattle.haya_lines.specs.Line.{fields_read};
 ghost use Rattle.haya_lines.specs.LineReading.{IsFaultOf};
@@ -107,6 +108,16 @@ impl OpenEntries {
         ensures { entry_value result ≡ self.now.closed }
     {
         self.closed.first()
+    }
+
+    /// The entry that the last line began, where its depth is 0 and it isn't empty.
+    pub(crate) fn begun(&self) -> Option<&Entry>
+        ensures { entry_value result ≡ begun_of self.now.chain }
+    {
+        match self.chain.as_slice() {
+            [entry] => Some(entry),
+            _ => None,
+        }
     }
 
     /// Takes this entry, so that it isn't closed any more.

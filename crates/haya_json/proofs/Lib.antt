@@ -1,5 +1,6 @@
 mod Lists
 pub mod Tallies
+pub mod NotesKept
 pub mod ParseErrors
 mod Wholes
 mod Serials

@@ -7,6 +7,7 @@ pub mod Entries
 pub mod Libraries
 pub mod Tally
 pub mod Ignored
+pub mod Notes
 pub mod Position
 pub mod Messages
 pub mod Printed

@@ -42,10 +42,10 @@ why_text SameId = codes "the same id twice"
 why_text UnknownType = codes "unknown type"
 why_text UnknownRole = codes "unknown role"
 why_text NotChunks = codes "a brace closes no group"
-why_text NotPerson = codes "not read as a person"
-why_text NotDate = codes "not read as a date"
-why_text NotNumber = codes "not read as a number"
-why_text NotDuration = codes "not read as a duration"
+why_text NotPerson = codes "no person"
+why_text NotDate = codes "no date"
+why_text NotNumber = codes "no number"
+why_text NotDuration = codes "no duration"
 
 abbrev pub position_text : Position → List ℕ
 position_text p = codes "line " ++ (decimal p.line ++ (codes ", column " ++ decimal p.column))

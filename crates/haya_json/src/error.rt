@@ -28,7 +28,7 @@ impl fmt::Display for ReadError {
 
     /// What is wrong, behind its place: a position in the text, `line 3, column 7: no JSON`, or
     /// that of a refused value as a JSON Pointer (RFC 6901),
-    /// `/klein2009/parent/1/date: not read as a date`.
+    /// `/klein2009/parent/1/date: no date`.
     fn fmt<W: fmt::Write>(&self, f: &mut fmt::Formatter<W>) -> fmt::Result {
         match self {
             ReadError::NotJson(position) => write!(f, "{position}: no JSON"),
@@ -56,7 +56,7 @@ impl fmt::Display for LineError {
     ghost output = { λ e. Some (line_error_text e) };
 
     /// What is wrong, behind its place in the text: `line 3, column 7: no JSON`, or
-    /// `line 3: /entry/date: not read as a date`.
+    /// `line 3: /entry/date: no date`.
     fn fmt<W: fmt::Write>(&self, f: &mut fmt::Formatter<W>) -> fmt::Result {
         let line = self.line;
         match &self.error {
@@ -88,7 +88,7 @@ impl fmt::Display for ElementError {
     ghost output = { λ e. Some (element_error_text e) };
 
     /// What is wrong, behind its place in the text: `element 3, line 1, column 7: no JSON`, or
-    /// `/klein2009/date: not read as a date`.
+    /// `/klein2009/date: no date`.
     fn fmt<W: fmt::Write>(&self, f: &mut fmt::Formatter<W>) -> fmt::Result {
         match &self.error {
             ReadError::NotJson(_) | ReadError::NameTwice(_) => {
@@ -119,10 +119,10 @@ impl fmt::Display for Why {
             Why::UnknownType => f.write_str("unknown type"),
             Why::UnknownRole => f.write_str("unknown role"),
             Why::NotChunks => f.write_str("a brace closes no group"),
-            Why::NotPerson => f.write_str("not read as a person"),
-            Why::NotDate => f.write_str("not read as a date"),
-            Why::NotNumber => f.write_str("not read as a number"),
-            Why::NotDuration => f.write_str("not read as a duration"),
+            Why::NotPerson => f.write_str("no person"),
+            Why::NotDate => f.write_str("no date"),
+            Why::NotNumber => f.write_str("no number"),
+            Why::NotDuration => f.write_str("no duration"),
         }
     }
 }

@@ -1,3 +1,5 @@
 mod Alone
 mod EntryLines
 mod Joined
+mod Leaving
+mod Saying

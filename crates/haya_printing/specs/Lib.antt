@@ -1,2 +1,4 @@
 pub mod Printed
 pub mod Pushed
+pub mod Parts
+pub mod LeftOut

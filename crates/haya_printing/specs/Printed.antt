@@ -3,8 +3,8 @@ use Rattle.std.specs.Prelude.{ℕ, ◌+◌, List, [], ◌∷◌, ◌++◌, Optio
 use Rattle.std.specs.Fmt.{decimal}
 use Rattle.haya_text.specs.Printing.{to_serialized}
 use Rattle.haya_text.specs.Texts.{TextView}
-use Rattle.haya_numbers.specs.NumericPrinted.{shown_numeric}
-use Rattle.haya_numbers.specs.PagesPrinted.{shown_pages}
+use Rattle.haya_numbers.specs.NumericRoundTrip.{round_trip_text as number_text}
+use Rattle.haya_numbers.specs.PagesRoundTrip.{round_trip_text as pages_text}
 use Rattle.haya_people.specs.Person.{PersonView}
 use Rattle.haya_people.specs.PersonText.{person_text}
 use Rattle.haya_people.specs.Roles.{RoleView, RolesView, role_name}
@@ -45,10 +45,10 @@ also_each name print (Some vs) rest = each name print vs rest
 abbrev pub long_text : TextView → List ℕ
 long_text t = to_serialized t.value
 
--- a typed value as it is shown, or the text
+-- the text of a typed value, or the text that is kept
 abbrev pub typed_text : {V : Type 0} → (V → List ℕ) → TypedOrText V → List ℕ
-typed_text show (Typed v) = show v
-typed_text show (Text text) = text
+typed_text text_of (Typed v) = text_of v
+typed_text text_of (Text text) = text
 
 abbrev pub url_text : UrlView → List ℕ
 url_text u = u.value
@@ -100,13 +100,13 @@ people_items f rest =
 
 abbrev pub number_items : Fields → List ℕ → List ℕ
 number_items f rest =
-    also (codes "issue") (typed_text shown_numeric) f.issue
-    (also (codes "chapter") (typed_text shown_numeric) f.chapter
-    (also (codes "volume") (typed_text shown_numeric) f.volume
-    (also (codes "edition") (typed_text shown_numeric) f.edition
-    (also (codes "volume-total") shown_numeric f.volume_total
-    (also (codes "page-total") shown_numeric f.page_total
-    (also (codes "page-range") (typed_text shown_pages) f.page_range
+    also (codes "issue") (typed_text number_text) f.issue
+    (also (codes "chapter") (typed_text number_text) f.chapter
+    (also (codes "volume") (typed_text number_text) f.volume
+    (also (codes "edition") (typed_text number_text) f.edition
+    (also (codes "volume-total") number_text f.volume_total
+    (also (codes "page-total") number_text f.page_total
+    (also (codes "page-range") (typed_text pages_text) f.page_range
     (also (codes "time-range") (typed_text range_text) f.time_range
     (also (codes "runtime") (typed_text duration_text) f.runtime rest))))))))
 

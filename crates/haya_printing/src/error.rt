@@ -8,11 +8,11 @@ use thiserror::Error;
 /// Why an entry isn't printed as lines.
 #[derive(Debug, Drop, PartialEq, Eq, Error)]
 pub enum LinesError {
-    /// No lines say the entry: of it or of an ancestor, which has this key, the field with this
-    /// name has a value that no text in a line reads as. The name is `key` where it is the key that
-    /// no line has, and `parent` where ancestors are deeper than lines go.
-    #[error("no line says the {1} of `{0}`")]
-    Unsaid(String, &'static str),
+    /// The entry can't be printed in lines: of it or of an ancestor, which has this key, the field
+    /// with this name has a value that no text in a line reads as. The name is `key` where it is
+    /// the key that no line has, and `parent` where ancestors are deeper than lines go.
+    #[error("`{0}` can't be printed in lines: {1}")]
+    NotPrintable(String, &'static str),
     /// An allocation failed, which says nothing of the entry.
     #[error("out of memory")]
     OutOfMemory,

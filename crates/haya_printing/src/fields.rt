@@ -45,8 +45,8 @@ pub(crate) fn push_people(
     Ok(())
 }
 
-// The name of the publisher.
-fn publisher_name(entry: &Entry) -> Option<&FormatString>
+/// The name of the publisher.
+pub(crate) fn publisher_name(entry: &Entry) -> Option<&FormatString>
     ensures { option_map (λ t. text_view t.now) result
         ≡ publisher_name (fields (view entry.now)).publisher }
 {

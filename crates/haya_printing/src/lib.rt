@@ -5,9 +5,14 @@ mod error;
 mod fields;
 mod items;
 pub mod laws;
+mod left_out;
 mod lines;
+mod parts;
+mod printable;
 mod texts;
 mod unsaid;
 
 pub use error::LinesError;
+pub use left_out::{LeftOut, Part};
 pub use lines::entry_lines;
+pub use printable::{PrintableLines, printable_lines};

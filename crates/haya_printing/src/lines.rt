@@ -18,7 +18,7 @@ use hayagriva::{HashKeys, Library};
 use std::alloc::Global;
 
 /// The lines of an entry and of its ancestors, as `haya_input::read_library` reads them: a line
-/// feed ends each. Fails with `Unsaid` where no library of this one entry is read from them.
+/// feed ends each. Fails with `NotPrintable` where no library of this one entry is read from them.
 pub fn entry_lines(alloc: Global, entry: &Entry) -> Result<String, LinesError>
     ensures text { IfOk result (λ text. string_bytes text ≡ entry_text (view entry.now)) }
     ensures said { IfOk result (λ text. Describes (string_bytes text) (view entry.now ∷ [])) }

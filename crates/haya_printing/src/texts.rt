@@ -156,34 +156,38 @@ impl ToItem for QualifiedUrl {
 
 impl ToItem for Numeric {
     ghost use Rattle.haya_numbers.specs.Numeric.{NumericView, numeric_view};
-    ghost use Rattle.haya_numbers.specs.NumericPrinted.{shown_numeric};
+    ghost use Rattle.haya_numbers.specs.NumericRoundTrip.{round_trip_text};
 
     ghost View = { NumericView };
 
     ghost view = { numeric_view };
 
-    ghost text = { shown_numeric };
+    ghost text = { round_trip_text };
 
-    /// The print of the number.
-    fn push_text(&self, _alloc: Global, line: &mut String) -> Result<(), OutOfMemory> {
-        Ok(write!(line, "{self}")?)
+    /// A text that reads as the number.
+    fn push_text(&self, alloc: Global, line: &mut String) -> Result<(), OutOfMemory> {
+        let text = self.round_trip_text(alloc)?;
+        line.push_str(text.as_str())?;
+        Ok(())
     }
 }
 
 impl ToItem for PageRanges {
     ghost use Rattle.std.specs.Prelude.{List};
     ghost use Rattle.haya_numbers.specs.Pages.{PartView, parts};
-    ghost use Rattle.haya_numbers.specs.PagesPrinted.{shown_pages};
+    ghost use Rattle.haya_numbers.specs.PagesRoundTrip.{round_trip_text};
 
     ghost View = { List PartView };
 
     ghost view = { parts };
 
-    ghost text = { shown_pages };
+    ghost text = { round_trip_text };
 
-    /// The print of the pages.
-    fn push_text(&self, _alloc: Global, line: &mut String) -> Result<(), OutOfMemory> {
-        Ok(write!(line, "{self}")?)
+    /// A text that reads as the pages.
+    fn push_text(&self, alloc: Global, line: &mut String) -> Result<(), OutOfMemory> {
+        let text = self.round_trip_text(alloc)?;
+        line.push_str(text.as_str())?;
+        Ok(())
     }
 }
 

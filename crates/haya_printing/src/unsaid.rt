@@ -41,14 +41,14 @@ const NAMES: &[&str] = &[
 pub(crate) fn unsaid(alloc: Global, entry: &Entry) -> Result<LinesError, OutOfMemory> {
     match first_unsaid(alloc, entry)? {
         Some(found) => Ok(found),
-        None => Ok(LinesError::Unsaid(String::from_str(alloc, entry.key())?, "parent")),
+        None => Ok(LinesError::NotPrintable(String::from_str(alloc, entry.key())?, "parent")),
     }
 }
 
 fn first_unsaid(alloc: Global, entry: &Entry) -> Result<Option<LinesError>, OutOfMemory> {
     if let Some(name) = unsaid_name(alloc, entry)? {
         let key = String::from_str(alloc, entry.key())?;
-        return Ok(Some(LinesError::Unsaid(key, name)));
+        return Ok(Some(LinesError::NotPrintable(key, name)));
     }
     for parent in &entry.parents {
         if let Some(found) = first_unsaid(alloc, parent)? {

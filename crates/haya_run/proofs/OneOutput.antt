@@ -63,7 +63,7 @@ names-same es fs h k same =
 IsLineAt-same : (s : Syntax) (x : Tree) (l m : List ℕ) → IsLineAt s x l → IsLineAt s x m → l ≡ m
 IsLineAt-same s x l m h k =
     let same = names-same h.names k.names h.order k.order (λ name. h.all name ∙ sym (k.all name)) in
-    h.text ∙ ap (λ names. key_of x ++ flat_map binding_text names ++ line_feed ∷ []) same ∙ sym k.text
+    h.text ∙ ap (λ names. key_of x ++ flat_map (binding_text (λ text. text)) names ++ line_feed ∷ []) same ∙ sym k.text
 
 all_same : {A B : Type 0} (R : A → B → Type 0) → ((x : A) (y z : B) → R x y → R x z → y ≡ z) → (xs : List A) (ys zs : List B) → AllZip R xs ys → AllZip R xs zs → ys ≡ zs
 all_same R one [] [] [] h k = refl

@@ -1,10 +1,9 @@
 -- The steps of `cut`.
-use Rattle.std.proofs.Common.{◌≡◌, ◌<◌, ◌∷◌, ◌++◌, [], List, ℕ, zero, suc, Option, Some, None, Bool, true, false, true≢false, cond, slice_get, All, sym, refl, ap, ◌∙◌, arith, append-nil, append_assoc, inl, inr, ⊎_elim, ◌⊎◌}
+use Rattle.std.proofs.Common.{◌≡◌, ◌<◌, ◌∷◌, ◌++◌, [], List, ℕ, zero, suc, Option, Some, None, Bool, true, false, cond, slice_get, sym, refl, ap, ◌∙◌, arith, append-nil, append_assoc, inl, inr, ⊎_elim, ◌⊎◌}
 use Rattle.std.specs.Char.{is_whitespace}
 use Rattle.std.specs.List.{list_all}
 use Rattle.std.specs.Option.{IfSome, MatchOption}
 use Rattle.std.specs.Str.{IsUtf8, IsAscii, chars, skip_leading_whitespace}
-use Rattle.std.proofs.lemmas.List.Sums.{list_all-from_AllPass}
 use Rattle.std.proofs.lemmas.Str.{encodes-chars, encodes-IsAscii}
 use Rattle.haya_text.specs.Cursor.{Left, IsPast}
 use Rattle.std.proofs.lemmas.Bool.Decides.{nat_tests}
@@ -91,45 +90,16 @@ all_ascii (c ∷ w) h zero = in_word-ascii c (and-both (in_word c) (list_all in_
 all_ascii (c ∷ w) h (suc i) = all_ascii w (and-both (in_word c) (list_all in_word w) h).1 i
 
 -- the characters of an identifier are its bytes
-chars-word : (w : List ℕ) → IsUtf8 w → list_all in_word (chars w) ≡ true → chars w ≡ w
+pub chars-word : (w : List ℕ) → IsUtf8 w → list_all in_word (chars w) ≡ true → chars w ≡ w
 chars-word w u h = sym (encodes-IsAscii (chars w) (all_ascii (chars w) h)) ∙ encodes-chars w u
 
-first_of : (cs : List ℕ) (c : ℕ) → Some c ≡ slice_get cs 0 → (ds : List ℕ) × (cs ≡ c ∷ ds)
+pub first_of : (cs : List ℕ) (c : ℕ) → Some c ≡ slice_get cs 0 → (ds : List ℕ) × (cs ≡ c ∷ ds)
 first_of [] c e = cc
 first_of (d ∷ ds) c e = (ds, let f : c ≡ d = cc in rw f refl)
 
-stops_at : (cs : List ℕ) → IfSome (slice_get cs 0) (λ c. false ≡ in_word c) → StopsWord cs
+pub stops_at : (cs : List ℕ) → IfSome (slice_get cs 0) (λ c. false ≡ in_word c) → StopsWord cs
 stops_at [] h = tt
 stops_at (c ∷ cs) h = sym h
-
--- a front of accepted characters that begins as an identifier, up to the first that isn't accepted
-word_front : (c : ℕ) (ds w rest : List ℕ) → c ∷ ds ≡ w ++ rest → starts_word c ≡ true → list_all in_word w ≡ true → StopsWord rest → cut None (w ++ rest) ≡ Word w ∷ cut None rest
-word_front c ds [] [] e s a h = cc
-word_front c ds [] (d ∷ rest) e s a h = let f : c ≡ d = cc in absurd (true≢false (sym (starts-in_word c s) ∙ ap in_word f ∙ h))
-word_front c ds (d ∷ v) rest e s a h =
-    let f : c ≡ d = cc in cut_start d (v ++ rest) (rw f at s) ∙ cut_word (d ∷ []) v rest (and-both (in_word d) (list_all in_word v) a).1 h
-
--- the first token, by what is behind the white space
-module _ (cs left : List ℕ) (skipped : left ≡ skip_leading_whitespace cs) where
-  same_cut : cut None cs ≡ cut None left
-  same_cut = sym (cut_skip cs) ∙ ap (cut None) (sym skipped)
-
-  pub no_next : None ≡ slice_get left 0 → (cut None cs ≡ []) × (cut None left ≡ [])
-  no_next e = let n = nothing left e in (same_cut ∙ n, n)
-    where
-      nothing : (ds : List ℕ) → None ≡ slice_get ds 0 → cut None ds ≡ []
-      nothing [] k = cut_nothing
-      nothing (d ∷ ds) k = cc
-
-  pub char_next : (c : ℕ) (rest : List ℕ) → left ≡ c ∷ rest → starts_word c ≡ false → cut None cs ≡ sign_or_invalid c (sign_of c) ∷ cut None rest
-  char_next c rest e s = same_cut ∙ ap (cut None) e ∙ cut_sign c rest (skip_first cs c rest (sym skipped ∙ e)) s
-
-  pub word_next : (c : ℕ) (w rest : List ℕ) → Some c ≡ slice_get left 0 → starts_word c ≡ true → left ≡ chars w ++ rest → IsUtf8 w → All (λ d. true ≡ in_word d) (chars w)
-      → IfSome (slice_get rest 0) (λ d. false ≡ in_word d) → cut None cs ≡ Word w ∷ cut None rest
-  word_next c w rest e s f u a h =
-      let first = first_of left c e in
-      let all = list_all-from_AllPass in_word (chars w) (λ k d h. sym (a k d h)) in
-      same_cut ∙ ap (cut None) f ∙ word_front c first.0 (chars w) rest (sym first.1 ∙ f) s all (stops_at rest h) ∙ ap (λ v. Word v ∷ cut None rest) (chars-word w u all)
 
 -- what `eat` takes is what `peek` saw
 pub eaten : (c : ℕ) (old new : Left) (r : Option ℕ) → Some c ≡ slice_get old.rest 0 → MatchOption r ((old.rest ≡ []) × (new ≡ old)) (λ d. IsPast d old new) → old.rest ≡ c ∷ new.rest

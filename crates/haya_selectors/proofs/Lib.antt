@@ -13,6 +13,9 @@ mod Simples
 mod Chains
 pub mod Cuts
 pub mod OneCut
+mod Taken
+mod Fronts
+mod Ends
 pub mod Parsing
 pub mod Bounds
 mod Walks

@@ -11,13 +11,13 @@ use Rattle.haya_selectors.specs.Cut.{cut, all_signs, sign_of, sign_or_invalid}
 use Rattle.haya_selectors.specs.ReadingLaws.{OneCut}
 use Rattle.haya_selectors.proofs.Cuts.{at_true, at_false, tested, cut_nothing, cut_space, cut_start, cut_sign, cut_on, cut_end, cut_word, StopsWord, in_word-no_start}
 
-found : (ss : List Sign) (c : ℕ) (s : Sign) → find (λ x. c == sign_char x) ss ≡ Some s → c ≡ sign_char s
+pub found : (ss : List Sign) (c : ℕ) (s : Sign) → find (λ x. c == sign_char x) ss ≡ Some s → c ≡ sign_char s
 found [] c s e = cc
 found (x ∷ ss) c s e =
     ⊎_elim (λ k. let p : Some x ≡ Some s = sym (at_true (Some x) (find (λ x. c == sign_char x) ss) k) ∙ e in let q : x ≡ s = cc in rw (← q) (grind (arith, nat_tests)))
     (λ k. found ss c s (sym (at_false (Some x) (find (λ x. c == sign_char x) ss) k) ∙ e)) (tested (c == sign_char x))
 
-sign_of-sign_char : (s : Sign) → sign_of (sign_char s) ≡ Some s
+pub sign_of-sign_char : (s : Sign) → sign_of (sign_char s) ≡ Some s
 sign_of-sign_char LeftBracket = refl
 sign_of-sign_char _ = refl
 
@@ -61,7 +61,7 @@ skip_gap : (gap cs : List ℕ) → list_all is_whitespace gap ≡ true → cut N
 skip_gap [] cs h = refl
 skip_gap (c ∷ gap) cs h = let both = and-both (is_whitespace c) (list_all is_whitespace gap) h in cut_space c (gap ++ cs) both.0 ∙ skip_gap gap cs both.1
 
-sign-no_space : (s : Sign) → is_whitespace (sign_char s) ≡ false
+pub sign-no_space : (s : Sign) → is_whitespace (sign_char s) ≡ false
 sign-no_space LeftBracket = refl
 sign-no_space _ = refl
 

@@ -1,5 +1,5 @@
 -- What the characters of a text read as.
-use Rattle.std.specs.Prelude.{◌≡◌, ℕ, List, IfErr, IfOk, IfSome, IsErr, IsOk, Option, Some, None, Result, Ok, Err}
+use Rattle.std.specs.Prelude.{◌≡◌, ℕ, ◌<◌, List, [], ◌++◌, take, drop, length, IfErr, IfOk, IfSome, IsErr, IsOk, Option, Some, None, Result, Ok, Err}
 use Rattle.std.specs.Str.{IsCharBoundary, chars}
 use Rattle.haya_selectors.specs.declared.selector.Selector.{Selector}
 use Rattle.haya_selectors.specs.declared.selector.SelectorError.{SelectorError}
@@ -7,7 +7,7 @@ use Rattle.haya_selectors.specs.Descent.{selector_read}
 use Rattle.haya_selectors.specs.Fault.{Fault, fault}
 use Rattle.haya_selectors.specs.Grammar.{ExprForm, Reads, Fails}
 use Rattle.haya_selectors.specs.Syntax.{Syntax, syntax}
-use Rattle.haya_selectors.specs.Token.{Token, AreTokens}
+use Rattle.haya_selectors.specs.Token.{Token, AreTokens, EndsInNoSpace}
 
 -- the text reads as this selector: an expression at its front, whatever follows
 pub record TextReads (text : List ℕ) (s : Syntax) : Type 0 where
@@ -48,3 +48,30 @@ IsFaultTold text (Some place) = IsErr (selector_read text)
 -- and it is one of the text, where a character begins or the text ends
 abbrev pub IsFaultPlace : List ℕ → Option ℕ → Type 0
 IsFaultPlace text told = IsFaultTold (chars text) told × IfSome told (IsCharBoundary text)
+
+-- what a reader answers, without the place that it tells
+abbrev pub without_end : Result (Selector × ℕ) SelectorError → Result Selector SelectorError
+without_end (Ok p) = Ok p.0
+without_end (Err e) = Err e
+
+-- the tokens of a text before those that are left end at this byte: the last of them does
+pub record EndsBeforeLeft (left : List Token) (text : List ℕ) (end : ℕ) : Type 0 where
+  pub taken : List Token
+  pub whole : AreTokens (taken ++ left) (chars text)
+  pub boundary : IsCharBoundary text end
+  pub front : AreTokens taken (chars (take end text))
+  pub behind : AreTokens left (chars (drop end text))
+  pub tight : 0 < length taken → EndsInNoSpace (chars (take end text))
+
+-- The selector at the front of a text ends at this byte: with its last token. What is before reads
+-- as it alone, and what is behind has the tokens that are left.
+pub record EndsAt (text : List ℕ) (s : Syntax) (end : ℕ) : Type 0 where
+  pub tokens : List Token
+  pub left : List Token
+  pub whole : AreTokens (tokens ++ left) (chars text)
+  pub reads : Reads ExprForm (tokens ++ left) s left
+  pub boundary : IsCharBoundary text end
+  pub front : AreTokens tokens (chars (take end text))
+  pub alone : Reads ExprForm tokens s []
+  pub tight : EndsInNoSpace (chars (take end text))
+  pub behind : AreTokens left (chars (drop end text))

@@ -67,6 +67,21 @@ pub data AreTokens : List Token → List ℕ → Type 0 where
       list_all is_whitespace gap ≡ true → IsToken t → EndsBefore t rest → AreTokens ts rest
       → AreTokens (t ∷ ts) (gap ++ (spelling t ++ rest))
 
+-- the token stands first, behind white space, and leaves the characters after it
+pub record Takes (t : Token) (before after : List ℕ) : Type 0 where
+  pub gap : List ℕ
+  pub blank : list_all is_whitespace gap ≡ true
+  pub is : IsToken t
+  pub ends : EndsBefore t after
+  pub parts : before ≡ gap ++ (spelling t ++ after)
+
+-- the characters end, and not in white space
+pub record EndsInNoSpace (cs : List ℕ) : Type 0 where
+  pub front : List ℕ
+  pub last : ℕ
+  pub parts : cs ≡ front ++ last ∷ []
+  pub no_space : is_whitespace last ≡ false
+
 -- this sign doesn't stand first
 abbrev pub BeginsNot : Sign → List Token → Type 0
 BeginsNot s [] = Unit {0}

@@ -2,11 +2,12 @@
 ghost use Rattle.std.specs.Prelude.{◌≡◌, ℕ, IfOk, List};
 ghost use Rattle.std.specs.Str.{chars};
 ghost use Rattle.haya_selectors.specs.declared.selector.SelectorError.TheVariants as fault;
-ghost use Rattle.haya_selectors.specs.Reading.{IsFaultPlace, IsFaultTold, IsRead};
-ghost use Rattle.haya_selectors.specs.Reading.{TextGives};
+ghost use Rattle.haya_selectors.specs.Reading.{EndsAt, IsFaultPlace, IsFaultTold, IsRead};
+ghost use Rattle.haya_selectors.specs.Reading.{TextGives, without_end};
+ghost use Rattle.haya_selectors.specs.Syntax.{syntax};
 
 use crate::parse::expr;
-use crate::token::Tokens;
+use crate::token::{Tokens, end_before};
 use haya_entry::EntryType;
 use haya_text::OutOfMemory;
 use std::alloc::{AllocError, AllocFailed, Global};
@@ -69,6 +70,23 @@ impl Selector {
     {
         let mut tokens = Tokens::new(text);
         expr(alloc, &mut tokens)
+    }
+
+    /// The same selector, and the byte at which it ends, so that what follows it can be seen: the
+    /// end of its last part, before any white space.
+    ///
+    /// ```
+    /// Selector::parse_prefix(alloc, "article > book , web")? // article > book, which ends at 14
+    /// ```
+    pub fn parse_prefix(alloc: Global, text: &str) -> Result<(Selector, usize), SelectorError>
+        ensures grammar { TextGives (chars text.now) (without_end result) }
+        ensures computed { IsRead (chars text.now) (without_end result) }
+        ensures end { IfOk result (λ p. EndsAt text.now (syntax p.0) p.1) }
+    {
+        let mut tokens = Tokens::new(text);
+        let selector = expr(alloc, &mut tokens)?;
+        let end = end_before(text, &tokens);
+        Ok((selector, end))
     }
 
     /// The byte of a text at which it has its first fault, or `None` where it is a selector: where

@@ -1,10 +1,12 @@
 //! The tokens of a selector's text.
-ghost use Rattle.std.specs.Prelude.{◌≡◌, ◌∷◌, [], MatchOption, MatchBool};
+ghost use Rattle.std.specs.Prelude.{◌≡◌, ◌∷◌, ◌++◌, [], List, MatchOption, MatchBool};
 ghost use Rattle.std.specs.Str.{chars};
+ghost use Rattle.haya_text.specs.Cursor.{text_len};
 ghost use Rattle.haya_selectors.specs.Cut.{sign_of, token};
 ghost use Rattle.haya_selectors.specs.declared.token.Sign.TheVariants.{Colon};
+ghost use Rattle.haya_selectors.specs.Reading.{EndsBeforeLeft};
 ghost use Rattle.haya_selectors.specs.Token.{AreTokens, BeginsNot, BeginsNoName, BeginsNoWord};
-ghost use Rattle.haya_selectors.specs.Token.{SignToken, Word, in_word, starts_word};
+ghost use Rattle.haya_selectors.specs.Token.{SignToken, Takes, Token, Word, in_word, starts_word};
 
 use haya_text::cursor::Cursor;
 use std::marker::Model;
@@ -86,16 +88,7 @@ impl<'a> Tokens<'a> {
         ensures { MatchOption result ((self.old ≡ []) × (self.new ≡ []))
             (λ t. self.old ≡ token t ∷ self.new) }
     {
-        self.cursor.eat_whitespace();
-        let first = self.cursor.peek()?;
-        if starts_word(first) {
-            return Some(Lexeme::Word(self.cursor.eat_while(in_word)));
-        }
-        self.cursor.eat();
-        let Some(sign) = sign_of(first) else {
-            return Some(Lexeme::Invalid(first));
-        };
-        Some(Lexeme::Sign(sign))
+        next_lexeme(&mut self.cursor)
     }
 
     // Takes the next token if it is this sign.
@@ -139,6 +132,43 @@ impl<'a> Tokens<'a> {
         *self = ahead;
         Some(name)
     }
+}
+
+// The byte at which the tokens of a text end before those that are left.
+pub(crate) fn end_before(text: &str, left: &Tokens<'_>) -> usize
+    requires { (taken : List Token) × AreTokens (taken ++ left.now) (chars text.now) }
+    ensures { EndsBeforeLeft left.now text.now result }
+{
+    // Behind as many tokens as are left, so that it has as many as were taken.
+    let mut ahead = Tokens::new(text);
+    let mut counted = left.fork();
+    'counted: while counted.next().is_some() {
+        ahead.next();
+    }
+    let mut cursor = Cursor::new(text);
+    'taken: while ahead.next().is_some() {
+        next_lexeme(&mut cursor);
+    }
+    cursor.place()
+}
+
+// Takes the next token. `None` where only white space is left.
+fn next_lexeme<'a>(cursor: &mut Cursor<'a>) -> Option<Lexeme<'a>>
+    ensures taken { MatchOption result
+        (AreTokens [] cursor.old.rest × (cursor.new.rest ≡ []))
+        (λ t. Takes (token t) cursor.old.rest cursor.new.rest) }
+    ensures same_text { text_len cursor.new ≡ text_len cursor.old }
+{
+    cursor.eat_whitespace();
+    let first = cursor.peek()?;
+    if starts_word(first) {
+        return Some(Lexeme::Word(cursor.eat_while(in_word)));
+    }
+    cursor.eat();
+    let Some(sign) = sign_of(first) else {
+        return Some(Lexeme::Invalid(first));
+    };
+    Some(Lexeme::Sign(sign))
 }
 
 // Whether an identifier may begin so.

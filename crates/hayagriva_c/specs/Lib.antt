@@ -7,4 +7,5 @@ pub mod Held
 pub mod Next
 pub mod Room
 pub mod Rows
+pub mod SelectorEnd
 pub mod Texts

@@ -1,6 +1,7 @@
 //! What `include/hayagriva.h` declares.
 ghost use Rattle.std.specs.Prelude.{◌≡◌, length, option_map, slice_get};
 ghost use Rattle.haya_csl.specs.Libraries.{DescribesAsCsl, IsCslErrorOf};
+ghost use Rattle.haya_csl.specs.declared.item_key.ItemKey.TheVariants.{CitationKey};
 ghost use Rattle.haya_input.specs.Input.{Describes as LinesDescribe};
 ghost use Rattle.haya_json.specs.Libraries.{Describes, IsErrorOf};
 ghost use Rattle.hayagriva_c.specs.Codes.{message_of};
@@ -12,6 +13,7 @@ ghost use Rattle.hayagriva_c.specs.Handles.{HitsGive, IsRefused, JsonGives, Keep
 ghost use Rattle.hayagriva_c.specs.Handles.{QueryStarts, content_of, size_of};
 ghost use Rattle.hayagriva_c.specs.Next.{NextGives};
 ghost use Rattle.hayagriva_c.specs.Room.{Writes, filled};
+ghost use Rattle.hayagriva_c.specs.SelectorEnd.{TellsEnd};
 ghost use Rattle.hayagriva_c.specs.Texts.{BindingGiven, TextGiven};
 
 use crate::codes;
@@ -19,7 +21,7 @@ use crate::content::{library_in, names_at, rows_in, selector_in, text_in};
 use crate::entries::{Place, count_of_parents, entry_at, name_of_type, says_name, write_text};
 use crate::handles::Handle;
 use crate::next_hit::next_of;
-use crate::reading::{hits_of, read_csl, read_json, read_lines, selector_of};
+use crate::reading::{end_of, hits_of, read_csl, read_json, read_lines, selector_of};
 use crate::room::fill;
 use crate::slot::Slot;
 use crate::texts::{Binding, Text, give, give_binding};
@@ -82,10 +84,13 @@ pub extern "C" fn haya_library_read_json(alloc: Global, text: &[u8], library: &m
     *library = read_json(alloc, text);
 }
 
-/// Reads a library from CSL-JSON. What the handle held before is freed.
+/// Reads a library from CSL-JSON, whose entries have their items' `citation-key` as key, or the
+/// `id` where that has none. What is told of the text isn't kept. What the handle held before is
+/// freed.
 #[unsafe(no_mangle)]
 pub extern "C" fn haya_library_read_csl(alloc: Global, text: &[u8], library: &mut Handle)
-    ensures { JsonGives DescribesAsCsl IsCslErrorOf text.now library.new }
+    ensures { JsonGives (DescribesAsCsl CitationKey) (IsCslErrorOf CitationKey) text.now
+        library.new }
 {
     *library = read_csl(alloc, text);
 }
@@ -244,6 +249,17 @@ pub extern "C" fn haya_query_free(alloc: Global, query: &mut Handle)
     ensures { IsRefused 0 0 query.new }
 {
     *query = Handle::refused(alloc, codes::EMPTY, 0);
+}
+
+/// The byte at which the selector at the front of a text ends: with its last part, before white
+/// space and what doesn't belong to it. Without a selector it is 0. The answer is a code.
+#[unsafe(no_mangle)]
+pub extern "C" fn haya_selector_end(alloc: Global, text: &[u8], end: &mut usize) -> u32
+    ensures { TellsEnd text.now result end.new }
+{
+    let (code, place) = end_of(alloc, text);
+    *end = place;
+    code
 }
 
 /// The name of the type of an entry: as many bytes of it as there is room for are written. The

@@ -1,16 +1,18 @@
 //! Libraries and selectors that are read from bytes.
 ghost use Rattle.std.specs.Prelude.{◌≡◌, ◌⊎◌, option_map};
 ghost use Rattle.haya_csl.specs.Libraries.{DescribesAsCsl, IsCslErrorOf};
+ghost use Rattle.haya_csl.specs.declared.item_key.ItemKey.TheVariants.{CitationKey};
 ghost use Rattle.haya_input.specs.Input.{Describes as LinesDescribe};
 ghost use Rattle.haya_json.specs.Libraries.{Describes, IsErrorOf};
 ghost use Rattle.hayagriva_c.specs.Handles.{HitsGive, IsOutOfMemory, JsonGives, LinesGive};
 ghost use Rattle.hayagriva_c.specs.Handles.{QueryStarts, ShowsError};
+ghost use Rattle.hayagriva_c.specs.SelectorEnd.{TellsEnd};
 
 use crate::codes;
 use crate::content::Content;
 use crate::handles::Handle;
 use crate::hit_rows::rows_of;
-use haya_csl::read_csl_json;
+use haya_csl::{ItemKey, read_csl_json};
 use haya_input::{InputFault, read_library};
 use haya_json::ReadError;
 use hayagriva::{HashKeys, Library, Selector};
@@ -50,14 +52,14 @@ pub fn read_json(alloc: Global, bytes: &[u8]) -> Handle
 
 /// The library of a text in CSL-JSON.
 pub fn read_csl(alloc: Global, bytes: &[u8]) -> Handle
-    ensures { JsonGives DescribesAsCsl IsCslErrorOf bytes.now result }
+    ensures { JsonGives (DescribesAsCsl CitationKey) (IsCslErrorOf CitationKey) bytes.now result }
 {
     let Ok(text) = str::from_utf8(bytes) else {
         return Handle::refused(alloc, codes::NOT_TEXT, 0);
     };
-    match read_csl_json(alloc, text) {
-        Ok((library, ignored)) => {
-            drop(ignored);
+    match read_csl_json(alloc, ItemKey::CitationKey, text) {
+        Ok((library, notes)) => {
+            drop(notes);
             Handle::of(alloc, codes::DONE, Content::Library(library))
         }
         Err(error) => shown(alloc, error),
@@ -104,5 +106,22 @@ pub fn selector_of(alloc: Global, bytes: &[u8]) -> Handle
     match Selector::parse(alloc, text) {
         Ok(selector) => Handle::of(alloc, codes::DONE, Content::Selector(selector)),
         Err(error) => Handle::of_error(alloc, error),
+    }
+}
+
+/// The byte at which the selector at the front of the bytes ends, behind a code. Without a selector
+/// it is 0.
+pub fn end_of(alloc: Global, bytes: &[u8]) -> (u32, usize)
+    ensures { TellsEnd bytes.now result.0 result.1 }
+{
+    let Ok(text) = str::from_utf8(bytes) else {
+        return (codes::NOT_TEXT, 0);
+    };
+    match Selector::parse_prefix(alloc, text) {
+        Ok((selector, end)) => {
+            drop(selector);
+            (codes::DONE, end)
+        }
+        Err(error) => (codes::of_selector(&error), 0),
     }
 }

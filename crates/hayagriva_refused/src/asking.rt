@@ -9,6 +9,7 @@ use haya_command::{
     Asker, Form, Format, InputError, Options, ask_csl_json, ask_hayagriva, ask_json_lines,
     ask_lines, end_asking, tell_notes, warn,
 };
+use haya_csl::ItemKey;
 use haya_input::read_library;
 use haya_json::{ElementError, LineError, ReadError};
 use haya_list::{EntryAnswerer, EntryFault};
@@ -145,7 +146,7 @@ const FORMATS: &[(Format, &str, &str)] = &[
         "two lines of JSON",
     ),
     (
-        Format::CslJson,
+        Format::CslJson(ItemKey::CitationKey),
         "[{\"id\":\"a\",\"type\":\"book\",\"title\":\"T\"},\n\
         {\"id\":\"b\",\"type\":\"webpage\",\"x\":1}]",
         "two items",
@@ -171,7 +172,7 @@ fn is_json_asked(
     let mut notes = String::new(alloc);
     let mut input = text.as_bytes();
     let asked = match format {
-        Format::CslJson => ask_csl_json(asker, "a file", &mut notes, &mut input, out),
+        Format::CslJson(key) => ask_csl_json(asker, key, "a file", &mut notes, &mut input, out),
         Format::Hayagriva => ask_hayagriva(asker, "a file", &mut notes, &mut input, out),
         _ => ask_json_lines(asker, "a file", &mut notes, &mut input, out),
     };
@@ -224,7 +225,8 @@ fn many_items(rt: HostRuntime) {
     }
     write!(list, "{{\"id\":\"last\",\"type\":\"book\"}}]").expect(&rt, "memory");
     let row = Row(ASKS_JSON, "2,001 items", Often);
-    let given = (&options, Format::CslJson, list.as_str(), "");
+    let format = Format::CslJson(ItemKey::CitationKey);
+    let given = (&options, format, list.as_str(), "");
     prints(&rt, row, given, "2000\n", is_json_asked);
     drop(options);
 }

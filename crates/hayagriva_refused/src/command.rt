@@ -8,6 +8,7 @@ use haya_command::{
     Collected, Fault, Form, Format, Input, InputError, Options, ask, complain, format_of, read,
     read_inputs, run,
 };
+use haya_csl::ItemKey;
 use haya_input::InputFault;
 use haya_json::{ElementError, LineError, ReadError};
 use haya_printing::LinesError;
@@ -26,7 +27,7 @@ const LINES: &str = "0\ta\tbook\ttitle=T\n0\tb\tweb\n";
 
 const TEXTS: &[(Format, &str)] = &[
     (Format::Hayagriva, FILE),
-    (Format::CslJson, ITEMS),
+    (Format::CslJson(ItemKey::CitationKey), ITEMS),
     (Format::Lines, LINES),
 ];
 
@@ -41,10 +42,10 @@ fn begins_with_a(library: &Library, number: usize) -> bool {
 
 fn is_read(alloc: Global, format: Format, text: &str) -> Result<bool, OutOfMemory> {
     match read(alloc, keys(), format, text) {
-        Ok((library, ignored)) => {
+        Ok((library, notes)) => {
             let is_right = begins_with_a(&library, 2);
             drop(library);
-            drop(ignored);
+            drop(notes);
             Ok(is_right)
         }
         Err(InputError::Json(ReadError::OutOfMemory)) => Err(OutOfMemory),
@@ -53,14 +54,22 @@ fn is_read(alloc: Global, format: Format, text: &str) -> Result<bool, OutOfMemor
     }
 }
 
-fn are_formats() -> bool {
-    format_of(FILE) == Format::Hayagriva
-        && format_of(ITEMS) == Format::CslJson
-        && format_of(LINES) == Format::Lines
+// A format that is seen by a name behind others.
+const OBJECT: &str = r#"{"version":1,"items":[]}"#;
+
+fn is_format(alloc: Global, format: Format, text: &str) -> Result<bool, OutOfMemory> {
+    Ok(format_of(alloc, text.as_bytes())? == format)
+}
+
+fn are_keyed() -> bool {
+    let format = Format::CslJson(ItemKey::CitationKey);
+    format.keyed_by(ItemKey::Id) == Format::CslJson(ItemKey::Id)
+        && Format::Lines.keyed_by(ItemKey::Id) == Format::Lines
 }
 
 #[test]
 fn formats(rt: HostRuntime) {
+    takes_none!(&rt, "Format::keyed_by", are_keyed());
     for (format, text) in TEXTS {
         asks!(
             &rt,
@@ -68,7 +77,12 @@ fn formats(rt: HostRuntime) {
             is_read(rt.alloc(), *format, *text)
         );
     }
-    takes_none!(&rt, "format_of", are_formats());
+    let format = Format::CslJson(ItemKey::CitationKey);
+    asks!(
+        &rt,
+        Row("format_of", OBJECT, Optional),
+        is_format(rt.alloc(), format, OBJECT)
+    );
 }
 
 /// Whether a fault is that memory was refused.
@@ -76,7 +90,7 @@ pub(crate) fn told(fault: Fault) -> Result<bool, OutOfMemory> {
     let is_memory = match &fault {
         Fault::OutOfMemory => true,
         Fault::Selector(error) => *error == SelectorError::OutOfMemory,
-        Fault::Unsaid(error) => matches!(error, LinesError::OutOfMemory),
+        Fault::NotPrintable(error) => matches!(error, LinesError::OutOfMemory),
         Fault::Input(_, InputError::Json(error)) => matches!(error, ReadError::OutOfMemory),
         Fault::Input(_, InputError::JsonLines(LineError { error, .. })) => {
             matches!(error, ReadError::OutOfMemory)
@@ -97,7 +111,7 @@ pub(crate) fn told(fault: Fault) -> Result<bool, OutOfMemory> {
 
 // Whether an input is read under its name.
 fn is_input(alloc: Global, name: &str, text: &str) -> Result<bool, OutOfMemory> {
-    match Input::read(alloc, name, &mut text.as_bytes(), &mut ()) {
+    match Input::read(alloc, name, None, &mut text.as_bytes(), &mut ()) {
         Ok(input) => {
             let is_wanted = input.name.as_str() == name && input.text.as_str() == text;
             drop(input);
@@ -127,11 +141,13 @@ pub(crate) fn options(rt: &(impl Abort + AllocGlobal), to: Form) -> Options {
     Options {
         selector: string(rt, "n:*[title]"),
         from: None,
+        key: ItemKey::CitationKey,
         to,
         count: false,
         quiet: false,
         invert: false,
         strict: false,
+        notes: true,
         files: Vec::new(rt.alloc()),
     }
 }

@@ -3,13 +3,14 @@ use crate::calls::asks;
 use crate::marks::Memory::{Maybe, Optional};
 use crate::marks::Row;
 use crate::shown::is_shown;
-use haya_csl::read_csl_json;
+use haya_csl::{ItemKey, read_csl_json};
 use haya_json::ReadError;
 use haya_text::OutOfMemory;
 use hayagriva::Library;
 use std::alloc::Global;
 
-// Members of every kind, a journal, and a member that has no place in an entry.
+// Members of every kind, a journal, a member that has no place in an entry, values that aren't read,
+// and a key that comes again.
 const ITEMS: &str = concat!(
     r#"[{"id":"k","type":"article-journal","title":"A <i>b</i> {c}","title-short":"A","#,
     r#""author":[{"family":"Berg","given":"Jan","non-dropping-particle":"van"},"#,
@@ -17,7 +18,8 @@ const ITEMS: &str = concat!(
     r#""issued":{"date-parts":[[2014,"5",1]]},"accessed":{"raw":"2020-01-02"},"#,
     r#""container-title":"J","volume":2,"issue":"1-2","page":"17","DOI":"10/1","#,
     r#""ISSN":"1","URL":"u","language":"de","publisher":"P","publisher-place":"L","#,
-    r#""collection-title":"S","citation-key":"x"},{"id":2,"type":"book"}]"#,
+    r#""collection-title":"S","citation-key":"x","version":1},{"id":2,"type":"tale"},"#,
+    r#"{"id":"2","type":"book","number-of-pages":"some"}]"#,
 );
 
 // A text, and what its error shows.
@@ -27,22 +29,19 @@ const FAULTY: &[(&str, &str)] = &[
         r#"[{"id":"a","id":"a"}]"#,
         "line 1, column 12: an object has a member twice",
     ),
-    (r#"[{"id":"a","type":"tale"}]"#, "/0/type: unknown type"),
-    (
-        r#"[{"id":"a","type":"book"},{"id":"a","type":"book"}]"#,
-        "/1/id: the same id twice",
-    ),
+    (r#"[{"id":"a","type":"tale"},{}]"#, "/1/id: missing"),
 ];
 
 // What `read_csl_json` calls is a call too.
 const READS: &str = "read_csl_json read_csl_json_with_hash_keys";
 
 fn is_read(alloc: Global, wanted: &Library) -> Result<bool, OutOfMemory> {
-    match read_csl_json(alloc, ITEMS) {
-        Ok((read, ignored)) => {
-            let is_equal = read == *wanted && ignored.count("citation-key") == 1;
+    match read_csl_json(alloc, ItemKey::CitationKey, ITEMS) {
+        Ok((read, notes)) => {
+            let is_told = notes.ignored().count("version") == 1 && notes.lines().len() == 3;
+            let is_equal = read == *wanted && is_told;
             drop(read);
-            drop(ignored);
+            drop(notes);
             Ok(is_equal)
         }
         Err(ReadError::OutOfMemory) => Err(OutOfMemory),
@@ -51,10 +50,10 @@ fn is_read(alloc: Global, wanted: &Library) -> Result<bool, OutOfMemory> {
 }
 
 fn is_refused(alloc: Global, text: &str, wanted: &str) -> Result<bool, OutOfMemory> {
-    match read_csl_json(alloc, text) {
-        Ok((read, ignored)) => {
+    match read_csl_json(alloc, ItemKey::CitationKey, text) {
+        Ok((read, notes)) => {
             drop(read);
-            drop(ignored);
+            drop(notes);
             Ok(false)
         }
         Err(ReadError::OutOfMemory) => Err(OutOfMemory),
@@ -64,8 +63,11 @@ fn is_refused(alloc: Global, text: &str, wanted: &str) -> Result<bool, OutOfMemo
 
 #[test]
 fn items(rt: HostRuntime) {
-    let (wanted, ignored) = read_csl_json(rt.alloc(), ITEMS).expect(&rt, "a library");
-    drop(ignored);
+    let (wanted, notes) = read_csl_json(rt.alloc(), ItemKey::CitationKey, ITEMS).expect(
+        &rt,
+        "a library",
+    );
+    drop(notes);
     assert!(&rt; wanted.len() == 2);
     let row = Row(READS, "members of every kind", Optional);
     asks!(&rt, row, is_read(rt.alloc(), &wanted));

@@ -4,11 +4,11 @@ use crate::marks::Memory::{Maybe, Optional};
 use crate::marks::Row;
 use crate::shown::is_shown;
 use crate::works::string;
-use haya_csl::read_item_line;
+use haya_csl::{ItemKey, read_item_line};
 use haya_elements::{Brackets, ElementLines};
-use haya_json::{ElementError, Ignored, Position, ReadError, read_member_line};
+use haya_json::{ElementError, Ignored, Notes, Position, ReadError, read_member_line};
 use haya_text::OutOfMemory;
-use hayagriva::Entry;
+use hayagriva::{Entry, HashKeys};
 use std::alloc::Global;
 use std::io::Read;
 
@@ -39,10 +39,15 @@ fn is_entry(read: Result<Entry, ReadError>, ignored: &Ignored) -> Result<bool, O
     }
 }
 
+// No notes.
+fn none(alloc: Global) -> Notes {
+    Notes::with_hash_keys(alloc, HashKeys::new(1, 2))
+}
+
 fn is_item_read(alloc: Global, line: &str) -> Result<bool, OutOfMemory> {
-    let mut ignored = Ignored::new(alloc);
-    let read = read_item_line(alloc, 0, line, &mut ignored);
-    is_entry(read, &ignored)
+    let mut notes = none(alloc);
+    let read = read_item_line(alloc, ItemKey::CitationKey, 0, line, &mut notes);
+    is_entry(read, notes.ignored())
 }
 
 fn is_member_read(alloc: Global, line: &str) -> Result<bool, OutOfMemory> {
@@ -89,7 +94,7 @@ fn large_items_and_members(rt: HostRuntime) {
 }
 
 fn is_item_refused(alloc: Global, line: &str, wanted: &str) -> Result<bool, OutOfMemory> {
-    match read_item_line(alloc, 2, line, &mut Ignored::new(alloc)) {
+    match read_item_line(alloc, ItemKey::CitationKey, 2, line, &mut none(alloc)) {
         Ok(entry) => {
             drop(entry);
             Ok(false)
@@ -106,7 +111,7 @@ const FAULTY: &[(&str, &str)] = &[
         r#"{"id":"a","id":"a"}"#,
         "line 1, column 11: an object has a member twice",
     ),
-    (r#"{"id":"a","type":"tale"}"#, "/2/type: unknown type"),
+    (r#"{"id":"","type":"tale"}"#, "/2/id: missing"),
 ];
 
 #[test]

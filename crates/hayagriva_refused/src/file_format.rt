@@ -38,7 +38,7 @@ const FAULTY: &[(&str, &str)] = &[
     (r#"{"a/b~c": {}}"#, "/a~1b~0c/type: missing"),
     (
         r#"{"a": {"type": "misc", "parent": [{"date": "x"}]}}"#,
-        "/a/parent/0/date: not read as a date",
+        "/a/parent/0/date: no date",
     ),
 ];
 
@@ -181,7 +181,7 @@ fn lines(rt: HostRuntime) {
 }
 
 fn is_line_shown_so(fault: &LineError) -> bool {
-    is_shown(fault, "line 2: /entry/date: not read as a date")
+    is_shown(fault, "line 2: /entry/date: no date")
 }
 
 #[test]

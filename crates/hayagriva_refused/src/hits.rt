@@ -3,7 +3,7 @@ use crate::calls::asks;
 use crate::marks::Memory::{Optional, Taken};
 use crate::marks::Row;
 use crate::works::selector;
-use haya_command::{Form, hits_text, picks};
+use haya_command::{Form, LeftNotes, hits_text, picks};
 use haya_hits::{bindings, push_line};
 use haya_input::read_library;
 use haya_printing::LinesError;
@@ -112,8 +112,9 @@ const FORMS: &[(Form, &str, &str)] = &[
 ];
 
 fn is_text(alloc: Global, hits: &[Hit], form: Form, wanted: &str) -> Result<bool, OutOfMemory> {
-    match hits_text(alloc, hits, form) {
-        Ok(text) => Ok(text.as_str() == wanted),
+    let mut left = LeftNotes::new(alloc);
+    match hits_text(alloc, hits, form, true, &mut left) {
+        Ok(text) => Ok(text.as_str() == wanted && left.text(alloc)?.is_empty()),
         Err(LinesError::OutOfMemory) => Err(OutOfMemory),
         Err(_) => Ok(false),
     }
@@ -121,7 +122,7 @@ fn is_text(alloc: Global, hits: &[Hit], form: Form, wanted: &str) -> Result<bool
 
 fn print_each(rt: &(impl Abort + AllocGlobal + Print), hits: &[Hit]) {
     for (form, wanted, about) in FORMS {
-        let row = Row("hits_text", *about, Optional);
+        let row = Row("hits_text LeftNotes::new LeftNotes::text", *about, Optional);
         asks!(rt, row, is_text(rt.alloc(), hits, *form, *wanted));
     }
     if let Some(hit) = hits.first() {

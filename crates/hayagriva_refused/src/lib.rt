@@ -30,6 +30,8 @@ mod lines;
 #[cfg(test)]
 mod marks;
 #[cfg(test)]
+mod notes;
+#[cfg(test)]
 mod printing;
 #[cfg(test)]
 mod query;

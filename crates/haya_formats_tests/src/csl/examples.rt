@@ -4,7 +4,7 @@ mod first_half;
 mod second_half;
 
 use first_half::FIRST;
-use haya_csl::read_csl_json;
+use haya_csl::{ItemKey, read_csl_json};
 use haya_entry::Entry;
 use hayagriva::types::EntryType;
 use hayagriva::types::EntryType::{
@@ -88,7 +88,10 @@ fn is_item(entry: Option<&Entry>, wanted: (&str, EntryType, Option<EntryType>)) 
 #[test]
 fn zotero_is_read(rt: HostRuntime) {
     let text = format!(in rt.alloc(); "{FIRST}{SECOND}").expect(&rt, "memory");
-    let (library, _) = read_csl_json(rt.alloc(), text.as_str()).expect(&rt, "a library");
+    let (library, _) = read_csl_json(rt.alloc(), ItemKey::CitationKey, text.as_str()).expect(
+        &rt,
+        "a library",
+    );
     let mut entries = library.iter();
     for item in ITEMS {
         assert!(rt; is_item(entries.next(), *item), "another item");

@@ -1,20 +1,25 @@
 //! The items of a list, each on a line of its own.
-use haya_csl::read_item_line;
-use haya_json::{Ignored, to_json};
-use hayagriva::Library;
+use super::shown::notes_shown;
+use haya_csl::{ItemKey, read_item_line};
+use haya_json::{Notes, to_json};
+use hayagriva::{HashKeys, Library};
 use std::process::Abort;
 
-// A line, and the library of the entry that it says, with the names that are passed over of it.
+// A line, and the library of the entry that it says, with what is told of it.
 const ENTRIES: &[(&str, &str)] = &[
     (r#"{"id":"a"}"#, r#"{"a":{"type":"misc"}}"#),
     // white space round tokens, a number for an id, and members that are passed over
     (
-        "\t{ \"y\": 1, \"id\" : 1 ,\t\"type\": \"book\", \"x\": {}, \"title\": \"T\" } ",
+        "\t{ \"y\": 1, \"id\" : 1 ,\t\"type\": \"book\", \"x\": [{}], \"title\": \"T\" } ",
         r#"{"1":{"type":"book","title":"T"}}y 1, x 1, "#,
     ),
     (
         r#"{"id":"a","type":"chapter","container-title":"B"}"#,
         r#"{"a":{"type":"chapter","parent":{"type":"book","title":"B"}}}"#,
+    ),
+    (
+        r#"{"id":"a","type":"tale","citation-key":"b"}"#,
+        r#"{"b":{"type":"misc"}}b/type unknown type: "tale", "#,
     ),
 ];
 
@@ -44,29 +49,31 @@ const REFUSED: &[(&str, &str)] = &[
     ),
     (r#"["a"]"#, "/2: expected an object"),
     ("{}", "/2/id: missing"),
-    (r#"{"id":"a","type":"novel"}"#, "/2/type: unknown type"),
+    (r#"{"citation-key":""}"#, "/2/id: missing"),
 ];
 
-// The library of a line's entry, and behind it each name that is passed over, with how often it
-// came.
+// No notes.
+fn none(rt: &(impl Abort + AllocGlobal)) -> Notes {
+    Notes::with_hash_keys(rt.alloc(), HashKeys::new(0, 0))
+}
+
+// The library of a line's entry, and behind it what is told of it.
 fn shown(rt: &(impl Abort + AllocGlobal), line: &str) -> String {
-    let mut ignored = Ignored::new(rt.alloc());
-    let entry = read_item_line(rt.alloc(), 2, line, &mut ignored).expect(rt, "an entry");
+    let (key, mut notes) = (ItemKey::CitationKey, none(rt));
+    let entry = read_item_line(rt.alloc(), key, 2, line, &mut notes).expect(rt, "an entry");
     let mut library = Library::new(rt.alloc());
     library.insert(entry).expect(rt, "memory");
     let json = to_json(rt.alloc(), &library).expect(rt, "memory");
     drop(library);
     let mut shown = String::from_utf8(json).expect(rt, "a text");
-    for (name, count) in &ignored {
-        write!(shown, "{name} {count}, ").expect(rt, "memory");
-    }
+    let told = notes_shown(rt, &notes);
+    shown.push_str(told.as_str()).expect(rt, "memory");
     shown
 }
 
 // What the error of a line shows, or nothing where it has none.
 fn message(rt: &(impl Abort + AllocGlobal), line: &str) -> String {
-    let mut ignored = Ignored::new(rt.alloc());
-    match read_item_line(rt.alloc(), 2, line, &mut ignored) {
+    match read_item_line(rt.alloc(), ItemKey::CitationKey, 2, line, &mut none(rt)) {
         Ok(entry) => {
             drop(entry);
             String::new(rt.alloc())

@@ -1,21 +1,41 @@
-//! Libraries, shown.
-use haya_csl::read_csl_json;
-use haya_json::to_json;
+//! Notes, shown.
+use haya_json::{Loss, Note, Notes};
 use std::process::Abort;
 
-/// Whether the text reads as the library that is written so.
-pub(super) fn shows(rt: &(impl Abort + AllocGlobal), text: &str, wanted: &str) -> bool {
-    let (library, _) = read_csl_json(rt.alloc(), text).expect(rt, "a library");
-    let shown = to_json(rt.alloc(), &library).expect(rt, "memory");
-    drop(library);
-    shown.as_slice() == wanted.as_bytes()
+// The key of a note, its place and what is lost there.
+fn note_shown(rt: &(impl Abort + AllocGlobal), note: &Note) -> String {
+    let mut shown = String::from_str(rt.alloc(), note.key.as_str()).expect(rt, "memory");
+    for step in &note.lost.path {
+        write!(shown, "{step}").expect(rt, "memory");
+    }
+    match &note.lost.loss {
+        Loss::Named(name) => write!(shown, " {name}").expect(rt, "memory"),
+        Loss::Unread(why, value) => write!(shown, " {why}: {value}").expect(rt, "memory"),
+        Loss::Again => write!(shown, " again").expect(rt, "memory"),
+    }
+    shown
 }
 
-/// Whether an item with these members is the entry with those.
-pub(super) fn shows_item(rt: &(impl Abort + AllocGlobal), members: &str, wanted: &str) -> bool {
-    let text = format!(in rt.alloc(); "[{{\"id\":\"k\",{members}}}]");
-    let wanted = format!(in rt.alloc(); "{{\"k\":{{{wanted}}}}}");
-    let text = text.expect(rt, "memory");
-    let wanted = wanted.expect(rt, "memory");
-    shows(rt, text.as_str(), wanted.as_str())
+/// Each name with how often it came, the other notes, and how many more there are.
+pub(super) fn notes_shown(rt: &(impl Abort + AllocGlobal), notes: &Notes) -> String {
+    let mut shown = String::new(rt.alloc());
+    for (name, count) in notes.ignored() {
+        write!(shown, "{name} {count}, ").expect(rt, "memory");
+    }
+    for line in notes.lines() {
+        let line = note_shown(rt, line);
+        write!(shown, "{line}, ").expect(rt, "memory");
+    }
+    if notes.more() > 0 {
+        write!(shown, "{} more", notes.more()).expect(rt, "memory");
+    }
+    shown
+}
+
+/// The first note of all, if there is one.
+pub(super) fn first_shown(rt: &(impl Abort + AllocGlobal), notes: &Notes) -> String {
+    match notes.first() {
+        Some(first) => note_shown(rt, first),
+        None => String::new(rt.alloc()),
+    }
 }

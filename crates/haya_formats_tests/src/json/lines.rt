@@ -81,7 +81,7 @@ const REFUSED: &[(&str, &str)] = &[
     (
         "\n{\"key\": \"a\", \"entry\": {\"type\": \"misc\"}}\n{\"key\": \"b\", \"entry\": {\"type\"\
         : \"misc\", \"date\": \"x\"}}\n",
-        "line 3: /entry/date: not read as a date",
+        "line 3: /entry/date: no date",
     ),
     (
         r#"{"key": "a", "entry": {"type": "misc", "parent": [{}, {"title": []}]}}"#,

@@ -7,6 +7,6 @@ returns c = λ options s entries hits printed found reads are told some. record 
   hits = hits;
   reads = reads;
   picks = are;
-  shows = told_answers options.quiet options.count options.to hits printed told;
+  shows = told_answers options.quiet options.count options.strict options.to hits printed told;
   found_one = some;
 }

@@ -19,7 +19,7 @@ inputs-preserved c =
     ap texts (at_drop_more (λ l. l) inputs at c.input-item.result c.inputs-test.true ∙ ap (λ h. h ∷ drop (at + 1) inputs) (sym c.input-item.is)) in
     goes_on (IsReadAs c.args.options.now) (λ done t. push t done) (texts inputs) (string_bytes c.input-item.result.text) (texts (drop (at + 1) inputs)) _ _ _
     (subst (λ left. Goes (IsReadAs c.args.options.now) (λ done t. push t done) (texts inputs) left c.inputs.library) next c.inputs.invariant)
-    c.in-Ok.ensures.library c.in_ok-push_all.ensures
+    c.in-Ok.ensures.library.1 c.in-Ok.ensures.library.2
 
 pub returns-in-Err-clause-fault : goal.returns-in-Err-clause-fault
 returns-in-Err-clause-fault c =

@@ -8,7 +8,7 @@ use Rattle.haya_command.proofs.streaming.ask_lines.Goals as goal
 pub returns-in-Ok-clause-asks : goal.returns-in-Ok-clause-asks
 returns-in-Ok-clause-asks g c =
     elim c.in-Ok.ensures.all [
-      | inl a ↦ inl (asks_input (λ s. s.options.now) (λ s. s.selector) (λ s. s.hits) (λ s. s.options.now.quiet && nat_lt 0 s.hits) _ _ c.args.asker.streams _ _ _ _ Lines IsListOf (λ text entries listed. (listed, tt)) a)
+      | inl a ↦ inl (asks_input (λ s. s.options.now) (λ s. s.selector) (λ s. s.hits) (λ s. s.options.now.quiet && nat_lt 0 s.hits) _ _ c.args.asker.streams _ _ _ _ Lines IsListOf (λ text entries listed. (listed, (λ _. tt))) a)
       | inr a ↦ inr (asks_enough (λ s. s.options.now) (λ s. s.selector) (λ s. s.hits) (λ s. s.options.now.quiet && nat_lt 0 s.hits) _ _ c.args.asker.streams _ _ _ _ Lines BeginsList (λ text entries begins. begins) refl a)
     ]
 

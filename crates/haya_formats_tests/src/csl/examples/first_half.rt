@@ -2,20 +2,22 @@
 
 pub(super) const FIRST: &str = r#"[
   {
-    "id": "ferrante1987",
+    "id": "http://zotero.org/users/1234567/items/SEN6I29M",
     "type": "article-journal",
-    "title": "The program dependence graph and its use in optimization",
     "container-title": "ACM Transactions on Programming Languages and Systems",
     "container-title-short": "ACM Trans. Program. Lang. Syst.",
-    "volume": "9",
-    "issue": "3",
-    "page": "319-349",
-    "ISSN": "0164-0925",
     "DOI": "10.1145/24039.24041",
+    "event-place": "New York",
+    "ISSN": "0164-0925",
+    "issue": "3",
+    "language": "en",
+    "page": "319-349",
     "publisher": "Association for Computing Machinery",
     "publisher-place": "New York",
     "source": "ACM Digital Library",
-    "language": "en",
+    "title": "The program dependence graph and its use in optimization",
+    "URL": "https://dl.acm.org/doi/10.1145/24039.24041",
+    "volume": "9",
     "author": [
       {
         "family": "Ferrante",
@@ -30,37 +32,29 @@ pub(super) const FIRST: &str = r#"[
         "given": "Joe D."
       }
     ],
-    "issued": {
-      "date-parts": [
-        [
-          1987,
-          7
-        ]
-      ]
-    },
     "accessed": {
-      "date-parts": [
-        [
-          2021,
-          3,
-          14
-        ]
-      ]
+      "date-parts": [["2021", 3, 14]]
     },
-    "URL": "https://dl.acm.org/doi/10.1145/24039.24041"
+    "issued": {
+      "date-parts": [["1987", 7]]
+    },
+    "citation-key": "ferrante1987"
   },
   {
-    "id": "altschul1990",
+    "id": "http://zotero.org/users/1234567/items/P222WF9P",
     "type": "article-journal",
-    "title": "Basic local alignment search tool",
+    "annote": "Read twice.",
     "container-title": "Journal of Molecular Biology",
-    "journalAbbreviation": "J. Mol. Biol.",
-    "volume": 215,
-    "issue": 3,
-    "page": "403-410",
-    "PMID": "2231712",
-    "PMCID": "PMC2231712",
     "DOI": "https://doi.org/10.1016/S0022-2836(05)80360-2",
+    "issue": 3,
+    "journalAbbreviation": "J. Mol. Biol.",
+    "note": "Cited often.",
+    "page": "403-410",
+    "PMCID": "PMC2231712",
+    "PMID": "2231712",
+    "source": "PubMed",
+    "title": "Basic local alignment search tool",
+    "volume": 215,
     "author": [
       {
         "family": "Altschul",
@@ -76,23 +70,18 @@ pub(super) const FIRST: &str = r#"[
       }
     ],
     "issued": {
-      "date-parts": [
-        [
-          "1990",
-          10,
-          "5"
-        ]
-      ]
+      "date-parts": [["1990", 10, 5]]
     },
-    "note": "Cited often.",
-    "annote": "Read twice."
+    "citation-key": "altschul1990"
   },
   {
-    "id": "watson1953",
+    "id": "http://zotero.org/users/1234567/items/3VBR5PXC",
     "type": "article-magazine",
+    "container-title": "Nature",
+    "page": "737",
+    "source": "www.nature.com",
     "title": "A structure for <i>deoxyribose</i> nucleic acid: H<sub>2</sub>O and <span class=\"nocase\">DNA</span>",
     "title-short": "<span class=\"nocase\">DNA</span>",
-    "container-title": "Nature",
     "author": [
       {
         "family": "Watson",
@@ -104,21 +93,15 @@ pub(super) const FIRST: &str = r#"[
       }
     ],
     "issued": {
-      "date-parts": [
-        [
-          1953,
-          4,
-          25
-        ]
-      ]
+      "date-parts": [["1953", 4, 25]]
     },
-    "page": "737"
+    "citation-key": "watson1953"
   },
   {
-    "id": "knuth1999rev",
+    "id": "http://zotero.org/users/1234567/items/VSWZPJ44",
     "type": "review",
-    "title": "Review of a book on sorting",
     "container-title": "Computing Reviews",
+    "title": "Review of a book on sorting",
     "volume": "40",
     "author": [
       {
@@ -128,18 +111,15 @@ pub(super) const FIRST: &str = r#"[
       }
     ],
     "issued": {
-      "date-parts": [
-        [
-          1999
-        ]
-      ]
-    }
+      "date-parts": [["1999"]]
+    },
+    "citation-key": "knuth1999rev"
   },
   {
-    "id": "lafontaine2001",
+    "id": "http://zotero.org/users/1234567/items/MTJUS9U3",
     "type": "review-book",
-    "title": "Fables anew",
     "container-title": "The Review of Books",
+    "title": "Fables anew",
     "author": [
       {
         "family": "Fontaine",
@@ -149,20 +129,19 @@ pub(super) const FIRST: &str = r#"[
       }
     ],
     "issued": {
-      "date-parts": [
-        [
-          2001,
-          21
-        ]
-      ]
-    }
+      "date-parts": [["2001"]],
+      "season": "Spring"
+    },
+    "citation-key": "lafontaine2001"
   },
   {
-    "id": "vaswani2017",
+    "id": "http://zotero.org/users/1234567/items/W9L8LI7U",
     "type": "article",
-    "title": "Attention Is All You Need",
     "number": "arXiv:1706.03762",
     "publisher": "arXiv",
+    "source": "arXiv.org",
+    "title": "Attention Is All You Need",
+    "URL": "http://arxiv.org/abs/1706.03762",
     "author": [
       {
         "family": "Vaswani",
@@ -173,32 +152,20 @@ pub(super) const FIRST: &str = r#"[
         "given": "Noam"
       }
     ],
-    "issued": {
-      "date-parts": [
-        [
-          2017,
-          6,
-          12
-        ]
-      ]
-    },
-    "URL": "http://arxiv.org/abs/1706.03762",
     "accessed": {
-      "date-parts": [
-        [
-          2023,
-          1,
-          2
-        ]
-      ]
-    }
+      "date-parts": [["2023", 1, 2]]
+    },
+    "issued": {
+      "date-parts": [["2017", 6, 12]]
+    },
+    "citation-key": "vaswani2017"
   },
   {
-    "id": "perelman2002",
+    "id": "http://zotero.org/users/1234567/items/MXYBIRAN",
     "type": "article",
-    "title": "The entropy formula for the Ricci flow and its geometric applications",
     "archive": "arXiv",
     "archive_location": "math/0211159",
+    "title": "The entropy formula for the Ricci flow and its geometric applications",
     "author": [
       {
         "family": "Perelman",
@@ -206,24 +173,20 @@ pub(super) const FIRST: &str = r#"[
       }
     ],
     "issued": {
-      "date-parts": [
-        [
-          2002,
-          11,
-          11
-        ]
-      ]
-    }
+      "date-parts": [["2002", 11, 11]]
+    },
+    "citation-key": "perelman2002"
   },
   {
-    "id": "mallory2010",
+    "id": "http://zotero.org/users/1234567/items/6IMYXDWW",
     "type": "article-newspaper",
-    "title": "City council agrees at last",
     "container-title": "The Daily Courier",
     "edition": "Late",
-    "publisher-place": "Springfield",
+    "event-place": "Springfield",
     "ISSN": "1234-5678",
     "page": "A1",
+    "publisher-place": "Springfield",
+    "title": "City council agrees at last",
     "author": [
       {
         "family": "Mallory",
@@ -231,22 +194,24 @@ pub(super) const FIRST: &str = r#"[
       }
     ],
     "issued": {
-      "date-parts": [
-        [
-          2010,
-          2,
-          28
-        ]
-      ]
-    }
+      "date-parts": [["2010", 2, 28]]
+    },
+    "citation-key": "mallory2010"
   },
   {
-    "id": "klein2009",
+    "id": "http://zotero.org/users/1234567/items/WTY5JRIV",
     "type": "paper-conference",
-    "title": "seL4: formal verification of an OS kernel",
-    "container-title": "Proceedings of the ACM SIGOPS 22nd Symposium on Operating Systems Principles",
-    "collection-title": "SOSP",
     "collection-number": "09",
+    "collection-title": "SOSP",
+    "container-title": "Proceedings of the ACM SIGOPS 22nd Symposium on Operating Systems Principles",
+    "DOI": "doi:10.1145/1629575.1629596",
+    "event-place": "Big Sky, Montana",
+    "event-title": "22nd Symposium on Operating Systems Principles",
+    "ISBN": "978-1-60558-752-3",
+    "page": "207-220",
+    "publisher": "ACM",
+    "publisher-place": "New York, NY",
+    "title": "seL4: formal verification of an OS kernel",
     "collection-editor": [
       {
         "family": "Anderson",
@@ -259,22 +224,6 @@ pub(super) const FIRST: &str = r#"[
         "given": "Jeanna Neefe"
       }
     ],
-    "publisher": "ACM",
-    "publisher-place": "New York, NY",
-    "ISBN": "978-1-60558-752-3",
-    "event-title": "22nd Symposium on Operating Systems Principles",
-    "event-place": "Big Sky, Montana",
-    "event-date": {
-      "date-parts": [
-        [
-          2009,
-          10,
-          11
-        ]
-      ]
-    },
-    "page": "207-220",
-    "DOI": "doi:10.1145/1629575.1629596",
     "author": [
       {
         "family": "Klein",
@@ -286,21 +235,21 @@ pub(super) const FIRST: &str = r#"[
       }
     ],
     "issued": {
-      "date-parts": [
-        [
-          2009,
-          10,
-          11
-        ]
-      ]
-    }
+      "date-parts": [["2009", 10, 11]]
+    },
+    "event-date": {
+      "date-parts": [["2009", 10, 11]]
+    },
+    "citation-key": "klein2009"
   },
   {
-    "id": "lamport1980",
+    "id": "http://zotero.org/users/1234567/items/MW8D2BIN",
     "type": "paper-conference",
-    "title": "“Sometime” is sometimes “not never”",
+    "archive_location": "shelf 3",
+    "call-number": "QA76",
     "event": "POPL",
     "page": "174-185",
+    "title": "“Sometime” is sometimes “not never”",
     "author": [
       {
         "family": "Lamport",
@@ -308,21 +257,22 @@ pub(super) const FIRST: &str = r#"[
       }
     ],
     "issued": {
-      "date-parts": [
-        [
-          1980,
-          1
-        ]
-      ]
+      "date-parts": [["1980", 1]]
     },
-    "call-number": "QA76",
-    "archive_location": "shelf 3"
+    "citation-key": "lamport1980"
   },
   {
-    "id": "shelley2003",
+    "id": "http://zotero.org/users/1234567/items/HAPVI3PE",
     "type": "chapter",
-    "title": "The mortal immortal",
     "container-title": "Tales of the Strange",
+    "edition": "2",
+    "event-place": "London",
+    "ISBN": "0-14-000000-0",
+    "page": "219-230",
+    "publisher": "Penguin",
+    "publisher-place": "London",
+    "title": "The mortal immortal",
+    "volume": "1",
     "container-author": [
       {
         "family": "Shelley",
@@ -335,39 +285,30 @@ pub(super) const FIRST: &str = r#"[
         "given": "Betty T."
       }
     ],
-    "edition": "2",
-    "volume": "1",
-    "publisher": "Penguin",
-    "publisher-place": "London",
-    "ISBN": "0-14-000000-0",
-    "page": "219-230",
     "author": [
       {
         "family": "Shelley",
         "given": "Mary"
       }
     ],
-    "issued": {
-      "date-parts": [
-        [
-          2003
-        ]
-      ]
-    },
     "translator": [
       {
         "family": "Garnett",
         "given": "Constance"
       }
-    ]
+    ],
+    "issued": {
+      "date-parts": [["2003"]]
+    },
+    "citation-key": "shelley2003"
   },
   {
-    "id": "melville1851",
+    "id": "http://zotero.org/users/1234567/items/M3856JZX",
     "type": "chapter",
-    "title": "The whiteness of the whale",
-    "container-title": "Moby-Dick; or, The Whale",
     "chapter-number": "42",
+    "container-title": "Moby-Dick; or, The Whale",
     "publisher": "Harper & Brothers",
+    "title": "The whiteness of the whale",
     "author": [
       {
         "family": "Melville",
@@ -375,25 +316,22 @@ pub(super) const FIRST: &str = r#"[
       }
     ],
     "issued": {
-      "date-parts": [
-        [
-          1851
-        ]
-      ]
-    }
+      "date-parts": [["1851"]]
+    },
+    "citation-key": "melville1851"
   },
   {
-    "id": "stoic",
+    "id": "http://zotero.org/users/1234567/items/8I2HFR7D",
     "type": "entry",
-    "title": "Stoicism",
     "container-title": "The Stanford Encyclopedia of Philosophy",
+    "edition": "Spring 2019",
+    "title": "Stoicism",
     "editor": [
       {
         "family": "Zalta",
         "given": "Edward N."
       }
     ],
-    "edition": "Spring 2019",
     "author": [
       {
         "family": "Baltzly",
@@ -401,33 +339,26 @@ pub(super) const FIRST: &str = r#"[
       }
     ],
     "issued": {
-      "date-parts": [
-        [
-          2019
-        ]
-      ]
-    }
+      "date-parts": [["2019"]]
+    },
+    "citation-key": "stoic"
   },
   {
-    "id": "oed-serendipity",
+    "id": "http://zotero.org/users/1234567/items/FIZRJABE",
     "type": "entry-dictionary",
-    "title": "serendipity, <i>n.</i>",
     "container-title": "Oxford English Dictionary",
     "publisher": "Oxford University Press",
+    "title": "serendipity, <i>n.</i>",
     "issued": {
-      "date-parts": [
-        [
-          2012,
-          3
-        ]
-      ]
-    }
+      "date-parts": [["2012", 3]]
+    },
+    "citation-key": "oed-serendipity"
   },
   {
-    "id": "britannica-typography",
+    "id": "http://zotero.org/users/1234567/items/DG7Q3A57",
     "type": "entry-encyclopedia",
-    "title": "Typography",
     "container-title": "Encyclopædia Britannica",
+    "title": "Typography",
     "volume": 28,
     "author": [
       {
@@ -438,24 +369,28 @@ pub(super) const FIRST: &str = r#"[
       }
     ],
     "issued": {
-      "date-parts": [
-        [
-          1911
-        ]
-      ]
-    }
+      "date-parts": [["1911"]]
+    },
+    "citation-key": "britannica-typography"
   },
   {
-    "id": "dickens1859",
+    "id": "http://zotero.org/users/1234567/items/DELCZDXZ",
     "type": "book",
-    "title": "A Tale of Two Cities",
-    "shortTitle": "Two Cities",
-    "publisher": "Chapman & Hall",
-    "publisher-place": "London",
+    "abstract": "It was the best of times, it was the worst of times.",
+    "collection-number": "102",
+    "collection-title": "Everyman's Library",
+    "edition": "3rd",
+    "event-place": "London",
+    "ISBN": "978-0-00-000000-2",
     "number-of-pages": "341",
     "number-of-volumes": 2,
-    "ISBN": "978-0-00-000000-2",
-    "edition": "3rd",
+    "original-publisher": "All the Year Round",
+    "original-title": "A Tale of Two Cities, in monthly parts",
+    "publisher": "Chapman & Hall",
+    "publisher-place": "London",
+    "shortTitle": "Two Cities",
+    "source": "Library Catalog",
+    "title": "A Tale of Two Cities",
     "author": [
       {
         "family": "Dickens",
@@ -469,53 +404,39 @@ pub(super) const FIRST: &str = r#"[
       }
     ],
     "issued": {
-      "date-parts": [
-        [
-          1949
-        ]
-      ]
+      "date-parts": [["1949"]]
     },
     "original-date": {
-      "date-parts": [
-        [
-          1859
-        ]
-      ]
+      "date-parts": [["1859"]]
     },
-    "original-title": "A Tale of Two Cities, in monthly parts",
-    "original-publisher": "All the Year Round",
-    "collection-title": "Everyman's Library",
-    "collection-number": "102",
-    "abstract": "It was the best of times, it was the worst of times.",
     "citation-key": "dickens1859"
   },
   {
-    "id": "homer-iliad",
+    "id": "http://zotero.org/users/1234567/items/VFZCIN3M",
     "type": "classic",
+    "language": "grc",
     "title": "Iliad",
     "author": [
       {
         "literal": "Homer"
       }
     ],
-    "issued": {
-      "date-parts": [
-        [
-          -750
-        ]
-      ]
-    },
     "translator": [
       {
         "family": "Lattimore",
         "given": "Richmond"
       }
     ],
-    "language": "grc"
+    "issued": {
+      "date-parts": [["-750"]]
+    },
+    "citation-key": "homer-iliad"
   },
   {
-    "id": "paine1776",
+    "id": "http://zotero.org/users/1234567/items/2MXBRHIU",
     "type": "pamphlet",
+    "event-place": "Philadelphia",
+    "publisher-place": "Philadelphia",
     "title": "Common Sense",
     "author": [
       {
@@ -524,25 +445,23 @@ pub(super) const FIRST: &str = r#"[
       }
     ],
     "issued": {
-      "date-parts": [
-        [
-          1776,
-          1,
-          10
-        ]
-      ],
+      "date-parts": [["1776", 1, 10]],
       "circa": true
     },
-    "publisher-place": "Philadelphia"
+    "citation-key": "paine1776"
   },
   {
-    "id": "shannon1940",
+    "id": "http://zotero.org/users/1234567/items/CQ7NTRXT",
     "type": "thesis",
-    "title": "An algebra for theoretical genetics",
+    "archive": "MIT Libraries",
+    "archive-place": "Cambridge",
+    "call-number": "QH 1940",
+    "event-place": "Cambridge, MA",
     "genre": "PhD thesis",
+    "number-of-pages": 69,
     "publisher": "Massachusetts Institute of Technology",
     "publisher-place": "Cambridge, MA",
-    "number-of-pages": 69,
+    "title": "An algebra for theoretical genetics",
     "author": [
       {
         "family": "Shannon",
@@ -550,19 +469,15 @@ pub(super) const FIRST: &str = r#"[
       }
     ],
     "issued": {
-      "date-parts": [
-        [
-          1940
-        ]
-      ]
+      "date-parts": [["1940"]]
     },
-    "archive": "MIT Libraries",
-    "archive-place": "Cambridge",
-    "call-number": "QH 1940"
+    "citation-key": "shannon1940"
   },
   {
-    "id": "galois1832",
+    "id": "http://zotero.org/users/1234567/items/J54N4WFU",
     "type": "manuscript",
+    "archive": "Institut de France",
+    "archive_location": "Ms 2108",
     "title": "Lettre à Chevalier",
     "author": [
       {
@@ -571,22 +486,17 @@ pub(super) const FIRST: &str = r#"[
       }
     ],
     "issued": {
-      "date-parts": [
-        [
-          1832,
-          5,
-          29
-        ]
-      ]
+      "date-parts": [["1832", 5, 29]]
     },
-    "archive": "Institut de France",
-    "archive_location": "Ms 2108"
+    "citation-key": "galois1832"
   },
   {
-    "id": "bell1876",
+    "id": "http://zotero.org/users/1234567/items/ITV2MD8F",
     "type": "patent",
-    "title": "Improvement in telegraphy",
+    "authority": "United States Patent Office",
+    "event-place": "Washington",
     "number": "US174465",
+    "title": "Improvement in telegraphy",
     "author": [
       {
         "family": "Bell",
@@ -594,15 +504,8 @@ pub(super) const FIRST: &str = r#"[
       }
     ],
     "issued": {
-      "date-parts": [
-        [
-          1876,
-          3,
-          7
-        ]
-      ]
+      "date-parts": [["1876", 3, 7]]
     },
-    "authority": "United States Patent Office",
-    "event-place": "Washington"
+    "citation-key": "bell1876"
   },
 "#;

@@ -1,69 +1,58 @@
 //! The other items of `examples/zotero.json`.
 
 pub(super) const SECOND: &str = r#"  {
-    "id": "ipcc2021",
+    "id": "http://zotero.org/users/1234567/items/ZI423W7M",
     "type": "report",
-    "title": "Climate Change 2021: The Physical Science Basis",
+    "collection-title": "Assessment Reports",
+    "event-place": "Geneva",
     "number": "AR6 WG I",
     "publisher": "IPCC",
     "publisher-place": "Geneva",
+    "title": "Climate Change 2021: The Physical Science Basis",
     "author": [
       {
         "literal": "Intergovernmental Panel on Climate Change"
       }
     ],
     "issued": {
-      "date-parts": [
-        [
-          2021
-        ]
-      ]
+      "date-parts": [["2021"]]
     },
-    "collection-title": "Assessment Reports"
+    "citation-key": "ipcc2021"
   },
   {
-    "id": "iso8601",
+    "id": "http://zotero.org/users/1234567/items/U6USQT9K",
     "type": "standard",
-    "title": "Date and time — Representations for information interchange",
     "number": "ISO 8601-1:2019",
     "publisher": "International Organization for Standardization",
+    "title": "Date and time — Representations for information interchange",
     "issued": {
-      "date-parts": [
-        [
-          2019,
-          2
-        ]
-      ]
-    }
+      "date-parts": [["2019", 2]]
+    },
+    "citation-key": "iso8601"
   },
   {
-    "id": "cacm",
+    "id": "http://zotero.org/users/1234567/items/QPL3QTHW",
     "type": "periodical",
     "container-title": "Communications of the ACM",
     "ISSN": "0001-0782",
     "issued": {
-      "date-parts": [
-        [
-          1958
-        ]
-      ]
-    }
+      "literal": "January 1958"
+    },
+    "citation-key": "cacm"
   },
   {
-    "id": "nature",
+    "id": "http://zotero.org/users/1234567/items/28NEC82P",
     "type": "periodical",
-    "title": "Nature",
     "publisher": "Springer",
+    "title": "Nature",
     "issued": {
-      "date-parts": [
-        [
-          1869
-        ]
-      ]
-    }
+      "date-parts": [["1869"]],
+      "literal": "1869–"
+    },
+    "citation-key": "nature"
   },
   {
-    "id": "norton",
+    "id": "http://zotero.org/users/1234567/items/UPY99Y6H",
     "type": "collection",
     "title": "The Norton Anthology",
     "editor": [
@@ -73,131 +62,99 @@ pub(super) const SECOND: &str = r#"  {
       }
     ],
     "issued": {
-      "date-parts": [
-        [
-          2018
-        ]
-      ]
-    }
+      "date-parts": [["2018"]]
+    },
+    "citation-key": "norton"
   },
   {
-    "id": "brown1954",
+    "id": "http://zotero.org/users/1234567/items/IHP3TYWU",
     "type": "legal_case",
-    "title": "Brown v. Board of Education",
-    "container-title": "U.S. Reports",
-    "volume": "347",
-    "page": "483",
     "authority": "Supreme Court of the United States",
+    "container-title": "U.S. Reports",
+    "page": "483",
+    "title": "Brown v. Board of Education",
+    "volume": "347",
     "issued": {
-      "date-parts": [
-        [
-          1954,
-          5,
-          17
-        ]
-      ]
-    }
+      "date-parts": [["1954", 5, 17]]
+    },
+    "citation-key": "brown1954"
   },
   {
-    "id": "church1975",
+    "id": "http://zotero.org/users/1234567/items/64NZPDDJ",
     "type": "hearing",
-    "title": "Intelligence activities",
     "container-title": "Senate hearings",
-    "volume": "2",
     "event-place": "Washington, DC",
+    "title": "Intelligence activities",
+    "volume": "2",
     "issued": {
-      "date-parts": [
-        [
-          1975
-        ]
-      ]
-    }
+      "date-parts": [["1975"]]
+    },
+    "citation-key": "church1975"
   },
   {
-    "id": "cra1964",
+    "id": "http://zotero.org/users/1234567/items/8TX4LFC7",
     "type": "legislation",
-    "title": "Civil Rights Act of 1964",
     "container-title": "Statutes at Large",
+    "title": "Civil Rights Act of 1964",
     "volume": "78",
     "issued": {
-      "date-parts": [
-        [
-          1964,
-          7,
-          2
-        ]
-      ]
-    }
+      "date-parts": [["1964", 7, 2]]
+    },
+    "citation-key": "cra1964"
   },
   {
-    "id": "hr1776",
+    "id": "http://zotero.org/users/1234567/items/5YKP5F7X",
     "type": "bill",
-    "title": "Affordable Health Care for America Act",
     "container-title": "Congressional Record",
+    "title": "Affordable Health Care for America Act",
     "issued": {
-      "date-parts": [
-        [
-          2009
-        ]
-      ]
-    }
+      "date-parts": [["2009", 0]]
+    },
+    "citation-key": "hr1776"
   },
   {
-    "id": "cfr40",
+    "id": "http://zotero.org/users/1234567/items/T6IH4DLS",
     "type": "regulation",
-    "title": "Protection of environment",
     "container-title": "Code of Federal Regulations",
+    "title": "Protection of environment",
     "volume": "40",
     "issued": {
-      "date-parts": [
-        [
-          2020
-        ]
-      ]
-    }
+      "date-parts": [["2020"]]
+    },
+    "citation-key": "cfr40"
   },
   {
-    "id": "berne",
+    "id": "http://zotero.org/users/1234567/items/6SI6NBX6",
     "type": "treaty",
-    "title": "Berne Convention",
     "container-title": "UN Treaty Series",
+    "title": "Berne Convention",
     "volume": 828,
     "issued": {
-      "date-parts": [
-        [
-          1886,
-          9,
-          9
-        ]
-      ]
-    }
+      "date-parts": [["1886", 9, 9]]
+    },
+    "citation-key": "berne"
   },
   {
-    "id": "typst-docs",
+    "id": "http://zotero.org/users/1234567/items/CDJYBS8P",
     "type": "webpage",
-    "title": "Bibliography",
     "container-title": "Typst documentation",
+    "title": "Bibliography",
     "URL": "https://typst.app/docs/reference/model/bibliography/",
-    "accessed": {
-      "date-parts": [
-        [
-          2024,
-          5,
-          6
-        ]
-      ]
-    },
     "author": [
       {
         "literal": "Typst GmbH"
       }
-    ]
+    ],
+    "accessed": {
+      "date-parts": [["2024", 5, 6]]
+    },
+    "citation-key": "typst-docs"
   },
   {
-    "id": "tao2007",
+    "id": "http://zotero.org/users/1234567/items/IYUHY6B4",
     "type": "post-weblog",
-    "title": "What is good mathematics?",
     "container-title": "What’s new",
+    "title": "What is good mathematics?",
     "URL": "https://terrytao.wordpress.com/",
     "author": [
       {
@@ -206,14 +163,15 @@ pub(super) const SECOND: &str = r#"  {
       }
     ],
     "issued": {
-      "raw": "2007-02-13"
-    }
+      "raw": "13 February 2007"
+    },
+    "citation-key": "tao2007"
   },
   {
-    "id": "torvalds1991",
+    "id": "http://zotero.org/users/1234567/items/YXDKG3DL",
     "type": "post",
-    "title": "What would you like to see most in minix?",
     "container-title": "comp.os.minix",
+    "title": "What would you like to see most in minix?",
     "author": [
       {
         "family": "Torvalds",
@@ -222,13 +180,16 @@ pub(super) const SECOND: &str = r#"  {
     ],
     "issued": {
       "edtf": "1991-08-25"
-    }
+    },
+    "citation-key": "torvalds1991"
   },
   {
-    "id": "kubrick1968",
+    "id": "http://zotero.org/users/1234567/items/3H6LH98R",
     "type": "motion_picture",
-    "title": "2001: A Space Odyssey",
     "container-title": "Stanley Kubrick Collection",
+    "dimensions": "02:29:00",
+    "original-title": "Journey Beyond the Stars",
+    "title": "2001: A Space Odyssey",
     "director": [
       {
         "family": "Kubrick",
@@ -265,49 +226,37 @@ pub(super) const SECOND: &str = r#"  {
         "given": "Victor"
       }
     ],
-    "dimensions": "02:29:00",
     "issued": {
-      "date-parts": [
-        [
-          1968,
-          4,
-          2
-        ]
-      ]
+      "date-parts": [["1968", 4, 2]]
     },
-    "original-title": "Journey Beyond the Stars"
+    "citation-key": "kubrick1968"
   },
   {
-    "id": "serial2014",
+    "id": "http://zotero.org/users/1234567/items/IPAUS699",
     "type": "broadcast",
-    "title": "The Alibi",
     "container-title": "Serial",
+    "dimensions": "53:31",
     "medium": "podcast",
     "number": "1",
+    "title": "The Alibi",
     "narrator": [
       {
         "family": "Koenig",
         "given": "Sarah"
       }
     ],
-    "dimensions": "53:31",
     "issued": {
-      "date-parts": [
-        [
-          2014,
-          10,
-          3
-        ]
-      ]
-    }
+      "date-parts": [["2014", 10, 3]]
+    },
+    "citation-key": "serial2014"
   },
   {
-    "id": "attenborough2001",
+    "id": "http://zotero.org/users/1234567/items/Q4UYWTQ6",
     "type": "broadcast",
-    "title": "The deep",
     "container-title": "The Blue Planet",
     "genre": "TV series",
     "number": 2,
+    "title": "The deep",
     "contributor": [
       {
         "family": "Attenborough",
@@ -315,18 +264,16 @@ pub(super) const SECOND: &str = r#"  {
       }
     ],
     "issued": {
-      "date-parts": [
-        [
-          2001
-        ]
-      ]
-    }
+      "date-parts": [["2001"]]
+    },
+    "citation-key": "attenborough2001"
   },
   {
-    "id": "simone1964",
+    "id": "http://zotero.org/users/1234567/items/NKRIDFSX",
     "type": "song",
-    "title": "Mississippi Goddam",
     "container-title": "Nina Simone in Concert",
+    "medium": "LP",
+    "title": "Mississippi Goddam",
     "volume": "1",
     "performer": [
       {
@@ -334,20 +281,16 @@ pub(super) const SECOND: &str = r#"  {
         "given": "Nina"
       }
     ],
-    "medium": "LP",
     "issued": {
-      "date-parts": [
-        [
-          1964
-        ]
-      ]
-    }
+      "date-parts": [["1964"]]
+    },
+    "citation-key": "simone1964"
   },
   {
-    "id": "bach1741",
+    "id": "http://zotero.org/users/1234567/items/I9M4LZ59",
     "type": "musical_score",
-    "title": "Aria mit verschiedenen Veränderungen",
     "container-title": "Clavier-Übung",
+    "title": "Aria mit verschiedenen Veränderungen",
     "composer": [
       {
         "family": "Bach",
@@ -355,18 +298,15 @@ pub(super) const SECOND: &str = r#"  {
       }
     ],
     "issued": {
-      "date-parts": [
-        [
-          1741
-        ]
-      ]
-    }
+      "date-parts": [["1741"]]
+    },
+    "citation-key": "bach1741"
   },
   {
-    "id": "snow1854",
+    "id": "http://zotero.org/users/1234567/items/3M9MQZKR",
     "type": "map",
-    "title": "Cholera in Soho",
     "container-title": "Medical maps",
+    "title": "Cholera in Soho",
     "author": [
       {
         "family": "Snow",
@@ -374,20 +314,17 @@ pub(super) const SECOND: &str = r#"  {
       }
     ],
     "issued": {
-      "date-parts": [
-        [
-          1854
-        ]
-      ]
-    }
+      "date-parts": [["1854"]]
+    },
+    "citation-key": "snow1854"
   },
   {
-    "id": "minard1869",
+    "id": "http://zotero.org/users/1234567/items/IUPWMTPP",
     "type": "figure",
-    "title": "Carte figurative",
     "container-title": "Tableaux graphiques",
-    "volume": "3",
     "publisher": "Regnier et Dourdet",
+    "title": "Carte figurative",
+    "volume": "3",
     "author": [
       {
         "family": "Minard",
@@ -395,16 +332,16 @@ pub(super) const SECOND: &str = r#"  {
       }
     ],
     "issued": {
-      "date-parts": [
-        [
-          1869
-        ]
-      ]
-    }
+      "date-parts": [["1869"]]
+    },
+    "citation-key": "minard1869"
   },
   {
-    "id": "rothko1957",
+    "id": "http://zotero.org/users/1234567/items/5IG8EBSM",
     "type": "graphic",
+    "event-place": "Kassel",
+    "event-title": "Documenta II",
+    "medium": "oil on canvas",
     "title": "Red",
     "author": [
       {
@@ -412,38 +349,23 @@ pub(super) const SECOND: &str = r#"  {
         "given": "Mark"
       }
     ],
-    "event-title": "Documenta II",
-    "event-place": "Kassel",
     "curator": [
       {
         "family": "Bode",
         "given": "Arnold"
       }
     ],
-    "medium": "oil on canvas",
     "issued": {
-      "date-parts": [
-        [
-          1957
-        ]
-      ]
-    }
+      "date-parts": [["1957"]]
+    },
+    "citation-key": "rothko1957"
   },
   {
-    "id": "hamming1986",
+    "id": "http://zotero.org/users/1234567/items/5E3THANL",
     "type": "speech",
-    "title": "You and your research",
-    "event-title": "Bell Communications Research Colloquium",
     "event-place": "Morristown",
-    "event-date": {
-      "date-parts": [
-        [
-          1986,
-          3,
-          7
-        ]
-      ]
-    },
+    "event-title": "Bell Communications Research Colloquium",
+    "title": "You and your research",
     "author": [
       {
         "family": "Hamming",
@@ -451,16 +373,17 @@ pub(super) const SECOND: &str = r#"  {
       }
     ],
     "issued": {
-      "date-parts": [
-        [
-          1986
-        ]
-      ]
-    }
+      "date-parts": [["1986"]]
+    },
+    "event-date": {
+      "date-parts": [["1986", 3, 7]]
+    },
+    "citation-key": "hamming1986"
   },
   {
-    "id": "godot1953",
+    "id": "http://zotero.org/users/1234567/items/NXTIFID7",
     "type": "performance",
+    "event-place": "Paris",
     "title": "En attendant Godot",
     "director": [
       {
@@ -473,22 +396,16 @@ pub(super) const SECOND: &str = r#"  {
         "literal": "Théâtre de Babylone"
       }
     ],
-    "event-place": "Paris",
     "issued": {
-      "date-parts": [
-        [
-          1953,
-          1,
-          5
-        ]
-      ]
-    }
+      "date-parts": [["1953", 1, 5]]
+    },
+    "citation-key": "godot1953"
   },
   {
-    "id": "turing-interview",
+    "id": "http://zotero.org/users/1234567/items/WABQ7UYC",
     "type": "interview",
-    "title": "Can machines think?",
     "container-title": "BBC Third Programme",
+    "title": "Can machines think?",
     "author": [
       {
         "family": "Turing",
@@ -496,15 +413,12 @@ pub(super) const SECOND: &str = r#"  {
       }
     ],
     "issued": {
-      "date-parts": [
-        [
-          1952
-        ]
-      ]
-    }
+      "date-parts": [["1952"]]
+    },
+    "citation-key": "turing-interview"
   },
   {
-    "id": "orwell-oral",
+    "id": "http://zotero.org/users/1234567/items/IGHT93VQ",
     "type": "interview",
     "title": "On spelling",
     "author": [
@@ -514,13 +428,12 @@ pub(super) const SECOND: &str = r#"  {
       }
     ],
     "issued": {
-      "date-parts": [
-        []
-      ]
-    }
+      "date-parts": [[]]
+    },
+    "citation-key": "orwell-oral"
   },
   {
-    "id": "einstein1939",
+    "id": "http://zotero.org/users/1234567/items/37G4ISIV",
     "type": "personal_communication",
     "title": "Letter to F. D. Roosevelt",
     "author": [
@@ -530,39 +443,30 @@ pub(super) const SECOND: &str = r#"  {
       }
     ],
     "issued": {
-      "date-parts": [
-        [
-          1939,
-          8,
-          2
-        ]
-      ],
+      "date-parts": [["1939", 8, 2]],
       "season": "2"
-    }
+    },
+    "citation-key": "einstein1939"
   },
   {
-    "id": "typst",
+    "id": "http://zotero.org/users/1234567/items/5YR7VKES",
     "type": "software",
-    "title": "Typst",
     "publisher": "Typst GmbH",
-    "version": "0.12.0",
+    "source": "GitHub",
+    "title": "Typst",
     "URL": "https://github.com/typst/typst",
+    "version": "0.12.0",
     "issued": {
-      "date-parts": [
-        [
-          2024,
-          10,
-          18
-        ]
-      ]
-    }
+      "date-parts": [["2024", 10, 18]]
+    },
+    "citation-key": "typst"
   },
   {
-    "id": "iris",
+    "id": "http://zotero.org/users/1234567/items/8TV49BAB",
     "type": "dataset",
-    "title": "Iris",
     "container-title": "UCI Machine Learning Repository",
     "DOI": "10.24432/C56C76",
+    "title": "Iris",
     "compiler": [
       {
         "family": "Fisher",
@@ -570,35 +474,22 @@ pub(super) const SECOND: &str = r#"  {
       }
     ],
     "issued": {
-      "date-parts": [
-        [
-          1936
-        ]
-      ]
-    }
+      "date-parts": [["1936"]]
+    },
+    "citation-key": "iris"
   },
   {
-    "id": "worldcon",
+    "id": "http://zotero.org/users/1234567/items/QBGPEF9N",
     "type": "event",
-    "title": "World Science Fiction Convention",
     "event-place": "Glasgow",
+    "title": "World Science Fiction Convention",
     "issued": {
-      "date-parts": [
-        [
-          2024,
-          8,
-          8
-        ],
-        [
-          2024,
-          8,
-          12
-        ]
-      ]
-    }
+      "date-parts": [["2024", 8, 8], ["2024", 8, 12]]
+    },
+    "citation-key": "worldcon"
   },
   {
-    "id": "memo",
+    "id": "http://zotero.org/users/1234567/items/8P4YJI4Z",
     "type": "document",
     "title": "A memo on {braces}, $5 and \\ signs",
     "author": [
@@ -608,7 +499,8 @@ pub(super) const SECOND: &str = r#"  {
     ],
     "issued": {
       "literal": "last spring"
-    }
+    },
+    "citation-key": "memo"
   },
   {
     "id": 4711,
