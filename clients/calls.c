@@ -205,11 +205,13 @@ static void json(void) {
     haya_library_query(&library, BYTES("article > periodical"), &hits);
     is(haya_hits_key(&hits, 0, &text) && says(text, "paper"), "it is asked");
     haya_library_read_json(BYTES("{\"paper\": {\"type\": \"article\", \"date\": \"then\"}}"), &library);
+    is(library.code == HAYA_DONE && haya_library_len(&library) == 1, "a library with a value that isn't read");
+    haya_library_read_json(BYTES("{\"paper\": [\"article\"]}"), &library);
     is(library.code == HAYA_REFUSED_VALUE && library.line == 0 && haya_refusal(&library.slot, &text)
-           && says(text, "/paper/date: no date"), "the place of a refused value");
+           && says(text, "/paper: expected an object"), "the place of a refused value");
     is(haya_library_len(&library) == 0, "a refusal isn't a library");
     haya_library_read_json(BYTES("{"), &library);
-    is(library.code == HAYA_NOT_JSON && haya_refusal(&library.slot, &text) && says(text, "line 1, column 2: no JSON"), "no JSON");
+    is(library.code == HAYA_NOT_JSON && haya_refusal(&library.slot, &text) && says(text, "line 1, column 2: invalid JSON"), "no JSON");
     haya_library_read_json(BYTES("{\"a\": {\"type\": \"book\"}, \"a\": {\"type\": \"book\"}}"), &library);
     is(library.code == HAYA_NAME_TWICE, "a member twice");
     haya_library_read_json(BYTES("\xff"), &library);

@@ -22,16 +22,19 @@ find_crates() {
     done
 }
 
-# Whether the file $2 is a program, and newer than all that the program $1 is made of.
+# Whether the file $2 is a program, and newer than all that the program $1 is compiled from.
 is_current() {
     local crate crates made_of=("$top/crates.txt")
     [ -x "$2" ] || return
     find_crates "$1"
-    for crate in "${crates[@]}"; do made_of+=("$top/crates/$crate"/{src,specs}); done
+    for crate in "${crates[@]}"; do made_of+=("$top/crates/$crate/src"); done
     [ -z "$(find "${made_of[@]}" -newer "$2" -print -quit 2> /dev/null)" ]
 }
 
-# Prints `sha256  path` for each file that these programs are made of, but for hidden files and editors' copies.
+# Prints the files below these folders, but for hidden files and editors' copies, in one order on every machine.
+files_below() { find "$@" -type f ! -name '.*' ! -name '*~' 2> /dev/null | LC_ALL=C sort -u; }
+
+# Prints `sha256  path` for each file that these programs are proved of and made of.
 source_sums() {
     local name crate crates files folders=()
     for name in "$@"; do
@@ -40,19 +43,56 @@ source_sums() {
     done
     (
         cd "$top" || exit
-        mapfile -t files < <(find "${folders[@]}" -type f ! -name '.*' ! -name '*~' 2> /dev/null | LC_ALL=C sort -u)
+        mapfile -t files < <(files_below "${folders[@]}")
         sha256sum crates.txt "${files[@]}" 2> /dev/null
     )
 }
 
-# Prints what dist/SOURCES is to have, with the kit's line $1: that, and the sums of what dist/ holds and of its sources.
+# Writes what of each file given is compiled into a file of the folder `room`, named by its path with % for /: no comments, no
+# blank lines, no ghost lines and clauses with the lines that are indented below them, as `rt fmt` sets them, and no module of
+# tests. Lines of a text that goes on past its own line stay as they are.
+# shellcheck disable=SC2016 # the words with $ are awk's
+code_of='
+    FNR == 1 { close(out); out = FILENAME; gsub("/", "%", out); out = room "/" out; printf "" > out; in_text = skips = is_test = 0 }
+    { text = $0; gsub(/\\./, "", text); gsub(/\047"\047/, "", text); turns = gsub(/"/, "", text) % 2 }
+    in_text { print > out; if (turns) in_text = 0; next }
+    /^ *(\/\/|$)/ { next }
+    { match($0, /^ */); depth = RLENGTH }
+    skips && depth > at { next }
+    { skips = 0 }
+    /^ *(pub )?(ghost|ensures|requires) / { skips = 1; at = depth; next }
+    /^ *#\[cfg\(test\)\]$/ { is_test = 1; held = $0; next }
+    is_test { is_test = 0; if ($0 ~ /^ *mod [a-z_]+;$/) next; print held > out }
+    { print > out; in_text = turns }
+'
+
+# Prints `sha256  path` for what is compiled of each file that these programs are made of, and for their lines of crates.txt.
+code_sums() {
+    local name crate crates line files folders=() needed=' '
+    for name in "$@"; do
+        find_crates "$name"
+        for crate in "${crates[@]}"; do folders+=("crates/$crate/src") needed+="$crate "; done
+    done
+    (
+        room=$(mktemp -d) && trap 'rm -rf "$room"' EXIT && cd "$top" || exit
+        mapfile -t files < <(files_below "${folders[@]}" | grep -v -e '/tests\.rt$' -e '/tests/')
+        while read -r line; do [[ $needed != *" ${line%%[ :]*} "* ]] || echo "$line"; done < crates.txt > "$room/crates.txt"
+        LC_ALL=C awk -v "room=$room" "$code_of" "${files[@]}" < /dev/null
+        cd "$room" && LC_ALL=C && sha256sum -- * | sed 's|%|/|g'
+    )
+}
+
+# The first line of dist/SOURCES. One of another kind of sums begins otherwise.
+sources_head='# What dist/ holds, and the code that it was compiled from, as sums of SHA-256. dist/refresh writes this file.'
+
+# Prints what dist/SOURCES is to have, with the kit's line $1: that, and the sums of what dist/ holds and of its sources' code.
 listing() {
     local name files=()
     for name in "${programs[@]}" "$library"; do files+=("dist/$(product "$name")"); done
-    echo '# What dist/ holds and what that is made of, as sha256sum -c reads it. dist/refresh writes this file.'
+    echo "$sources_head"
     echo "# Proved and built with $1"
     (cd "$top" && sha256sum "${files[@]}" 2> /dev/null)
-    source_sums "${programs[@]}" "$library"
+    code_sums "${programs[@]}" "$library"
 }
 
 # Prints the kit's line that dist/SOURCES has.
@@ -72,7 +112,7 @@ find_difference() {
 sources_match() {
     local differs
     find_difference
-    [ -z "$differs" ] || { echo "dist/SOURCES doesn't match $differs: ./prove, then dist/refresh"; return 1; }
+    [ -z "$differs" ] || { echo "dist/SOURCES doesn't match $differs: ./prove --program, then dist/refresh"; return 1; }
 }
 
 # Sets `lacks` to what keeps dist/'s objects from running on this machine, or to nothing.
@@ -194,14 +234,16 @@ link_program() {
     fi
 }
 
-# Sets `program` to a new program $1 in one of the folders that follow: one that is linked from dist/, or else one that is
-# proved and built.
+# Sets `program` to a new program $1 in one of the folders that follow: one that is linked from dist/, or else, where HAYA_BUILD
+# asks for that, one that is proved and built.
 make_program() {
     local name=$1 began why
     began=$(date +%s.%N) program=
     link_program "$@" && return
     command -v rt > /dev/null || cannot_run "$why, and the Rattle kit's command rt, which makes it anew, is not on the PATH"
-    echo "$name: $why: it is proved and built anew (rt try, in crates/$name, runs an edit unproved)" >&2
+    [ "${HAYA_BUILD:-}" = 1 ] ||
+        cannot_run "$why: rt try in crates/$name runs it unproved, in minutes; ./prove --program proves and builds it, in three quarters of an hour, as HAYA_BUILD=1 ./$name does"
+    echo "$name: $why: it is proved and built anew" >&2
     build "$name" >&2 || cannot_run 'not proved or not built'
     program=$top/crates/$name/out/$name
 }

@@ -7,13 +7,20 @@
 
    and a call's first line is `call MEMORY`, behind the line that the test prints, which names it. What the test tells is
    told by requests of sizes that no block has: crates/NAME/src/refused/marks.rt has the same. */
+/* A program that marks nothing is run so as a whole where REFUSE_EACH is set: `lines` runs it once for each line of
+   standard input, which is then all of its input, and `all` once with all of it. It is out of memory where it ends with
+   a status other than 0, its last line on standard error says so, and what it printed are whole lines of what it prints
+   otherwise; where it ends with the status 1 it may leave out a hint instead. Its normal answer is the status and all that
+   it prints and says where nothing is refused. */
 #define _GNU_SOURCE
 #include <errno.h>
+#include <fcntl.h>
 #include <signal.h>
 #include <stdio.h>
 #include <stdlib.h>
 #include <string.h>
 #include <sys/mman.h>
+#include <sys/stat.h>
 #include <sys/wait.h>
 #include <unistd.h>
 
@@ -160,4 +167,135 @@ int posix_memalign(void **at, size_t align, size_t size) {
     given = memalign(align, size);
     if (given != NULL) *at = given;
     return given != NULL ? 0 : ENOMEM;
+}
+
+/* What a program leaves: its status, and what it printed and said, in files of memory. */
+static struct left { int status, files[2]; char *texts[2]; size_t sizes[2]; } normally, now;
+
+static char *mapped(int file, size_t *size) {
+    struct stat found;
+    if (fstat(file, &found) != 0) _exit(95);
+    *size = found.st_size;
+    return *size == 0 ? "" : mmap(NULL, *size, PROT_READ, MAP_SHARED, file, 0);
+}
+
+static int ends_with(const char *text, size_t size, const char *end) {
+    size_t length = strlen(end);
+    return size >= length && memcmp(text + size - length, end, length) == 0;
+}
+
+static int is_alike(int at) {
+    return now.sizes[at] == normally.sizes[at] && memcmp(now.texts[at], normally.texts[at], now.sizes[at]) == 0;
+}
+
+static int answer_of(void) {
+    const char *out = now.texts[0];
+    size_t size = now.sizes[0];
+    if (now.status == normally.status && is_alike(0)) {
+        if (is_alike(1)) return NORMAL;
+        /* A hint is left out: it is said where nothing is found. */
+        if (WIFEXITED(now.status) && WEXITSTATUS(now.status) == 1 && now.sizes[1] < normally.sizes[1] &&
+            memcmp(now.texts[1], normally.texts[1], now.sizes[1]) == 0) return OUT_OF_MEMORY;
+    }
+    if (!WIFEXITED(now.status) || WEXITSTATUS(now.status) == 0) return NO_MARK;
+    if (!ends_with(now.texts[1], now.sizes[1], "out of memory\n")) return NO_MARK;
+    if (size > normally.sizes[0] || memcmp(out, normally.texts[0], size) != 0) return NO_MARK;
+    return size == 0 || out[size - 1] == '\n' ? OUT_OF_MEMORY : NO_MARK;
+}
+
+/* Runs the program over this input in a copy, with the request number n refused, all where n is 0, or none. Answers
+   whether this is the copy; the other has waited for it. */
+static int is_program(const char *input, size_t size, unsigned long n) {
+    pid_t child;
+    *told = (struct told){0, 0};
+    nth = n, refuses_all = n == 0;
+    for (int at = 0; at < 2; at++) now.files[at] = memfd_create("left", 0);
+    child = fork();
+    if (child < 0) _exit(98);
+    if (child == 0) {
+        int file = memfd_create("input", 0);
+        for (size_t sent = 0; sent < size;) {
+            ssize_t count = write(file, input + sent, size - sent);
+            if (count <= 0) _exit(94);
+            sent += count;
+        }
+        lseek(file, 0, SEEK_SET);
+        dup2(file, STDIN_FILENO), dup2(now.files[0], STDOUT_FILENO), dup2(now.files[1], STDERR_FILENO);
+        is_run = is_within = 1;
+        alarm(SECONDS);
+        return 1;
+    }
+    while (waitpid(child, &now.status, 0) < 0 && errno == EINTR) {}
+    for (int at = 0; at < 2; at++) now.texts[at] = mapped(now.files[at], &now.sizes[at]);
+    return 0;
+}
+
+static void let_go(struct left *left) {
+    for (int at = 0; at < 2; at++) {
+        if (left->sizes[at] != 0) munmap(left->texts[at], left->sizes[at]);
+        close(left->files[at]);
+    }
+}
+
+/* Tells of the run, whose request n was refused. */
+static void say_answer(unsigned long n) {
+    nth = n, refuses_all = n == 0;
+    told->answer = answer_of();
+    say_run(now.status);
+    let_go(&now);
+}
+
+/* Of so many requests, the first ones are refused, fewer where the input is large, and then some up to the last. */
+#define FIRST_ONES 400
+#define FIRST_OF_LARGE 40
+#define LARGE 65536
+
+/* Runs the program over this input with each request refused in turn. Answers whether this is one of the runs. */
+static int runs_program(const char *input, size_t size) {
+    unsigned long most, step, n, first = size > LARGE ? FIRST_OF_LARGE : FIRST_ONES;
+    if (is_program(input, size, NONE)) return 1;
+    normally = now, most = told->requests;
+    step = most > first ? (most - first) / SOME + 1 : 1;
+    for (n = 1; n <= most; n += n < first ? 1 : step) {
+        if (is_program(input, size, n)) return 1;
+        say_answer(n);
+    }
+    if (is_program(input, size, most + 1)) return 1;
+    say_answer(most + 1);
+    if (is_program(input, size, 0)) return 1;
+    say_answer(0);
+    let_go(&normally);
+    return 0;
+}
+
+/* The kind of a line, up to its first tab, and the rest. */
+static void say_row(const char *line, size_t size) {
+    const char *tab = memchr(line, '\t', size);
+    size_t kind = tab ? (size_t)(tab - line) : size, rest = tab ? size - kind - 1 : 0;
+    say("row ", 4), say(line, kind), say(": ", 2), say(tab ? tab + 1 : "", rest < 100 ? rest : 100);
+    say("\ncall optional\n", 15);
+}
+
+__attribute__((constructor)) static void run_programs(void) {
+    static char input[1 << 23];
+    const char *how = getenv("REFUSE_EACH"), *what = getenv("REFUSE_NAME");
+    size_t size = 0, at = 0, length;
+    ssize_t count;
+    if (how == NULL) return;
+    told = mmap(NULL, sizeof *told, PROT_READ | PROT_WRITE, MAP_SHARED | MAP_ANONYMOUS, -1, 0);
+    if (told == MAP_FAILED) _exit(97);
+    while ((count = read(STDIN_FILENO, input + size, sizeof input - size)) > 0) size += count;
+    if (strcmp(how, "all") == 0) {
+        say("row ", 4), say(what, strlen(what)), say("\ncall optional\n", 15);
+        if (runs_program(input, size)) return;
+    } else {
+        for (; at < size; at += length) {
+            const char *end = memchr(input + at, '\n', size - at);
+            length = end ? (size_t)(end - input) - at + 1 : size - at;
+            say_row(input + at, end ? length - 1 : length);
+            if (runs_program(input + at, length)) return;
+        }
+    }
+    say("test result: ok\n", 16);
+    _exit(0);
 }

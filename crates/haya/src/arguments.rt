@@ -39,11 +39,11 @@ pub fn request_of(alloc: Global, words: &[String]) -> Result<Request, Error> {
 }
 
 // The names that options take as values: those of each enum's `ALL`, in order.
-const FORMATS: [&str; 4] = ["hayagriva", "csl-json", "json-lines", "lines"];
+const FORMATS: [&str; 5] = ["hayagriva", "yaml", "csl-json", "json-lines", "lines"];
 
 const KEYS: [&str; 2] = ["citation-key", "id"];
 
-const FORMS: [&str; 4] = ["keys", "lines", "hayagriva", "json-lines"];
+const FORMS: [&str; 5] = ["keys", "lines", "hayagriva", "yaml", "json-lines"];
 
 const LISTS: [&str; 3] = ["types", "fields", "formats"];
 

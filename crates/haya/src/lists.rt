@@ -110,6 +110,7 @@ fn push_name(text: &mut String, name: &str, width: usize) -> Result<(), AllocErr
 fn format_words(format: Format) -> &'static str {
     match format {
         Format::Hayagriva => "hayagriva's file format, written as JSON",
+        Format::Yaml => "hayagriva's file format, as people write it; -f hayagriva reads both",
         Format::CslJson(_) => "CSL-JSON, as Zotero and pandoc write it",
         Format::JsonLines => "a line of JSON an entry: its key, and itself in hayagriva's format",
         Format::Lines => "a line an entry: a depth, a key, a type and fields, with tabs between",
@@ -122,6 +123,7 @@ fn form_words(form: Form) -> &'static str {
         Form::Keys => "a line a hit: its key, and name=key for each name that is bound",
         Form::Lines => format_words(Format::Lines),
         Form::Hayagriva => format_words(Format::Hayagriva),
+        Form::Yaml => format_words(Format::Yaml),
         Form::JsonLines => format_words(Format::JsonLines),
     }
 }

@@ -1,8 +1,8 @@
 //! Asks the entries of files one after another, as they are read.
 use haya_command::{
-    Asker, Fault, Format, MARKED_BLOCK, Options, SIGNATURE_LEN, STANDARD_INPUT, ask_csl_json,
-    ask_hayagriva, ask_json_lines, ask_lines, check_selector, complain, end_asking, input_format,
-    read_block, tell_notes, warn, without_mark,
+    Asker, Fault, Format, InputNotes, MARKED_BLOCK, Options, SIGNATURE_LEN, STANDARD_INPUT,
+    ask_csl_json, ask_hayagriva, ask_json_lines, ask_lines, check_selector, complain, end_asking,
+    input_format, read_block, tell_notes, told_text, warn, without_mark,
 };
 use hayagriva::HashKeys;
 use std::alloc::Global;
@@ -97,15 +97,14 @@ fn ask_input<'o, R: Read + Drop, W: Write, E: Write>(
     let given = asker.options.from;
     let first = first_bytes(alloc, name, given, &mut input)?;
     let format = input_format(alloc, name, given, first.as_slice())?.keyed_by(asker.options.key);
-    let mut notes = String::new(alloc);
     let whole = Cursor::new(first).chain(input);
-    let asked = ask_rest(asker, name, format, &mut notes, whole, out)?;
+    let (asked, notes) = ask_rest(alloc, asker, name, format, whole, out)?;
     tell_notes(asked.options, notes.as_str(), err);
     Ok(asked)
 }
 
 // The first bytes of an input that is called so, without a byte order mark: so many as tell its
-// format, or, where one is given, whether it is in another encoding, or an archive.
+// format, or, where that is given, whether it is in another encoding, or an archive.
 fn first_bytes<R: Read>(
     alloc: Global,
     name: &str,
@@ -114,8 +113,8 @@ fn first_bytes<R: Read>(
 ) -> Result<Vec<u8>, Fault> {
     let mut block = [0u8; MARKED_BLOCK];
     let most = match given {
+        None | Some(Format::Hayagriva) => MARKED_BLOCK,
         Some(_) => SIGNATURE_LEN,
-        None => MARKED_BLOCK,
     };
     match read_block(input, &mut block[..most]) {
         Ok(len) => {
@@ -130,19 +129,27 @@ fn first_bytes<R: Read>(
     }
 }
 
-// Asks the entries of an input in this format.
+// Asks the entries of an input in this format, and answers the lines of what is told of it.
 fn ask_rest<'o, R: Read + Drop, W: Write>(
+    alloc: Global,
     asker: Asker<'o>,
     name: &str,
     format: Format,
-    notes: &mut String,
     mut input: R,
     out: &mut W,
-) -> Result<Asker<'o>, Fault> {
-    match format {
-        Format::Lines => ask_lines(asker, name, &mut input, out),
-        Format::JsonLines => ask_json_lines(asker, name, notes, &mut input, out),
-        Format::CslJson(key) => ask_csl_json(asker, key, name, notes, &mut input, out),
-        Format::Hayagriva => ask_hayagriva(asker, name, notes, &mut input, out),
-    }
+) -> Result<(Asker<'o>, String), Fault> {
+    let (asked, notes) = match format {
+        Format::Lines => {
+            let asked = ask_lines(asker, name, &mut input, out)?;
+            return Ok((asked, String::new(alloc)));
+        }
+        Format::JsonLines => ask_json_lines(asker, name, &mut input, out)?,
+        Format::CslJson(key) => ask_csl_json(asker, key, name, &mut input, out)?,
+        Format::Hayagriva => ask_hayagriva(asker, name, &mut input, out)?,
+        Format::Yaml => return Err(Fault::NotStreamed(String::from_str(alloc, name)?)),
+    };
+    let mut told = Vec::new(alloc);
+    told.push(InputNotes::new(alloc, name, notes)?)?;
+    let text = told_text(alloc, told.as_slice())?;
+    Ok((asked, text))
 }

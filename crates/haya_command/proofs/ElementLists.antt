@@ -1,21 +1,16 @@
 -- The elements of an input whose bytes are known, as they are asked.
-use Rattle.std.proofs.Common.{◌≡◌, ◌≢◌, ◌⊎◌, inl, inr, IsTrue, ℕ, Bool, ◌&&◌, List, [], Option, None, Some, refl, sym, ◌∙◌, subst, append-nil}
+use Rattle.std.proofs.Common.{◌≡◌, ◌⊎◌, inl, inr, IsTrue, ℕ, Bool, ◌&&◌, List, [], Option, None, Some, refl, sym, ◌∙◌, subst, append-nil, IsFalse}
+use Rattle.haya_command.specs.Form.{is_library}
 use Rattle.std.specs.List.{AllZip}
 use Rattle.std.specs.Prelude.{nat_lt}
 use Rattle.std.specs.Io.KnownBytes.{Consumes, IsAtEnd}
 use Rattle.std.specs.Str.Lines.{lines}
 use Rattle.hayagriva.specs.Syntax.{Syntax}
 use Rattle.hayagriva.specs.Tree.{Tree}
-use Rattle.haya_csl.specs.ItemLines as item_lines
-use Rattle.haya_csl.specs.ItemLines.{line_told}
 use Rattle.haya_csl.proofs.ItemLists as item_lists
 use Rattle.haya_csl.specs.declared.item_key.ItemKey.{ItemKey}
-use Rattle.haya_json.specs.Ignored.{counts_of}
-use Rattle.haya_json.specs.Notes.{IsNone, NotesView, none_kept}
-use Rattle.haya_json.specs.MemberLines as member_lines
+use Rattle.haya_json.specs.Notes.{NotesView, first_note, kept_of, none_kept}
 use Rattle.haya_json.proofs.MemberLists as member_lists
-use Rattle.haya_json.proofs.NotesKept.{kept_from_none}
-use Rattle.haya_json.specs.declared.ignored.Ignored.{Ignored}
 use Rattle.haya_elements.specs.Elements.{nonempty_lines}
 use Rattle.haya_list.specs.EntryLines.{IsFaultOf, ReadsFirst, ReadsLines}
 use Rattle.haya_list.specs.Listed.{AnswersEnough, AnswersList, AnswersPart, entries_of, printed_of}
@@ -25,19 +20,18 @@ use Rattle.haya_json.specs.declared.error.ElementError.{ElementError}
 use Rattle.haya_json.specs.declared.error.ReadError.TheVariants.{OutOfMemory}
 use Rattle.haya_printing.specs.declared.error.LinesError.{LinesError}
 use Rattle.haya_stream.specs.declared.fault.StreamFault.{StreamFault}
-use Rattle.haya_command.specs.AskedLines.{BeginsLines, BeginsListIn, FirstElementError, IsAccepted, IsElementError, IsElementErrorFor, IsErrorIn, IsLineIn, IsListIn, ReadsElement, ReadsLine, TellsNothing, TellsOfLines, asked_lines, item_kept, line_counted, line_passed_over, of_lines}
-use Rattle.haya_command.specs.Reading.{IsLoss, IsWhole, Tells, names_kept}
+use Rattle.haya_command.specs.AskedLines.{BeginsLines, BeginsListIn, FirstElementError, IsElementError, IsElementErrorFor, IsErrorIn, IsLineIn, IsListIn, ReadsElement, ReadsLine, asked_lines, lines_told}
+use Rattle.haya_command.specs.Reading.{IsLoss}
 use Rattle.haya_command.specs.Streamed.{AsksFirst, AsksInput, AsksPart, IsStreamFault}
 use Rattle.haya_command.specs.declared.fault.Fault.{Fault}
 use Rattle.haya_command.specs.declared.fault.Fault.TheVariants as fault
 use Rattle.haya_command.specs.declared.fault.InputError.{InputError}
 use Rattle.haya_command.specs.declared.fault.InputError.TheVariants.{Element}
-use Rattle.haya_command.specs.declared.form.Form.TheVariants.{Hayagriva}
 use Rattle.haya_command.specs.declared.format.Format.{Format}
 use Rattle.haya_command.specs.declared.format.Format.TheVariants as format
 use Rattle.haya_command.specs.declared.format.Format.TheVariants.{CslJson}
 use Rattle.haya_command.specs.declared.options.Options.{Options}
-use Rattle.haya_command.proofs.EntryLists.{all_told, begins_list, element_error, first_of_all, items_noted, loss_why, names_tallied, none_of_kept, reads_list, says_line}
+use Rattle.haya_command.proofs.EntryLists.{begins_list, element_error, first_of_all, loss_why, reads_list, says_line, told_kept}
 use Rattle.haya_command.proofs.Streams.{Asks, asks_enough, asks_input, asks_part, options_kept, selector_kept, stream_why}
 
 -- an input that is read to its end is the text
@@ -48,27 +42,18 @@ whole_text unread left text bytes known read ends = by left (subst (λ u. Consum
     by None read ends = absurd read
     by (Some rest) read ends = sym (append-nil bytes) ∙ sym (rw ends at read)
 
--- the lines of an array, or of an object, say what it lists, and what is told of it
-pub items_listed : (key : ItemKey) (text : List ℕ) (entries : List Tree) (kept : NotesView) → AllZip (IsLineIn (CslJson key)) (nonempty_lines (lines (asked_lines (CslJson key) text))) entries
-    → kept ≡ all_told (item_kept key) (nonempty_lines (lines (asked_lines (CslJson key) text))) none_kept
-    → IsListIn (CslJson key) text entries × (IsNone kept → TellsNothing (CslJson key) text)
-items_listed key text entries kept each all =
-    let ls = lines (asked_lines (CslJson key) text) in
-    let notes = all ∙ items_noted key ls none_kept ∙ kept_from_none (of_lines (line_told key) ls) in
-    let said : item_lines.LinesList key text entries kept = record { each = each; notes = notes } in
-    (item_lists.list_of_lines key text entries kept said, (λ none. none_of_kept (of_lines (line_told key) ls) (subst IsNone notes none)))
+-- the lines of an array, or of an object, say what it lists
+pub items_listed : (key : ItemKey) (text : List ℕ) (entries : List Tree) → AllZip (IsLineIn (CslJson key)) (nonempty_lines (lines (asked_lines (CslJson key) text))) entries → IsListIn (CslJson key) text entries
+items_listed key text entries each =
+    item_lists.list_of_lines key text entries (kept_of (lines_told (CslJson key) (lines (asked_lines (CslJson key) text)))) (record { each = each; notes = refl })
 
-pub members_listed : {R : Type 0} (passed : R → Ignored) (text : List ℕ) (entries : List Tree) (q : R) → AllZip (IsLineIn format.Hayagriva) (nonempty_lines (lines (asked_lines format.Hayagriva text))) entries
-    → counts_of (passed q) ≡ all_told (line_counted format.Hayagriva) (nonempty_lines (lines (asked_lines format.Hayagriva text))) []
-    → IsListIn format.Hayagriva text entries × (counts_of (passed q) ≡ [] → TellsNothing format.Hayagriva text)
-members_listed passed text entries q each all =
-    let ls = lines (asked_lines format.Hayagriva text) in
-    let said : member_lines.LinesList text entries (counts_of (passed q)) = record { each = each; of_passed_over = all ∙ names_tallied format.Hayagriva ls } in
-    (member_lists.list_of_lines text entries (counts_of (passed q)) said, (λ none. (names_kept (counts_of (passed q)), (passed q, member_lists.ignored_of_lines text entries (passed q) said, refl), (none, refl))))
+pub members_listed : (text : List ℕ) (entries : List Tree) → AllZip (IsLineIn format.Hayagriva) (nonempty_lines (lines (asked_lines format.Hayagriva text))) entries → IsListIn format.Hayagriva text entries
+members_listed text entries each =
+    member_lists.list_of_lines text entries (kept_of (lines_told format.Hayagriva (lines (asked_lines format.Hayagriva text)))) (record { each = each; notes = refl })
 
-module _ {S R K : Type 0} (options : S → Options) (selector : S → Syntax) (hits : S → ℕ) (format : Format) (told : List ℕ → K → K) (number : R → ℕ) (kept : R → K) (Is : R → Type 0)
+module _ {S R : Type 0} (options : S → Options) (selector : S → Syntax) (hits : S → ℕ) (format : Format) (number : R → ℕ) (kept : R → NotesView) (Is : R → Type 0)
     (says : R → List ℕ → Tree → R → Type 0) (refuses : R → List ℕ → ElementError → Type 0)
-    (reads_element : (r : R) (line : List ℕ) (entry : Tree) (q : R) → Is r → says r line entry q → Is q × ReadsElement format told (number r) (kept r) line entry (number q) (kept q))
+    (reads_element : (r : R) (line : List ℕ) (entry : Tree) (q : R) → Is r → says r line entry q → Is q × ReadsElement format (number r) (kept r) line entry (number q) (kept q))
     (refuses_element : (r : R) (line : List ℕ) (e : ElementError) → Is r → refuses r line e → IsElementError format (number r) line e)
     (begins_in : (left : Option (List ℕ)) (part : List ℕ) (entries : List Tree) → BeginsLines format part entries → BeginsListIn format left part entries) where
   abbrev done : S → Bool
@@ -77,13 +62,11 @@ module _ {S R K : Type 0} (options : S → Options) (selector : S → Syntax) (h
   abbrev Reads : R → R → List ℕ → List Tree → Type 0
   Reads r q part entries = ReadsFirst says part entries r q
 
-  line_read : (r : R) (line : List ℕ) (entry : Tree) (q : R) → Is r → says r line entry q → Is q × ReadsLine format told (kept r) line entry (kept q)
-  line_read = says_line format told number kept Is says refuses reads_element refuses_element
+  line_read : (r : R) (line : List ℕ) (entry : Tree) (q : R) → Is r → says r line entry q → Is q × ReadsLine format (kept r) line entry (kept q)
+  line_read = says_line format number kept Is says refuses reads_element refuses_element
 
-  module _ (s t : S) (not : (options s).to ≢ Hayagriva) (r q : R) (is : Is r) (Nothing Something : K → Type 0)
-      (listed_in : (text : List ℕ) (entries : List Tree) → AllZip (IsLineIn format) (nonempty_lines (lines (asked_lines format text))) entries
-      → kept q ≡ all_told told (nonempty_lines (lines (asked_lines format text))) (kept r) → IsListIn format text entries × (Nothing (kept q) → TellsNothing format text))
-      (tells : (ls : List (List ℕ)) → Something (all_told told (nonempty_lines ls) (kept r)) → TellsOfLines format ls)
+  module _ (s t : S) (not : IsFalse (is_library (options s).to)) (r q : R) (is : Is r) (none : kept r ≡ none_kept)
+      (listed_in : (text : List ℕ) (entries : List Tree) → AllZip (IsLineIn format) (nonempty_lines (lines (asked_lines format text))) entries → IsListIn format text entries)
       (unread left before after : Option (List ℕ)) (text : List ℕ) (known : unread ≡ Some text) where
     abbrev pub All : Type 0
     All = AnswersList (λ bytes entries. ReadsLines says (lines (asked_lines format bytes)) entries r q) (Asks options selector hits done) done s t unread left before after
@@ -92,19 +75,21 @@ module _ {S R K : Type 0} (options : S → Options) (selector : S → Syntax) (h
     Enough = (behind : Option (List ℕ)) × AnswersEnough (λ _ part entries. Reads r q part entries) (Asks options selector hits done) done s t (Some (asked_lines format text)) behind before after
 
     begins : (behind : Option (List ℕ)) (part : List ℕ) (entries : List Tree) → Reads r q part entries → BeginsListIn format behind part entries
-    begins behind part entries reads = begins_in behind part entries (begins_list format told kept Is says line_read r is part entries q reads)
+    begins behind part entries reads = begins_in behind part entries (begins_list format kept Is says line_read r is part entries q reads)
 
     -- all are asked, or enough
-    pub elements_asked : (IsTrue (options t).strict → Nothing (kept q)) → All ⊎ Enough
+    pub elements_asked : (IsTrue (options t).strict → first_note (kept q) ≡ None) → All ⊎ Enough
         → (options t ≡ options s) × (selector t ≡ selector s)
-        × (AsksInput format (options s) (selector s) (hits s) (hits t) unread left before after
+        × (AsksInput format (options s) (selector s) (hits s) (hits t) (kept q) unread left before after
         ⊎ (behind : Option (List ℕ)) × AsksFirst format (options s) (selector s) (hits s) (hits t) (Some (asked_lines format text)) behind before after)
     elements_asked accepted (inl a) =
         let same = options_kept options selector hits done s t a.replies not a.run in (
           same,
           selector_kept options selector hits done s t a.replies not a.run,
-          inl (asks_input options selector hits done s t not unread left before after format _
-              (λ bytes entries reads. let all = reads_list format told kept Is says line_read r is _ entries q reads in let list = listed_in bytes entries all.listed all.all in (list.0, (λ strict. list.1 (accepted (rw same strict))))) a),
+          inl (asks_input options selector hits done s t not unread left before after format (kept q) _
+              (λ bytes entries reads.
+              let all = reads_list format kept Is says line_read r is _ entries q reads in
+              (listed_in bytes entries all.listed, all.all ∙ told_kept format (lines (asked_lines format bytes)) (kept r) none)) (λ strict. accepted (rw same strict)) a),
         )
     elements_asked accepted (inr (behind, a)) = (
       options_kept options selector hits done s t a.replies not a.run,
@@ -113,30 +98,30 @@ module _ {S R K : Type 0} (options : S → Options) (selector : S → Syntax) (h
     )
 
     -- a strict run, or out of memory: what was read is asked, and what is printed of it written
-    pub elements_noted : (name : List ℕ) (e : Fault) → (e ≡ fault.OutOfMemory) ⊎ (IsTrue (options t).strict × IsLoss name e × Something (kept q)) → All ⊎ Enough
+    pub elements_noted : (name : List ℕ) (e : Fault) → (e ≡ fault.OutOfMemory) ⊎ (IsTrue (options t).strict × IsLoss name (kept q) e) → All ⊎ Enough
         → (behind : Option (List ℕ)) × AsksPart format name (options s) (selector s) (Some (asked_lines format text)) behind before after e
     elements_noted name e why (inl a) =
         let same = options_kept options selector hits done s t a.replies not a.run in
         let whole = whole_text unread left text a.text known a.read a.at_end in
         let ls = asked_lines format text in
-        let reads = first_of_all format told kept Is says line_read ls (entries_of a.replies) r q (subst (λ x. ReadsLines says (lines (asked_lines format x)) (entries_of a.replies) r q) whole a.list) in (
+        let reads = first_of_all format kept Is says line_read ls (entries_of a.replies) r q (subst (λ x. ReadsLines says (lines (asked_lines format x)) (entries_of a.replies) r q) whole a.list) in (
           Some [],
           asks_part options selector hits done s t not (Some ls) (Some []) before after format name e ls ls a.replies (printed_of a.replies) [] (sym (append-nil ls)) (inl (refl, refl))
               (begins (Some []) ls (entries_of a.replies) reads) a.run (sym (append-nil (printed_of a.replies)))
-              (loss_why format told kept Is says line_read r is Something tells (options s) (options t) name ls (entries_of a.replies) q e same reads why) a.prints,
+              (loss_why format kept Is says line_read r is none (options s) (options t) name ls (entries_of a.replies) q e same reads why) a.prints,
         )
     elements_noted name e why (inr (behind, a)) =
         let same = options_kept options selector hits done s t a.replies not a.run in (
           behind,
           asks_part options selector hits done s t not (Some (asked_lines format text)) behind before after format name e a.text a.part a.replies (printed_of a.replies) [] a.read a.of_text
               (begins behind a.part (entries_of a.replies) a.list) a.run (sym (append-nil (printed_of a.replies)))
-              (loss_why format told kept Is says line_read r is Something tells (options s) (options t) name a.part (entries_of a.replies) q e same a.list why) a.prints,
+              (loss_why format kept Is says line_read r is none (options s) (options t) name a.part (entries_of a.replies) q e same a.list why) a.prints,
         )
 
   module _ (error_in : (part : List ℕ) (x : ElementError) → (x.error ≡ OutOfMemory) ⊎ FirstElementError format part x → IsErrorIn format part (Element x))
-      (s : S) (not : (options s).to ≢ Hayagriva) (r : R) (is : Is r) (first : number r ≡ 0) (before after : Option (List ℕ)) (text : List ℕ) where
+      (s : S) (not : IsFalse (is_library (options s).to)) (r : R) (is : Is r) (first : number r ≡ 0) (before after : Option (List ℕ)) (text : List ℕ) where
     fault_in : (part : List ℕ) (l : EntryFault ElementError) (e : InputError) → IsElementErrorFor l e → IsFaultOf says refuses r part l → IsErrorIn format part e
-    fault_in part l e is_for at = let x = element_error format told number kept Is says refuses reads_element refuses_element r is first part l e is_for at in rw x.1 (error_in part x.0 x.2)
+    fault_in part l e is_for at = let x = element_error format number kept Is says refuses reads_element refuses_element r is first part l e is_for at in rw x.1 (error_in part x.0 x.2)
 
     -- the first are asked, and there the stream has a fault
     pub elements_stopped : (name : List ℕ) (declines : S → Tree → LinesError → Type 0) (sf : StreamFault (ListRefusal (EntryFault ElementError) LinesError)) (e : Fault)
@@ -147,6 +132,6 @@ module _ {S R K : Type 0} (options : S → Options) (selector : S → Syntax) (h
     elements_stopped name declines sf e is_for (behind, a) = (
       behind,
       asks_part options selector hits done s a.last not (Some (asked_lines format text)) behind before after format name e a.text a.part a.replies a.written a.unwritten a.read a.of_text
-          (begins_in behind a.part (entries_of a.replies) (begins_list format told kept Is says line_read r is a.part (entries_of a.replies) a.list.0 a.list.1)) a.run a.parts
+          (begins_in behind a.part (entries_of a.replies) (begins_list format kept Is says line_read r is a.part (entries_of a.replies) a.list.0 a.list.1)) a.run a.parts
           (stream_why (options s) format name (IsFaultOf says refuses r) _ IsElementErrorFor fault_in a.part a.unwritten sf e is_for a.why) a.prints,
     )

@@ -1,16 +1,18 @@
 -- What is seen of a first part is seen of the whole.
-use Rattle.std.proofs.Common.{◌≡◌, ℕ, zero, suc, ◌<◌, ◌≤◌, Bool, List, [], ◌∷◌, ◌++◌, Option, None, Some, length, take, refl, ap, arith, lit≤, nat_eq}
-use Rattle.std.specs.Prelude.{if◌then◌else◌, slice_get}
+use Rattle.std.proofs.Common.{◌≡◌, ℕ, zero, suc, ◌<◌, ◌≤◌, List, [], ◌∷◌, ◌++◌, Option, None, Some, length, take, refl, ap, arith, lit≤, nat_eq}
+use Rattle.std.specs.Prelude.{slice_get}
 use Rattle.std.specs.List.{starts_with}
-use Rattle.std.specs.Option.{option_eq, option_or}
+use Rattle.std.specs.Option.{option_eq}
 use Rattle.std.specs.Str.{bytes_eq}
 use Rattle.std.proofs.lemmas.List.{take-append-le}
-use Rattle.haya_command.specs.Block.{first_text, valid_front}
+use Rattle.haya_command.specs.Block.{valid_front}
 use Rattle.haya_command.specs.Foreign.{Signature, archives, documents, foreign_of, marks, signed_in, wide_text, zero_at}
 use Rattle.haya_command.specs.declared.block.TheConstants.{FIRST_BLOCK}
-use Rattle.haya_command.specs.Formats.{format_for, format_in_text}
-use Rattle.haya_command.specs.Likeness.{first_line, foreign_for, like_text_from, likeness_for}
+use Rattle.haya_command.specs.FirstLine.{first_line}
+use Rattle.haya_command.specs.Formats.{file_format_in_text, format_for, format_in_text}
+use Rattle.haya_command.specs.Likeness.{foreign_for, like_text_from, likeness_for}
 use Rattle.haya_command.specs.declared.format.Format.{Format}
+use Rattle.haya_command.specs.declared.format.Format.TheVariants.{CslJson, Hayagriva, JsonLines, Lines, Yaml}
 
 get_same : (xs ys : List ℕ) (i : ℕ) → i < length xs → slice_get (xs ++ ys) i ≡ slice_get xs i
 get_same [] ys i within = absurd (omega arith)
@@ -50,7 +52,11 @@ module _ (first rest : List ℕ) where
 
   pub format_same : (given : Option Format) → FIRST_BLOCK ≤ length first → format_for given (first ++ rest) ≡ format_for given first
   format_same None long = ap format_in_text (same_text FIRST_BLOCK long)
-  format_same (Some format) long = refl
+  format_same (Some Hayagriva) long = ap file_format_in_text (same_text FIRST_BLOCK long)
+  format_same (Some Yaml) long = refl
+  format_same (Some (CslJson key)) long = refl
+  format_same (Some JsonLines) long = refl
+  format_same (Some Lines) long = refl
 
   likeness_same : (given : Option Format) → FIRST_BLOCK ≤ length first → likeness_for given (first ++ rest) ≡ likeness_for given first
   likeness_same None long = ap (λ text. like_text_from text (first_line text)) (same_text FIRST_BLOCK long)

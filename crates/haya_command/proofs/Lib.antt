@@ -9,6 +9,6 @@ mod Members
 mod PrintedLines
 mod SaidWhole
 mod Streams
-mod Together
+mod CollectedTexts
 mod Written
 mod Settled

@@ -1,5 +1,5 @@
 -- Why hits aren't printed in lines.
-use Rattle.std.proofs.Common.{◌≡◌, ◌⊎◌, inl, inr, ℕ, zero, suc, ◌<◌, Bool, List, [], ◌∷◌, length, map, sym, ap, subst, arith}
+use Rattle.std.proofs.Common.{◌≡◌, inl, inr, ℕ, zero, suc, ◌<◌, Bool, List, [], ◌∷◌, length, map, sym, ap, subst, arith}
 use Rattle.std.specs.Prelude.{Any, slice_index_or}
 use Rattle.hayagriva.specs.Query.{hit_entry}
 use Rattle.hayagriva.specs.declared.query.Hit.{Hit}

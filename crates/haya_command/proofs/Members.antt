@@ -1,10 +1,9 @@
 -- The members of an object, read one after another.
-use Rattle.std.proofs.Common.{◌≡◌, ℕ, zero, suc, Bool, true, false, List, [], ◌∷◌, Option, None, Some, refl, ap, sym, subst, ◌∙◌, option_map}
-use Rattle.std.specs.Prelude.{unwrap_or}
+use Rattle.std.proofs.Common.{◌≡◌, ℕ, zero, suc, true, false, List, [], None, Some, refl, ap}
 use Rattle.std.specs.Str.{bytes_eq}
 use Rattle.json.specs.Json.{read_key, skip_value}
 use Rattle.json.specs.Token.{Token}
-use Rattle.haya_command.specs.Formats.{MemberTokens, begins_list, list_named, member_step, members_in, named_step}
+use Rattle.haya_command.specs.Formats.{begins_list, list_named, member_step, members_in, named_step}
 
 -- where no key is read, there is no member
 pub none_read : (ts : List Token) → read_key ts ≡ None → (n : ℕ) → members_in n ts ≡ []

@@ -1,19 +1,23 @@
 -- Hits that are counted and printed as they come.
-use Rattle.std.proofs.Common.{◌≡◌, ◌≢◌, ◌⊎◌, inl, inr, IsTrue, ℕ, ◌+◌, ◌<◌, Bool, true, false, ◌&&◌, List, [], ◌∷◌, ◌++◌, Option, length, length-append, refl, sym, ap, ◌∙◌, subst, append_assoc, append-nil, arith}
+use Rattle.std.proofs.Common.{◌≡◌, ◌⊎◌, inl, inr, IsTrue, ℕ, ◌+◌, ◌<◌, Bool, true, false, ◌&&◌, List, [], ◌∷◌, ◌++◌, Option, length, length-append, refl, sym, ap, ◌∙◌, subst, append_assoc, append-nil, arith, IsFalse, true≢false}
+use Rattle.haya_command.specs.Form.{is_library}
 use Rattle.std.specs.Prelude.{Err, MatchBool, None, Ok, OnErr, Result, Some, cond, decimal, filter, nat_lt}
 use Rattle.std.specs.List.{concat}
 use Rattle.std.specs.Io.KnownBytes.{Appends, Consumes}
+use Rattle.std.specs.Str.Lines.{lines}
 use Rattle.std.proofs.lemmas.Bool.Decides.{nat_tests}
 use Rattle.std.proofs.lemmas.List.Elements.{filter-append}
 use Rattle.hayagriva.proofs.Parts.{AllZip-append, from_entries-distinct}
 use Rattle.hayagriva.specs.Library.{AreDistinct, from_entries}
 use Rattle.hayagriva.specs.Holds.{holds}
-use Rattle.hayagriva.specs.Query.{AreHits, IsHit, hit_entry}
+use Rattle.hayagriva.specs.Query.{AreHits, IsHit}
 use Rattle.hayagriva.specs.Syntax.{Syntax}
 use Rattle.hayagriva.specs.Tree.{Tree}
 use Rattle.hayagriva.specs.declared.query.Hit.{Hit}
 use Rattle.haya_csl.proofs.ItemLists as item_lists
 use Rattle.haya_json.proofs.MemberLists as member_lists
+use Rattle.haya_json.proofs.NotesKept.{none_of_first}
+use Rattle.haya_json.specs.Notes.{NotesView, first_note, kept_of}
 use Rattle.haya_hits.specs.Line.{AreLines, IsEscapedLineOf}
 use Rattle.haya_lines.specs.Signs.{line_feed}
 use Rattle.haya_list.specs.Listed as list
@@ -25,7 +29,7 @@ use Rattle.haya_stream.specs.Streamed.{IsEndedPart}
 use Rattle.haya_stream.specs.declared.fault.StreamFault.{StreamFault}
 use Rattle.haya_stream.specs.declared.fault.StreamFault.TheVariants as stream
 use Rattle.haya_command.specs.Printed.{IsJsonLineOf, IsPrintedOf, IsTextOf}
-use Rattle.haya_command.specs.AskedLines.{BeginsListIn, IsAccepted, IsErrorIn, IsListIn}
+use Rattle.haya_command.specs.AskedLines.{BeginsListIn, IsErrorIn, IsListIn, asked_lines, lines_told}
 use Rattle.haya_command.specs.Reading.{Describes, IsReadAs, IsWhole, format_in}
 use Rattle.haya_command.specs.Streamed.{AsksEntry, AsksFirst, AsksInput, AsksPart, IsStreamFault, IsTold, Why}
 use Rattle.haya_command.specs.declared.fault.Fault.{Fault}
@@ -34,7 +38,7 @@ use Rattle.haya_command.specs.declared.fault.InputError.{InputError}
 use Rattle.haya_command.specs.declared.format.Format.{Format}
 use Rattle.haya_command.specs.declared.format.Format.TheVariants as format
 use Rattle.haya_command.specs.declared.form.Form.{Form}
-use Rattle.haya_command.specs.declared.form.Form.TheVariants.{Hayagriva, JsonLines, Keys, Lines}
+use Rattle.haya_command.specs.declared.form.Form.TheVariants.{Hayagriva, JsonLines, Keys, Lines, Yaml}
 use Rattle.haya_command.specs.declared.options.Options.{Options}
 
 pub on_err : {T E P : Type 0} (r : Result T E) → P → OnErr r P
@@ -56,27 +60,29 @@ AreLines-append R xs ys a b h k = record {
   text = rw (h.text, k.text) (sym (concat-append h.lines k.lines));
 }
 
-IsTextOf-nil : (strict : Bool) (to : Form) → to ≢ Hayagriva → IsTextOf strict to [] []
+IsTextOf-nil : (strict : Bool) (to : Form) → IsFalse (is_library to) → IsTextOf strict to [] []
 IsTextOf-nil strict Keys not = record { lines = []; each = tt; text = refl }
 IsTextOf-nil strict Lines not = record { lines = []; each = tt; text = refl }
-IsTextOf-nil strict Hayagriva not = absurd (not refl)
+IsTextOf-nil strict Hayagriva not = absurd (true≢false not)
+IsTextOf-nil strict Yaml not = absurd (true≢false not)
 IsTextOf-nil strict JsonLines not = record { lines = []; each = tt; text = refl }
 
-IsTextOf-append : (strict : Bool) (to : Form) → to ≢ Hayagriva → (xs ys : List Hit) (a b : List ℕ) → IsTextOf strict to xs a → IsTextOf strict to ys b → IsTextOf strict to (xs ++ ys) (a ++ b)
+IsTextOf-append : (strict : Bool) (to : Form) → IsFalse (is_library to) → (xs ys : List Hit) (a b : List ℕ) → IsTextOf strict to xs a → IsTextOf strict to ys b → IsTextOf strict to (xs ++ ys) (a ++ b)
 IsTextOf-append strict Keys not xs ys a b h k = AreLines-append IsEscapedLineOf xs ys a b h k
 IsTextOf-append strict Lines not xs ys a b h k = AreLines-append (IsPrintedOf strict) xs ys a b h k
-IsTextOf-append strict Hayagriva not xs ys a b h k = absurd (not refl)
+IsTextOf-append strict Hayagriva not xs ys a b h k = absurd (true≢false not)
+IsTextOf-append strict Yaml not xs ys a b h k = absurd (true≢false not)
 IsTextOf-append strict JsonLines not xs ys a b h k = AreLines-append IsJsonLineOf xs ys a b h k
 
 abbrev Shows : Bool → Bool → Bool → Form → List Hit → List ℕ → Type 0
 Shows quiet count strict to hits text = MatchBool quiet (text ≡ []) (MatchBool count (text ≡ []) (IsTextOf strict to hits text))
 
-shows-nil : (quiet count strict : Bool) (to : Form) → to ≢ Hayagriva → Shows quiet count strict to [] []
+shows-nil : (quiet count strict : Bool) (to : Form) → IsFalse (is_library to) → Shows quiet count strict to [] []
 shows-nil true count strict to not = refl
 shows-nil false true strict to not = refl
 shows-nil false false strict to not = IsTextOf-nil strict to not
 
-shows-append : (quiet count strict : Bool) (to : Form) → to ≢ Hayagriva → (xs ys : List Hit) (a b : List ℕ) → Shows quiet count strict to xs a → Shows quiet count strict to ys b
+shows-append : (quiet count strict : Bool) (to : Form) → IsFalse (is_library to) → (xs ys : List Hit) (a b : List ℕ) → Shows quiet count strict to xs a → Shows quiet count strict to ys b
     → Shows quiet count strict to (xs ++ ys) (a ++ b)
 shows-append true count strict to not xs ys a b h k = rw (h, k) refl
 shows-append false true strict to not xs ys a b h k = rw (h, k) refl
@@ -95,7 +101,7 @@ hit_asked s x hit h is = rw h (is, tt)
 pub none_asked : (s : Syntax) (x : Tree) → holds s x ≡ false → AreHits s (x ∷ []) []
 none_asked s x h = rw h tt
 
-pub nothing_told : (options : Options) → options.to ≢ Hayagriva → IsTold options [] []
+pub nothing_told : (options : Options) → IsFalse (is_library options.to) → IsTold options [] []
 nothing_told options not = shows-nil options.quiet options.count options.strict options.to not
 
 module _ {S : Type 0} (options : S → Options) (selector : S → Syntax) (hits : S → ℕ) (is_done : S → Bool) where
@@ -111,7 +117,7 @@ module _ {S : Type 0} (options : S → Options) (selector : S → Syntax) (hits 
     same_options : options t ≡ options s
     same_selector : selector t ≡ selector s
 
-  counted : (replies : Replies) (s t : S) → (options s).to ≢ Hayagriva → Run Asks is_done s replies t → Counted s t replies
+  counted : (replies : Replies) (s t : S) → IsFalse (is_library (options s).to) → Run Asks is_done s replies t → Counted s t replies
   counted [] s t not run =
       rw (← run)
       (record {
@@ -139,20 +145,22 @@ module _ {S : Type 0} (options : S → Options) (selector : S → Syntax) (hits 
         same_selector = rest.same_selector ∙ one.same_selector;
       }
 
-  pub options_kept : (s t : S) (replies : Replies) → (options s).to ≢ Hayagriva → Run Asks is_done s replies t → options t ≡ options s
+  pub options_kept : (s t : S) (replies : Replies) → IsFalse (is_library (options s).to) → Run Asks is_done s replies t → options t ≡ options s
   options_kept s t replies not run = (counted replies s t not run).same_options
 
-  pub selector_kept : (s t : S) (replies : Replies) → (options s).to ≢ Hayagriva → Run Asks is_done s replies t → selector t ≡ selector s
+  pub selector_kept : (s t : S) (replies : Replies) → IsFalse (is_library (options s).to) → Run Asks is_done s replies t → selector t ≡ selector s
   selector_kept s t replies not run = (counted replies s t not run).same_selector
 
-  module _ (s t : S) (not : (options s).to ≢ Hayagriva) (unread left before after : Option (List ℕ)) where
-    pub asks_input : (format : Format) (IsList : List ℕ → List Tree → Type 0)
-        → ((text : List ℕ) (entries : List Tree) → IsList text entries → IsListIn format text entries × IsAccepted (options s) format text)
+  module _ (s t : S) (not : IsFalse (is_library (options s).to)) (unread left before after : Option (List ℕ)) where
+    pub asks_input : (format : Format) (kept : NotesView) (IsList : List ℕ → List Tree → Type 0)
+        → ((text : List ℕ) (entries : List Tree) → IsList text entries → IsListIn format text entries × (kept ≡ kept_of (lines_told format (lines (asked_lines format text)))))
+        → (IsTrue (options s).strict → first_note kept ≡ None)
         → list.AnswersList IsList Asks is_done s t unread left before after
-        → AsksInput format (options s) (selector s) (hits s) (hits t) unread left before after
-    asks_input format IsList is_list a =
+        → AsksInput format (options s) (selector s) (hits s) (hits t) kept unread left before after
+    asks_input format kept IsList is_list accepted a =
         let c = counted a.replies s t not a.run in
         let l = is_list a.text (entries_of a.replies) a.list in
+        let told = lines_told format (lines (asked_lines format a.text)) in
         record {
           text = a.text;
           entries = entries_of a.replies;
@@ -161,7 +169,8 @@ module _ {S : Type 0} (options : S → Options) (selector : S → Syntax) (hits 
           read = a.read;
           at_end = a.at_end;
           list = l.0;
-          accepted = l.1;
+          notes = l.1;
+          accepted = λ strict. none_of_first told (ap first_note (sym l.1) ∙ accepted strict);
           are = c.are;
           told = c.shows;
           count = c.count;
@@ -263,6 +272,7 @@ list_read options text entries whole listed distinct = record { describes = by (
     of_list = sym (from_entries-distinct entries distinct)
 
     by : (f : Format) → IsListIn f text entries → Describes f text entries
+    by format.Yaml listed = absurd listed
     by format.Lines listed = record { entries = entries; rows = listed; of_entries = of_list }
     by format.JsonLines listed = record { entries = entries; listed = listed; of_entries = of_list }
     by format.Hayagriva listed = member_lists.library_of_list text entries listed distinct

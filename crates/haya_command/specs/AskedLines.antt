@@ -1,27 +1,25 @@
 -- The lines of an input that are asked, an entry after another.
-use Rattle.std.specs.Prelude.{◌≡◌, ◌≢◌, ◌⊎◌, ◌+◌, ◌-◌, ◌^◌, ℕ, IsTrue, List, [], ◌∷◌, ◌++◌, flat_map, length, Option}
+use Rattle.std.specs.Prelude.{◌≡◌, ◌≢◌, ◌⊎◌, ◌+◌, ◌-◌, ◌^◌, ℕ, IsTrue, List, [], ◌∷◌, ◌++◌, Option, Some, flat_map, length, slice_get}
 use Rattle.std.specs.List.{AllZip}
 use Rattle.std.specs.Str.Lines.{lines}
 use Rattle.hayagriva.specs.Tree.{Tree}
 use Rattle.haya_csl.specs.ItemLines as item_lines
 use Rattle.haya_elements.specs.Elements.{element_lines, nonempty_lines}
 use Rattle.haya_elements.specs.declared.place.Brackets.TheVariants.{Curly, Square}
-use Rattle.haya_csl.specs.declared.item_key.ItemKey.{ItemKey}
 use Rattle.haya_json.specs.JsonLines as json_lines
 use Rattle.haya_json.specs.MemberLines as member_lines
-use Rattle.haya_json.specs.Notes.{NotesView, all_kept}
-use Rattle.haya_json.specs.Tally.{Counts, all_counted}
+use Rattle.haya_json.specs.Notes.{NoteView, NotesView, all_kept}
 use Rattle.haya_json.specs.declared.error.ElementError.{ElementError}
 use Rattle.haya_json.specs.declared.error.ReadError.{ReadError}
 use Rattle.haya_json.specs.declared.error.ReadError.TheVariants as read_error
 use Rattle.haya_list.specs.Lines as lines_list
 use Rattle.haya_list.specs.declared.fault.EntryFault.{EntryFault}
 use Rattle.haya_list.specs.declared.fault.EntryFault.TheVariants as entry_fault
-use Rattle.haya_command.specs.Reading.{IsErrorOf, IsWhole}
+use Rattle.haya_command.specs.Reading.{IsErrorOf}
 use Rattle.haya_command.specs.declared.fault.InputError.{InputError}
 use Rattle.haya_command.specs.declared.fault.InputError.TheVariants as input_error
 use Rattle.haya_command.specs.declared.format.Format.{Format}
-use Rattle.haya_command.specs.declared.format.Format.TheVariants.{CslJson, Hayagriva, JsonLines, Lines}
+use Rattle.haya_command.specs.declared.format.Format.TheVariants.{CslJson, Hayagriva, JsonLines, Lines, Yaml}
 use Rattle.haya_command.specs.declared.options.Options.{Options}
 
 -- ---- the list of an input
@@ -38,13 +36,15 @@ IsLineIn JsonLines line entry = json_lines.IsLineOf line entry
 IsLineIn (CslJson key) line entry = item_lines.IsItemLineOf key line entry
 IsLineIn Hayagriva line entry = member_lines.IsMemberLineOf line entry
 IsLineIn Lines line entry = ⊥
+IsLineIn Yaml line entry = ⊥
 
--- the entries that a text lists, in order, repeated keys and all
+-- the entries that a text lists, in order, repeated keys and all; YAML isn't asked so
 abbrev pub IsListIn : Format → List ℕ → List Tree → Type 0
 IsListIn Lines text entries = lines_list.IsListOf text entries
 IsListIn JsonLines text entries = json_lines.IsListOf text entries
 IsListIn (CslJson key) text entries = item_lines.Lists key text entries
 IsListIn Hayagriva text entries = member_lines.Lists text entries
+IsListIn Yaml text entries = ⊥
 
 -- a first part of lines, or all, lists these entries
 pub record BeginsLines (format : Format) (text : List ℕ) (entries : List Tree) : Type 0 where
@@ -58,60 +58,46 @@ abbrev pub BeginsListIn : Format → Option (List ℕ) → List ℕ → List Tre
 BeginsListIn Lines left text entries = lines_list.BeginsList left text entries
 BeginsListIn format left text entries = BeginsLines format text entries
 
--- ---- what is passed over
+-- ---- what is told
 
--- the names of members, of the entry of a line of hayagriva's format
-abbrev pub line_passed_over : Format → List ℕ → List (List ℕ)
-line_passed_over JsonLines line = json_lines.line_passed_over line
-line_passed_over Hayagriva line = member_lines.line_passed_over line
-line_passed_over _ line = []
+-- what is told of the entry of a line, whose key isn't looked for
+abbrev pub line_told : Format → List ℕ → List NoteView
+line_told JsonLines line = json_lines.line_told line
+line_told (CslJson key) line = item_lines.line_told key line
+line_told Hayagriva line = member_lines.line_told line
+line_told Lines line = []
+line_told Yaml line = []
 
--- of the entries of lines, as they are told of each
-abbrev pub of_lines : {P : Type 0} → (List ℕ → List P) → List (List ℕ) → List P
-of_lines of_line ls = flat_map of_line (nonempty_lines ls)
-
--- something is told of the entries of lines
-abbrev pub TellsOfLines : Format → List (List ℕ) → Type 0
-TellsOfLines (CslJson key) ls = of_lines (item_lines.line_told key) ls ≢ []
-TellsOfLines format ls = of_lines (line_passed_over format) ls ≢ []
+-- of the entries of lines
+abbrev pub lines_told : Format → List (List ℕ) → List NoteView
+lines_told format ls = flat_map (line_told format) (nonempty_lines ls)
 
 -- Nothing is told of a text whose entries are asked as they are read. Keys that come again aren't
 -- looked for, and of lines that are no JSON nothing else is ever told.
 abbrev pub TellsNothing : Format → List ℕ → Type 0
-TellsNothing Lines text = Unit {0}
-TellsNothing (CslJson key) text =
-    of_lines (item_lines.line_told key) (lines (asked_lines (CslJson key) text)) ≡ []
-TellsNothing format text = IsWhole format text
+TellsNothing format text = lines_told format (lines (asked_lines format text)) ≡ []
 
 -- in a strict run nothing is told of a text
 abbrev pub IsAccepted : Options → Format → List ℕ → Type 0
 IsAccepted options format text = IsTrue options.strict → TellsNothing format text
 
--- something is passed over of a first part of the lines, or of all
-abbrev pub PassesOverFirst : Format → List ℕ → Type 0
-PassesOverFirst format text =
+-- this is the first that is told of a first part of the lines, or of all
+abbrev pub TellsFirst : Format → List ℕ → NoteView → Type 0
+TellsFirst format text note =
     (first : List (List ℕ)) × (more : List (List ℕ)) × (lines text ≡ first ++ more)
-    × TellsOfLines format first
+    × (slice_get (lines_told format first) 0 ≡ Some note)
 
 -- what one who reads a line says of it, and what is kept of what is told of it
-pub record ReadsLine {K : Type 0} (format : Format) (told : List ℕ → K → K) (before : K)
-    (line : List ℕ) (entry : Tree) (after : K) : Type 0 where
+pub record ReadsLine (format : Format) (before : NotesView) (line : List ℕ) (entry : Tree)
+    (after : NotesView) : Type 0 where
   pub says : IsLineIn format line entry
-  pub kept : after ≡ told line before
+  pub kept : after ≡ all_kept (line_told format line) before
 
 -- the same of the element at this place, which is counted
-pub record ReadsElement {K : Type 0} (format : Format) (told : List ℕ → K → K) (place : ℕ)
-    (before : K) (line : List ℕ) (entry : Tree) (next : ℕ) (after : K) : Type 0 where
-  pub reads : ReadsLine format told before line entry after
+pub record ReadsElement (format : Format) (place : ℕ) (before : NotesView) (line : List ℕ)
+    (entry : Tree) (next : ℕ) (after : NotesView) : Type 0 where
+  pub reads : ReadsLine format before line entry after
   pub number : next ≡ place + 1
-
--- the counts after those of the names that are passed over of a line
-abbrev pub line_counted : Format → List ℕ → Counts → Counts
-line_counted format line counts = all_counted (line_passed_over format line) counts
-
--- what is kept after what is told of an item's line
-abbrev pub item_kept : ItemKey → List ℕ → NotesView → NotesView
-item_kept key line kept = all_kept (item_lines.line_told key line) kept
 
 -- ---- faults of lines
 

@@ -1,6 +1,6 @@
 -- Inputs that are no text in UTF-8, by their first bytes.
-use Rattle.std.specs.Prelude.{ℕ, ◌==◌, ◌||◌, ◌&&◌, Bool, List, [], ◌∷◌, ◌++◌, Option, Some, None, codes, nat_eq, slice_get, take, if◌then◌else◌}
-use Rattle.std.specs.List.{list_any, starts_with}
+use Rattle.std.specs.Prelude.{ℕ, ◌||◌, ◌&&◌, Bool, List, [], ◌∷◌, ◌++◌, Option, Some, None, codes, nat_eq, slice_get, if◌then◌else◌}
+use Rattle.std.specs.List.{starts_with}
 use Rattle.std.specs.Option.{option_eq, option_or}
 use Rattle.haya_command.specs.declared.foreign.Foreign.{Foreign}
 use Rattle.haya_command.specs.declared.foreign.Foreign.TheVariants.{Utf16, Utf16Le, Utf16Be, Utf32, Utf32Le, Utf32Be, Gzip, Bzip2, Xz, Zstd, Zip, Pdf, Sqlite}

@@ -1,5 +1,5 @@
 -- The formats of a library's text: their names, and the one that is guessed from its first bytes.
-use Rattle.std.specs.Prelude.{ℕ, zero, suc, Bool, true, false, List, [], ◌∷◌, Option, Some, None, codes, drop, find, is_some, length, nat_eq, option_and_then, option_map, unwrap_or, if◌then◌else◌}
+use Rattle.std.specs.Prelude.{◌==◌, ◌||◌, ℕ, zero, suc, Bool, true, false, List, [], ◌∷◌, Option, Some, None, codes, find, is_some, length, nat_eq, option_and_then, option_map, unwrap_or, if◌then◌else◌}
 use Rattle.std.specs.List.{starts_with}
 use Rattle.std.specs.Str.{bytes_eq, trim_start}
 use Rattle.json.specs.Json.{read_key, skip_value}
@@ -8,14 +8,16 @@ use Rattle.json.specs.Token.{Token}
 use Rattle.haya_csl.specs.declared.item_key.ItemKey.{ItemKey}
 use Rattle.haya_csl.specs.declared.item_key.ItemKey.TheVariants.{CitationKey}
 use Rattle.haya_command.specs.Block.{first_text}
+use Rattle.haya_command.specs.FirstLine.{behind, is_yaml_text}
 use Rattle.haya_command.specs.declared.format.Format.{Format}
-use Rattle.haya_command.specs.declared.format.Format.TheVariants.{Hayagriva, CslJson, JsonLines, Lines}
+use Rattle.haya_command.specs.declared.format.Format.TheVariants.{Hayagriva, Yaml, CslJson, JsonLines, Lines}
 
 -- ---- names
 
 -- the name of a format
 abbrev pub format_name : Format → List ℕ
 format_name Hayagriva = codes "hayagriva"
+format_name Yaml = codes "yaml"
 format_name (CslJson key) = codes "csl-json"
 format_name JsonLines = codes "json-lines"
 format_name Lines = codes "lines"
@@ -32,7 +34,8 @@ keyed_by key format = format
 -- the format with this name
 abbrev pub format_named : List ℕ → Option Format
 format_named text =
-    find (is_format_named text) (Hayagriva ∷ CslJson CitationKey ∷ JsonLines ∷ Lines ∷ [])
+    find (is_format_named text)
+    (Hayagriva ∷ Yaml ∷ CslJson CitationKey ∷ JsonLines ∷ Lines ∷ [])
 
 -- ---- members of an object
 
@@ -82,12 +85,6 @@ has_list name members = list_named name (members_in (length members) (tokens mem
 
 -- ---- what is guessed
 
--- what is behind a sign, where the text begins with that, white space aside
-abbrev pub behind : List ℕ → List ℕ → Option (List ℕ)
-behind sign text =
-    if starts_with nat_eq (trim_start text) sign
-    then Some (drop (length sign) (trim_start text)) else None
-
 -- whether members begin with a text as `key`, as those of a line of JSON do: in hayagriva's format
 -- the value of a member is an object
 abbrev pub begins_key : List ℕ → Bool
@@ -103,22 +100,37 @@ format_of_members members =
     else if has_list (codes "items") members then CslJson CitationKey
     else Hayagriva
 
--- the format of an object with these members, or of what is no object
-abbrev pub format_of_object : Option (List ℕ) → Format
-format_of_object None = Lines
-format_of_object (Some members) = format_of_members members
+-- the format of a text that is an object with these members, or is none
+abbrev pub format_of_object : List ℕ → Option (List ℕ) → Format
+format_of_object text None = if is_yaml_text text then Yaml else Lines
+format_of_object text (Some members) = format_of_members members
 
 -- the format that is guessed from a first text
 abbrev pub format_in_text : List ℕ → Format
 format_in_text text =
     if is_some (behind (codes "[") text) then CslJson CitationKey
-    else format_of_object (behind (codes "{") text)
+    else format_of_object text (behind (codes "{") text)
 
 -- the format that is guessed from a text's first bytes
 abbrev pub format_of : List ℕ → Format
 format_of text = format_in_text (first_text text)
 
+-- The format of a first text that hayagriva's format is given for: white space aside, JSON begins
+-- with `{`.
+abbrev pub file_format_in_text : List ℕ → Format
+file_format_in_text text =
+    if (length (trim_start text) == 0) || starts_with nat_eq (trim_start text) (codes "{")
+    then Hayagriva else Yaml
+
+abbrev pub file_format : List ℕ → Format
+file_format text = file_format_in_text (first_text text)
+
+-- the format of a text that this is given for
+abbrev pub given_format : Format → List ℕ → Format
+given_format Hayagriva text = file_format text
+given_format format text = format
+
 -- the format that is given, otherwise the one that is guessed
 abbrev pub format_for : Option Format → List ℕ → Format
-format_for (Some format) text = format
+format_for (Some format) text = given_format format text
 format_for None text = format_of text

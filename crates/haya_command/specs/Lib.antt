@@ -2,6 +2,7 @@ pub mod Answer
 pub mod AskedLines
 pub mod Block
 pub mod Foreign
+pub mod FirstLine
 pub mod Form
 pub mod Formats
 pub mod Likeness
@@ -11,3 +12,4 @@ pub mod Reading
 pub mod Run
 pub mod SelectorText
 pub mod Streamed
+pub mod Told

@@ -1,25 +1,17 @@
 -- What a text looks like that is in none of the formats.
-use Rattle.std.specs.Prelude.{ℕ, ◌==◌, ◌+◌, ◌||◌, ◌&&◌, Bool, true, false, List, Option, Some, None, codes, find, is_some, length, nat_eq, nat_le, not, position, slice_get, slice_index, if◌then◌else◌}
+use Rattle.std.specs.Prelude.{ℕ, ◌==◌, ◌||◌, ◌&&◌, Bool, false, List, Option, Some, None, codes, find, is_some, nat_le, not, position, slice_index, if◌then◌else◌}
 use Rattle.std.specs.Char.{is_ascii_alphabetic, is_ascii_alphanumeric, is_ascii_digit}
-use Rattle.std.specs.List.{list_all, list_any, starts_with}
+use Rattle.std.specs.List.{list_all, list_any}
 use Rattle.std.specs.Option.{option_or}
-use Rattle.std.specs.Str.{trim_start}
 use Rattle.std.specs.Str.Lines.{lines}
 use Rattle.haya_command.specs.Block.{first_text}
 use Rattle.haya_command.specs.Foreign.{foreign_of}
-use Rattle.haya_command.specs.Formats.{behind}
+use Rattle.haya_command.specs.FirstLine.{begins, behind, first_line, is_yaml}
 use Rattle.haya_command.specs.declared.foreign.Foreign.{Foreign}
-use Rattle.haya_command.specs.declared.foreign.Foreign.TheVariants.{BibTex, Csv, EndNoteXml, Medline, Ris, Yaml}
+use Rattle.haya_command.specs.declared.foreign.Foreign.TheVariants.{BibTex, Csv, EndNoteXml, Medline, Ris}
 use Rattle.haya_command.specs.declared.format.Format.{Format}
 
 -- ---- lines
-
-abbrev pub begins : List ℕ → List ℕ → Bool
-begins sign line = starts_with nat_eq line sign
-
--- the line says nothing: white space aside it is empty, or begins with `#`
-abbrev pub is_comment : List ℕ → Bool
-is_comment line = (length (trim_start line) == 0) || begins (codes "#") (trim_start line)
 
 -- white space aside, the line begins with a bracket, as JSON does
 abbrev pub is_json : List ℕ → Bool
@@ -52,32 +44,6 @@ is_entry_name (Some name) = opens_entry (find (λ b. not (is_name_byte b)) name)
 abbrev pub is_entry : List ℕ → Bool
 is_entry line = is_entry_name (behind (codes "@") line)
 
--- a letter, a digit or another sign that a key has
-abbrev pub is_key_byte : ℕ → Bool
-is_key_byte b = is_ascii_alphanumeric b || list_any (λ s. s == b) (codes "-_./+\"'") || nat_le 128 b
-
--- nothing, or a blank
-abbrev pub is_gap : Option ℕ → Bool
-is_gap None = true
-is_gap (Some b) = (b == 32) || (b == 9)
-
--- of a line that begins with a key of this length: a colon is behind it, and then nothing or a
--- blank
-abbrev pub is_key_at : List ℕ → Option ℕ → Bool
-is_key_at line None = false
-is_key_at line (Some end) =
-    nat_le 1 end && (slice_index line end == 58) && is_gap (slice_get line (end + 1))
-
--- the line begins with a key of YAML
-abbrev pub is_key : List ℕ → Bool
-is_key line = is_key_at line (position (λ b. not (is_key_byte b)) line)
-
--- the line begins as those of YAML do
-abbrev pub is_yaml : List ℕ → Bool
-is_yaml line =
-    begins (codes "---") line || begins (codes "%YAML") line || begins (codes "- ") line
-    || is_key line
-
 -- a comma, or a byte of names that commas separate
 abbrev pub is_header_byte : ℕ → Bool
 is_header_byte b =
@@ -100,7 +66,7 @@ like_some text =
 abbrev pub like_line : List ℕ → Option Foreign
 like_line line =
     if begins (codes "<?xml") line || begins (codes "<xml>") line then Some EndNoteXml
-    else if is_yaml line then Some Yaml
+    else if is_yaml line then None
     else if begins (codes "%") line then Some BibTex
     else if is_header line then Some Csv else None
 
@@ -113,10 +79,6 @@ like_text text line =
 abbrev pub like_text_from : List ℕ → Option (List ℕ) → Option Foreign
 like_text_from text None = None
 like_text_from text (Some line) = like_text text line
-
--- the first line that says something
-abbrev pub first_line : List ℕ → Option (List ℕ)
-first_line text = find (λ line. not (is_comment line)) (lines text)
 
 -- what a text looks like that begins with these bytes
 abbrev pub likeness : List ℕ → Option Foreign

@@ -20,8 +20,9 @@ use Rattle.haya_lines.specs.Signs.{line_feed}
 use Rattle.haya_printing.specs.LeftOut.{AreLinesOf, IsPrintable, Named}
 use Rattle.haya_printing.specs.declared.error.LinesError.{LinesError}
 use Rattle.haya_printing.specs.declared.error.LinesError.TheVariants.{OutOfMemory}
+use Rattle.haya_yaml_library.specs.Writing.{SaysJson}
 use Rattle.haya_command.specs.declared.form.Form.{Form}
-use Rattle.haya_command.specs.declared.form.Form.TheVariants.{Keys, Lines, Hayagriva, JsonLines}
+use Rattle.haya_command.specs.declared.form.Form.TheVariants.{Keys, Lines, Hayagriva, Yaml, JsonLines}
 
 -- ---- a line of JSON
 
@@ -75,9 +76,20 @@ IsLinesFault strict form entries e =
 abbrev pub library_text : List Tree → List ℕ
 library_text library = pretty (json_tokens (library_json library)) ++ line_feed ∷ []
 
+-- a library's JSON, as it is printed
+abbrev pub library_bytes : List Tree → List ℕ
+library_bytes library = print (json_tokens (library_json library))
+
+-- A text that says in YAML what the library's JSON says; where that nests too deep to be read, or
+-- has a key twice, it is the JSON, laid out.
+abbrev pub IsLibraryInYaml : List Tree → List ℕ → Type 0
+IsLibraryInYaml library text =
+    SaysJson (library_bytes library) text ⊎ (text ≡ library_text library)
+
 -- the text of hits in a form, in a run that is strict or isn't
 abbrev pub IsTextOf : Bool → Form → List Hit → List ℕ → Type 0
 IsTextOf strict Keys hits text = AreLines IsEscapedLineOf hits text
 IsTextOf strict Lines hits text = AreLines (IsPrintedOf strict) hits text
 IsTextOf strict Hayagriva hits text = text ≡ library_text (map hit_entry hits)
+IsTextOf strict Yaml hits text = IsLibraryInYaml (map hit_entry hits) text
 IsTextOf strict JsonLines hits text = AreLines IsJsonLineOf hits text

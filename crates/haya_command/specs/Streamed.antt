@@ -10,6 +10,7 @@ use Rattle.hayagriva.specs.Reading.{TextFails}
 use Rattle.hayagriva.specs.Syntax.{Syntax}
 use Rattle.hayagriva.specs.Tree.{Tree}
 use Rattle.hayagriva.specs.declared.query.Hit.{Hit}
+use Rattle.haya_json.specs.Notes.{NotesView, kept_of, note_view}
 use Rattle.haya_lines.specs.Signs.{line_feed}
 use Rattle.haya_list.specs.declared.fault.ListRefusal.{ListRefusal}
 use Rattle.haya_list.specs.declared.fault.ListRefusal.TheVariants.{Entry, Line}
@@ -17,12 +18,12 @@ use Rattle.haya_printing.specs.declared.error.LinesError.{LinesError}
 use Rattle.haya_stream.specs.Streamed.{IsEndedPart}
 use Rattle.haya_stream.specs.declared.fault.StreamFault.{StreamFault}
 use Rattle.haya_stream.specs.declared.fault.StreamFault.TheVariants as stream
-use Rattle.haya_command.specs.AskedLines.{BeginsListIn, IsAccepted, IsErrorIn, IsListIn, PassesOverFirst, asked_lines}
+use Rattle.haya_command.specs.Form.{is_library}
+use Rattle.haya_command.specs.AskedLines.{BeginsListIn, IsAccepted, IsErrorIn, IsListIn, TellsFirst, asked_lines, lines_told}
 use Rattle.haya_command.specs.Printed.{IsTextOf}
 use Rattle.haya_command.specs.declared.fault.Fault.{Fault}
 use Rattle.haya_command.specs.declared.fault.Fault.TheVariants as fault
 use Rattle.haya_command.specs.declared.fault.InputError.{InputError}
-use Rattle.haya_command.specs.declared.form.Form.TheVariants.{Hayagriva}
 use Rattle.haya_command.specs.declared.format.Format.{Format}
 use Rattle.haya_command.specs.declared.options.Options.{Options}
 
@@ -32,7 +33,7 @@ use Rattle.haya_command.specs.declared.options.Options.{Options}
 abbrev pub IsAskerFault : Options → Fault → Type 0
 IsAskerFault options (fault.Selector e) =
     IfSome (selector.fault e) (TextFails (chars (string_bytes options.selector)))
-IsAskerFault options fault.CannotStream = options.to ≡ Hayagriva
+IsAskerFault options fault.CannotStream = IsTrue (is_library options.to)
 IsAskerFault options fault.OutOfMemory = Unit {0}
 IsAskerFault options _ = ⊥
 
@@ -60,10 +61,10 @@ pub record AsksEntry (options : Options) (selector : Syntax) (before : ℕ) (ent
 
 -- ---- an input
 
--- the entries that a text lists are asked: all input that was left is a text, and its hits are
--- counted and printed
+-- the entries that a text lists are asked: all input that was left is a text, its hits are counted
+-- and printed, and this is kept of what is told of it
 pub record AsksInput (format : Format) (options : Options) (selector : Syntax) (before after : ℕ)
-    (unread left out_before out_after : Option (List ℕ)) : Type 0 where
+    (kept : NotesView) (unread left out_before out_after : Option (List ℕ)) : Type 0 where
   pub text : List ℕ
   pub entries : List Tree
   pub hits : List Hit
@@ -71,6 +72,7 @@ pub record AsksInput (format : Format) (options : Options) (selector : Syntax) (
   pub read : Consumes unread left text
   pub at_end : IsAtEnd left
   pub list : IsListIn format text entries
+  pub notes : kept ≡ kept_of (lines_told format (lines (asked_lines format text)))
   pub accepted : IsAccepted options format text
   pub are : AreHits selector entries hits
   pub told : IsTold options hits printed
@@ -99,11 +101,8 @@ pub record AsksFirst (format : Format) (options : Options) (selector : Syntax) (
 abbrev pub Why : Options → Format → List ℕ → List ℕ → List ℕ → Fault → Type 0
 Why options format name text unwritten (fault.Input called e) =
     (string_bytes called ≡ name) × IsErrorIn format text e × (unwritten ≡ [])
-Why options format name text unwritten (fault.Unknown called members) =
-    (string_bytes called ≡ name) × IsTrue options.strict × PassesOverFirst format text
-    × (unwritten ≡ [])
-Why options format name text unwritten (fault.PassedOver called told) =
-    (string_bytes called ≡ name) × IsTrue options.strict × PassesOverFirst format text
+Why options format name text unwritten (fault.PassedOver called note) =
+    (string_bytes called ≡ name) × IsTrue options.strict × TellsFirst format text (note_view note)
     × (unwritten ≡ [])
 Why options format name text unwritten (fault.CannotRead called e) =
     (string_bytes called ≡ name) × (unwritten ≡ [])
@@ -137,13 +136,13 @@ pub record AsksPart (format : Format) (name : List ℕ) (options : Options) (sel
 
 -- The elements of an input whose bytes are known are asked: all, or, of their lines, as many as a
 -- quiet run needs. Nothing is said of an input whose bytes aren't known.
-abbrev pub AsksElements : Format → Options → Options → Syntax → Syntax → ℕ → ℕ
+abbrev pub AsksElements : Format → Options → Options → Syntax → Syntax → ℕ → ℕ → NotesView
     → Option (List ℕ) → Option (List ℕ) → Option (List ℕ) → Option (List ℕ) → Type 0
-AsksElements format options next_options selector next_selector before after unread left out_before
-    out_after =
+AsksElements format options next_options selector next_selector before after kept unread left
+    out_before out_after =
     (text : List ℕ) → unread ≡ Some text →
     (next_options ≡ options) × (next_selector ≡ selector)
-    × (AsksInput format options selector before after unread left out_before out_after
+    × (AsksInput format options selector before after kept unread left out_before out_after
     ⊎ (behind : Option (List ℕ)) × AsksFirst format options selector before after
     (Some (asked_lines format text)) behind out_before out_after)
 

@@ -1,18 +1,17 @@
 //! What is asked of each entry.
-ghost use Rattle.std.specs.Prelude.{◌≡◌, ◌≢◌, ◌<◌, ◌+◌, ◌↔◌, ◌∷◌, ◌++◌, [], ℕ, List, IfErr, IfOk};
-ghost use Rattle.std.specs.Prelude.{IsTrue, OnErr, OnOk, string_bytes};
+ghost use Rattle.std.specs.Prelude.{◌≡◌, ◌<◌, ◌+◌, ◌↔◌, ◌∷◌, ◌++◌, [], ℕ, List, IfErr, IfOk};
+ghost use Rattle.std.specs.Prelude.{IsFalse, IsTrue, OnErr, OnOk, string_bytes};
 ghost use Rattle.std.specs.Str.{chars};
 ghost use Rattle.std.specs.Io.KnownBytes.{Appends};
 ghost use Rattle.hayagriva.specs.Query.{hit_entry};
 ghost use Rattle.hayagriva.specs.Reading.{TextReads};
 ghost use Rattle.hayagriva.specs.Syntax.{Syntax};
+ghost use Rattle.haya_command.specs.Form.{is_library};
 ghost use Rattle.haya_command.specs.Picks.{wanted};
 ghost use Rattle.haya_command.specs.Printed.{IsLinesFault};
 ghost use Rattle.haya_command.specs.Streamed.{IsAskerFault, IsTold, end_text};
-ghost use Rattle.haya_command.specs.declared.form.Form.TheVariants.{Hayagriva};
 
 use crate::fault::Fault;
-use crate::form::Form;
 use crate::left::LeftNotes;
 use crate::options::Options;
 use crate::picking::negated;
@@ -37,13 +36,13 @@ pub struct Asker<'o> {
     pub hits: usize,
     /// What lines leave out of the hits that are printed.
     pub left: LeftNotes,
-    ghost streams: { options.now.to ≢ Hayagriva },
+    ghost streams: { IsFalse (is_library options.now.to) },
 }
 
 impl<'o> Asker<'o> {
     /// What is asked under these options. A map of what is passed over hashes with the keys.
-    /// `Selector`: the selector's text is none. `CannotStream`: hits are to be printed in a form that
-    /// is none of each alone.
+    /// `Selector`: the selector's text is none. `CannotStream`: hits are to be printed in a form
+    /// that is none of each alone.
     pub fn new(alloc: Global, keys: HashKeys, options: &'o Options) -> Result<Asker<'o>, Fault>
         ensures selector { IfOk result (λ asker. (s : Syntax)
             × TextReads (chars (string_bytes options.now.selector)) s
@@ -52,7 +51,7 @@ impl<'o> Asker<'o> {
         ensures none { IfOk result (λ asker. asker.hits ≡ 0) }
         ensures error { IfErr result (IsAskerFault options.now) }
     {
-        if matches!(options.to, Form::Hayagriva) {
+        if options.to.is_library() {
             return Err(Fault::CannotStream);
         }
         let read = match Selector::parse(alloc, options.selector.as_str()) {

@@ -2,7 +2,7 @@
 ghost use Rattle.std.specs.Prelude.{◌≡◌, ◌+◌, IfErr, IfOk, OnOk};
 
 use haya_csl::{ItemKey, read_item_line};
-use haya_json::{ElementError, Ignored, Notes, ReadError, read_member_line};
+use haya_json::{ElementError, Notes, ReadError, read_member_line};
 use haya_list::EntryReader;
 use hayagriva::{Entry, HashKeys};
 use std::alloc::Global;
@@ -41,14 +41,14 @@ impl ItemReader {
 impl EntryReader for ItemReader {
     ghost use Rattle.std.specs.Prelude.{◌≡◌};
     ghost use Rattle.haya_json.specs.Notes.{notes_view};
-    ghost use Rattle.haya_command.specs.AskedLines.{IsElementError, ReadsElement, item_kept};
+    ghost use Rattle.haya_command.specs.AskedLines.{IsElementError, ReadsElement};
     ghost use Rattle.haya_command.specs.declared.format.Format.TheVariants.{CslJson};
 
     type Error = ElementError;
 
     ghost says = { λ r line entry t. (t.key ≡ r.key)
-        × ReadsElement (CslJson r.key) (item_kept r.key) r.number (notes_view r.notes) line entry
-        t.number (notes_view t.notes) };
+        × ReadsElement (CslJson r.key) r.number (notes_view r.notes) line entry t.number
+        (notes_view t.notes) };
 
     ghost refuses = { λ r line e. IsElementError (CslJson r.key) r.number line e };
 
@@ -62,48 +62,48 @@ impl EntryReader for ItemReader {
     }
 }
 
-/// Reads the entry that a member of hayagriva's format says, and counts what is passed over of it.
+/// Reads the entry that a member of hayagriva's format says, and notes what is lost of it.
 #[derive(Drop)]
 pub(crate) struct MemberReader {
     alloc: Global,
     // How many members were taken.
     number: usize,
-    /// What is passed over of the members that were read.
-    pub(crate) ignored: Ignored,
+    /// What is told of the members that were read.
+    pub(crate) notes: Notes,
 }
 
 impl MemberReader {
-    ghost use Rattle.std.specs.Prelude.{◌≡◌, []};
-    ghost use Rattle.haya_json.specs.Ignored.{counts_of};
+    ghost use Rattle.std.specs.Prelude.{◌≡◌};
+    ghost use Rattle.haya_json.specs.Notes.{none_kept, notes_view};
 
     /// One that has read no member. Its map hashes with the keys.
     pub(crate) fn new(alloc: Global, keys: HashKeys) -> MemberReader
         ensures number { result.number ≡ 0 }
-        ensures ignored { counts_of result.ignored ≡ [] }
+        ensures notes { notes_view result.notes ≡ none_kept }
     {
         MemberReader {
             alloc,
             number: 0,
-            ignored: Ignored::with_hash_keys(alloc, keys),
+            notes: Notes::with_hash_keys(alloc, keys),
         }
     }
 }
 
 impl EntryReader for MemberReader {
-    ghost use Rattle.haya_json.specs.Ignored.{counts_of};
-    ghost use Rattle.haya_command.specs.AskedLines.{IsElementError, ReadsElement, line_counted};
+    ghost use Rattle.haya_json.specs.Notes.{notes_view};
+    ghost use Rattle.haya_command.specs.AskedLines.{IsElementError, ReadsElement};
     ghost use Rattle.haya_command.specs.declared.format.Format.TheVariants.{Hayagriva};
 
     type Error = ElementError;
 
-    ghost says = { λ r line entry t. ReadsElement Hayagriva (line_counted Hayagriva) r.number
-        (counts_of r.ignored) line entry t.number (counts_of t.ignored) };
+    ghost says = { λ r line entry t. ReadsElement Hayagriva r.number (notes_view r.notes) line entry
+        t.number (notes_view t.notes) };
 
     ghost refuses = { λ r line e. IsElementError Hayagriva r.number line e };
 
     fn read(&mut self, line: &str) -> Result<Entry, ElementError> {
         let number = counted(&mut self.number)?;
-        match read_member_line(self.alloc, line, &mut self.ignored) {
+        match read_member_line(self.alloc, line, &mut self.notes) {
             Ok(entry) => Ok(entry),
             Err(error) => Err(ElementError { number, error }),
         }

@@ -1,11 +1,12 @@
 //! Why a run of the command ends with status 2.
 use crate::foreign::ForeignInput;
 use haya_input::InputFault;
-use haya_json::{ElementError, LineError, ReadError};
+use haya_json::{ElementError, LineError, Note, ReadError};
 use haya_list::EntryFault;
 use haya_printing::LinesError;
 use haya_stream::WriteFault;
 use haya_text::OutOfMemory;
+use haya_yaml_library::YamlReadError;
 use hayagriva::SelectorError;
 use std::alloc::{AllocError, AllocFailed};
 use std::io;
@@ -17,6 +18,9 @@ pub enum InputError {
     /// Of a text in one of the formats that are JSON.
     #[error("{0}")]
     Json(ReadError),
+    /// Of a text in YAML.
+    #[error("{0}")]
+    Yaml(YamlReadError),
     /// Of a text in lines of JSON.
     #[error("{0}")]
     JsonLines(LineError),
@@ -79,12 +83,9 @@ pub enum Fault {
     /// The text that is called so is no library.
     #[error("{0}: {1}")]
     Input(String, InputError),
-    /// The text that is called so has members that its format doesn't know, which are listed.
-    #[error("{0}: unknown members: {1}")]
-    Unknown(String, String),
-    /// Of the text that is called so something is passed over. The first is told.
+    /// Of the text that is called so this is told, the first of all.
     #[error("{0}: {1}")]
-    PassedOver(String, String),
+    PassedOver(String, Note),
     /// A key of the text that is called so comes again, which an earlier text has.
     #[error("{0}: `{1}` comes again")]
     Again(String, String),
@@ -101,6 +102,9 @@ pub enum Fault {
     /// on.
     #[error("{0}: byte {1} is not UTF-8 (Latin-1? convert it: iconv -f LATIN1 -t UTF-8)")]
     NotUtf8(String, usize),
+    /// The text that is called so is in YAML, which isn't asked entry by entry.
+    #[error("{0}: --stream reads no YAML: leave it out")]
+    NotStreamed(String),
     /// Hits are to be printed as a library, of which nothing can be said before the last is there.
     #[error("--stream prints no library: --to keys, lines or json-lines")]
     CannotStream,

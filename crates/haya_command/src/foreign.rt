@@ -34,8 +34,6 @@ pub enum Foreign {
     Sqlite,
     /// BibTeX, or BibLaTeX.
     BibTex,
-    /// YAML.
-    Yaml,
     /// RIS.
     Ris,
     /// MEDLINE, as PubMed exports it.

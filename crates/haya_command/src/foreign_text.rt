@@ -1,16 +1,17 @@
 //! What a text looks like that is in none of the formats.
-ghost use Rattle.std.specs.Prelude.{◌≡◌, ◌<◌, IfSome, find, length, not, option_map, position};
+ghost use Rattle.std.specs.Prelude.{◌≡◌, ◌<◌, IfSome, find, length, not, position};
 ghost use Rattle.std.specs.Char.{is_ascii_digit};
 ghost use Rattle.std.specs.List.{list_all, list_any};
 ghost use Rattle.std.specs.Str.Lines.{lines};
-ghost use Rattle.haya_command.specs.Likeness.{begins, first_line, foreign_for, is_comment, is_entry};
-ghost use Rattle.haya_command.specs.Likeness.{is_gap, is_header, is_header_byte, is_json, is_key};
-ghost use Rattle.haya_command.specs.Likeness.{is_key_byte, is_name_byte, is_row, is_yaml, like_line};
-ghost use Rattle.haya_command.specs.Likeness.{like_some, like_text, likeness, likeness_for, opens_entry};
+ghost use Rattle.haya_command.specs.FirstLine.{begins};
+ghost use Rattle.haya_command.specs.Likeness.{foreign_for, is_entry, is_header, is_header_byte};
+ghost use Rattle.haya_command.specs.Likeness.{is_json, is_name_byte, is_row, like_line, like_some};
+ghost use Rattle.haya_command.specs.Likeness.{like_text, likeness, likeness_for, opens_entry};
 
 use crate::block::first_text;
+use crate::first_line::{behind, first_line, is_yaml};
 use crate::foreign::{Foreign, foreign_of};
-use crate::format::{Format, behind};
+use crate::format::Format;
 
 /// What an input is, or looks like, that begins with these bytes and isn't read. Where a format is
 /// given, what it looks like isn't asked.
@@ -41,13 +42,6 @@ pub fn likeness(bytes: &[u8]) -> Option<Foreign>
         Some(line) => like_text(text, line),
         None => None,
     }
-}
-
-// The first line of a text that says something.
-fn first_line(text: &str) -> Option<&str>
-    ensures { option_map (λ line. line.now) result ≡ first_line text.now }
-{
-    text.lines().find(|line| !is_comment(line))
 }
 
 // What a text looks like whose first line is this one.
@@ -96,7 +90,7 @@ fn like_line(line: &[u8]) -> Option<Foreign>
     if line.starts_with(b"<?xml") || line.starts_with(b"<xml>") {
         Some(Foreign::EndNoteXml)
     } else if is_yaml(line) {
-        Some(Foreign::Yaml)
+        None
     } else if line.starts_with(b"%") {
         Some(Foreign::BibTex)
     } else if is_header(line) {
@@ -104,14 +98,6 @@ fn like_line(line: &[u8]) -> Option<Foreign>
     } else {
         None
     }
-}
-
-// Whether a line says nothing.
-fn is_comment(line: &str) -> bool
-    ensures { result ≡ is_comment line.now }
-{
-    let said = line.trim_start().as_bytes();
-    said.is_empty() || said.starts_with(b"#")
 }
 
 // Whether a line begins as JSON does.
@@ -168,48 +154,6 @@ fn is_name_byte(byte: u8) -> bool
     ensures { result ≡ is_name_byte byte }
 {
     byte.is_ascii_alphabetic() || byte == b' ' || byte == b'\t'
-}
-
-// Whether a line begins as those of YAML do: with dashes, an item or a key.
-fn is_yaml(line: &[u8]) -> bool
-    ensures { result ≡ is_yaml line.now }
-{
-    line.starts_with(b"---")
-        || line.starts_with(b"%YAML")
-        || line.starts_with(b"- ")
-        || is_key(line)
-}
-
-// Whether a line begins with a key and a colon, with nothing or a blank behind it.
-fn is_key(line: &[u8]) -> bool
-    ensures { result ≡ is_key line.now }
-{
-    match key_end(line) {
-        Some(end) => end >= 1 && line[end] == b':' && is_gap(line.get(end + 1).copied()),
-        None => false,
-    }
-}
-
-// The place of the first byte that is no part of a key.
-fn key_end(line: &[u8]) -> Option<usize>
-    ensures place { result ≡ position (λ b. not (is_key_byte b)) line.now }
-    ensures within { IfSome result (λ end. end < length line.now) }
-{
-    line.iter().position(|b| !is_key_byte(*b))
-}
-
-// Whether this is nothing, or a blank.
-fn is_gap(byte: Option<u8>) -> bool
-    ensures { result ≡ is_gap byte }
-{
-    matches!(byte, None | Some(b' ' | b'\t'))
-}
-
-// Whether a byte may be part of a key.
-fn is_key_byte(byte: u8) -> bool
-    ensures { result ≡ is_key_byte byte }
-{
-    byte.is_ascii_alphanumeric() || b"-_./+\"'".contains(&byte) || byte >= 0x80
 }
 
 // Whether a line has names, separated by commas.

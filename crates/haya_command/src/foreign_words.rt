@@ -3,9 +3,6 @@ use crate::foreign::{Foreign, ForeignInput};
 use crate::input::STANDARD_INPUT;
 use std::fmt;
 
-const CONVERT_YAML: &str = "python3 -c 'import sys,yaml,json;\
-json.dump(yaml.safe_load(sys.stdin),sys.stdout,default=str)'";
-
 impl fmt::Display for ForeignInput {
     /// What the input is, behind its name, and a command that converts it, if there is one.
     fn fmt<W: fmt::Write>(&self, f: &mut fmt::Formatter<W>) -> fmt::Result {
@@ -22,7 +19,6 @@ impl fmt::Display for ForeignInput {
                     FormatWord(format, name)
                 )
             }
-            Remedy::Filter(program) => write!(f, "; convert it: {program}"),
             Remedy::Chain(program, filters) => write!(f, "; convert it: {program}{file}{filters}"),
             Remedy::Export => f.write_str("; export the library as CSL JSON"),
         }
@@ -38,8 +34,6 @@ enum Remedy {
     Unpack(&'static str),
     // From this format.
     Convert(&'static str),
-    // By a program that reads standard input.
-    Filter(&'static str),
     // By a program, and what is behind it in a pipeline.
     Chain(&'static str, &'static str),
     // By the program that it comes from.
@@ -60,7 +54,6 @@ impl Foreign {
             Foreign::Pdf => "is a PDF",
             Foreign::Sqlite => "is a SQLite database",
             Foreign::BibTex => "looks like BibTeX",
-            Foreign::Yaml => "looks like YAML",
             Foreign::Ris => "looks like RIS",
             Foreign::Medline => "looks like MEDLINE",
             Foreign::EndNoteXml => "looks like EndNote XML",
@@ -85,7 +78,6 @@ impl Foreign {
             Foreign::BibTex => Remedy::Convert("biblatex"),
             Foreign::Ris => Remedy::Convert("ris"),
             Foreign::EndNoteXml => Remedy::Convert("endnotexml"),
-            Foreign::Yaml => Remedy::Filter(CONVERT_YAML),
             Foreign::Medline => {
                 Remedy::Chain("nbib2xml", " | xml2ris | pandoc -f ris -t csljson")
             }

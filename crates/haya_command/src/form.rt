@@ -1,6 +1,6 @@
 //! The forms in which hits are printed.
 ghost use Rattle.std.specs.Prelude.{◌≡◌, find};
-ghost use Rattle.haya_command.specs.Form.{form_name, form_named, is_form_named};
+ghost use Rattle.haya_command.specs.Form.{form_name, form_named, is_form_named, is_library};
 
 /// How the entries that a selector picks are printed.
 #[derive(Clone, Copy, Debug, Drop, PartialEq, Eq)]
@@ -11,13 +11,21 @@ pub enum Form {
     Lines,
     /// A library of the entries in hayagriva's file format, laid out for people.
     Hayagriva,
+    /// The same library in YAML.
+    Yaml,
     /// A line of JSON a hit: its `key`, its `bindings`, and the `entry` in the file format.
     JsonLines,
 }
 
 impl Form {
     /// Each form once, in the order of the variants.
-    pub const ALL: [Form; 4] = [Form::Keys, Form::Lines, Form::Hayagriva, Form::JsonLines];
+    pub const ALL: [Form; 5] = [
+        Form::Keys,
+        Form::Lines,
+        Form::Hayagriva,
+        Form::Yaml,
+        Form::JsonLines,
+    ];
 
     /// The name that the command gives it.
     pub fn name(self) -> &'static str
@@ -27,8 +35,16 @@ impl Form {
             Form::Keys => "keys",
             Form::Lines => "lines",
             Form::Hayagriva => "hayagriva",
+            Form::Yaml => "yaml",
             Form::JsonLines => "json-lines",
         }
+    }
+
+    /// Whether it is a library of all hits, and not a text of each.
+    pub fn is_library(self) -> bool
+        ensures { result ≡ is_library self }
+    {
+        matches!(self, Form::Hayagriva | Form::Yaml)
     }
 
     /// The form with this name, written exactly as `name` answers.

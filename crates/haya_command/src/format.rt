@@ -1,11 +1,14 @@
 //! The formats that a library's text may have.
-ghost use Rattle.std.specs.Prelude.{◌≡◌, ℕ, [], IfNone, IfOk, IfSome, find, option_map};
+ghost use Rattle.std.specs.Prelude.{◌≡◌, ℕ, [], IfNone, IfOk, IfSome, find};
 ghost use Rattle.json.specs.Json.{read_key};
-ghost use Rattle.haya_command.specs.Formats.{behind, begins_key, format_name, format_named, format_of};
+ghost use Rattle.haya_command.specs.FirstLine.{behind};
+ghost use Rattle.haya_command.specs.Formats.{begins_key, file_format, format_name, format_named};
+ghost use Rattle.haya_command.specs.Formats.{format_of};
 ghost use Rattle.haya_command.specs.Formats.{begins_list, format_for, format_of_members, has_list};
 ghost use Rattle.haya_command.specs.Formats.{is_format_named, keyed_by, members_in};
 
 use crate::block::first_text;
+use crate::first_line::{behind, is_yaml_text};
 use haya_csl::ItemKey;
 use json::{Reader, Scratch, Token};
 use std::alloc::{AllocError, Global};
@@ -15,6 +18,8 @@ use std::alloc::{AllocError, Global};
 pub enum Format {
     /// hayagriva's own file format, written as JSON.
     Hayagriva,
+    /// hayagriva's own file format, written in YAML.
+    Yaml,
     /// CSL-JSON, whose entries have these members of their items as keys.
     CslJson(ItemKey),
     /// Lines of JSON, one an entry: an object of its `key` and of the `entry` in the file format.
@@ -25,8 +30,9 @@ pub enum Format {
 
 impl Format {
     /// Each format once, in the order of the variants.
-    pub const ALL: [Format; 4] = [
+    pub const ALL: [Format; 5] = [
         Format::Hayagriva,
+        Format::Yaml,
         Format::CslJson(ItemKey::CitationKey),
         Format::JsonLines,
         Format::Lines,
@@ -38,6 +44,7 @@ impl Format {
     {
         match self {
             Format::Hayagriva => "hayagriva",
+            Format::Yaml => "yaml",
             Format::CslJson(_) => "csl-json",
             Format::JsonLines => "json-lines",
             Format::Lines => "lines",
@@ -70,19 +77,35 @@ fn first_named(formats: &[Format], name: &str) -> Option<Format>
 }
 
 /// The format that is given, otherwise the one that is guessed from a text's first bytes, these.
+/// Where hayagriva's format is given, they tell whether the text is in JSON or in YAML.
 pub fn format_for(alloc: Global, given: Option<Format>, bytes: &[u8]) -> Result<Format, AllocError>
     ensures { IfOk result (λ format. format ≡ format_for given bytes.now) }
 {
     match given {
+        Some(Format::Hayagriva) => Ok(file_format(bytes)),
         Some(format) => Ok(format),
         None => format_of(alloc, bytes),
     }
 }
 
+// Whether a text in hayagriva's format with these first bytes is in JSON or in YAML: white space
+// aside, JSON begins with `{`.
+fn file_format(bytes: &[u8]) -> Format
+    ensures { result ≡ file_format bytes.now }
+{
+    let text = first_text(bytes).trim_start();
+    if text.is_empty() || text.starts_with('{') {
+        Format::Hayagriva
+    } else {
+        Format::Yaml
+    }
+}
+
 /// The format that is guessed from a text's first bytes, these, as far as `first_text` goes. White
 /// space aside, the first sign is `[` in CSL-JSON, `{` in hayagriva's format, and any other
-/// in lines. But an object that begins with a text as `key` is the first of lines of JSON, and one
-/// of `items` that are a list, wherever they stand among its members, is CSL-JSON.
+/// in lines. But an object that begins with a text as `key` is the first of lines of JSON, one
+/// of `items` that are a list, wherever they stand among its members, is CSL-JSON, and a text whose
+/// first line begins with dashes, an item or a key is YAML.
 pub fn format_of(alloc: Global, bytes: &[u8]) -> Result<Format, AllocError>
     ensures { IfOk result (λ format. format ≡ format_of bytes.now) }
 {
@@ -92,6 +115,7 @@ pub fn format_of(alloc: Global, bytes: &[u8]) -> Result<Format, AllocError>
     }
     match behind("{", text) {
         Some(members) => format_of_members(alloc, members),
+        None if is_yaml_text(text) => Ok(Format::Yaml),
         None => Ok(Format::Lines),
     }
 }
@@ -162,11 +186,4 @@ fn begins_list(reader: &mut Reader<'_>) -> bool
     ensures { result ≡ begins_list reader.old }
 {
     matches!(reader.next(), Some(Token::BeginArray))
-}
-
-// What is behind the sign, where the text begins with that, white space aside.
-pub(crate) fn behind<'a>(sign: &str, text: &'a str) -> Option<&'a str>
-    ensures { option_map (λ rest. rest.now) result ≡ behind sign.now text.now }
-{
-    text.trim_start().strip_prefix(sign)
 }

@@ -1,13 +1,13 @@
 //! Messages: what is passed over, what is asked for in vain, and faults.
 use crate::fault::Fault;
 use crate::near::type_question;
-use haya_json::{Ignored, Loss, Note, Notes, Step};
+use haya_json::{Ignored, Notes};
 use haya_text::OutOfMemory;
 use hayagriva::{Selector, SelectorError};
 use std::alloc::Global;
 
-/// The names of members that are passed over, each with how often it comes.
-pub(crate) fn members_text(alloc: Global, ignored: &Ignored) -> Result<String, OutOfMemory> {
+// The names of members that are passed over, each with how often it comes.
+fn members_text(alloc: Global, ignored: &Ignored) -> Result<String, OutOfMemory> {
     let mut text = String::new(alloc);
     for (name, count) in ignored {
         if !text.is_empty() {
@@ -32,8 +32,7 @@ pub(crate) fn push_notes(
         notes.push_str(line.as_str())?;
     }
     for note in told.lines() {
-        let text = note_text(alloc, note)?;
-        let line = format!(in alloc; "haya: {name}: {text}\n")?;
+        let line = format!(in alloc; "haya: {name}: {note}\n")?;
         notes.push_str(line.as_str())?;
     }
     push_more(alloc, notes, name, told.more())
@@ -48,35 +47,6 @@ fn push_more(alloc: Global, notes: &mut String, name: &str, more: u64) -> Result
     };
     notes.push_str(line.as_str())?;
     Ok(())
-}
-
-/// What is said of one note: the entry's key, and what is lost of it, behind its place in it.
-pub(crate) fn note_text(alloc: Global, note: &Note) -> Result<String, OutOfMemory> {
-    let key = &note.key;
-    let place = place_text(alloc, &note.lost.path)?;
-    match &note.lost.loss {
-        Loss::Again => Ok(format!(in alloc; "`{key}` comes again")?),
-        Loss::Named(name) => Ok(format!(in alloc; "`{key}`: {place}: passed over: {name}")?),
-        Loss::Unread(why, value) => Ok(format!(in alloc; "`{key}`: {place}: {why}: {value}")?),
-    }
-}
-
-// The steps into an entry, separated by slashes.
-fn place_text(alloc: Global, path: &Vec<Step>) -> Result<String, OutOfMemory> {
-    let mut text = String::new(alloc);
-    for step in path {
-        if !text.is_empty() {
-            text.push('/')?;
-        }
-        match step {
-            Step::Name(name) => text.push_str(name.as_str())?,
-            Step::Place(place) => {
-                let place = format!(in alloc; "{place}")?;
-                text.push_str(place.as_str())?;
-            }
-        }
-    }
-    Ok(text)
 }
 
 /// What is said of a fault. One of the selector is shown under its text, with a mark at its place.

@@ -3,6 +3,7 @@ ghost use Rattle.std.specs.Prelude.{◌≡◌, ◌∷◌, ◌++◌, [], IfErr, I
 ghost use Rattle.std.specs.Prelude.{IsOkUnless, string_bytes, true};
 ghost use Rattle.std.specs.Str.{IsUtf8};
 ghost use Rattle.json.specs.Layout.{pretty};
+ghost use Rattle.json.specs.Lex.{tokens};
 ghost use Rattle.json.specs.Print.{print};
 ghost use Rattle.json.specs.Tree.{json_tokens, members_tokens};
 ghost use Rattle.json.specs.Json.{no_members};
@@ -10,8 +11,9 @@ ghost use Rattle.haya_hits.specs.Line.{AreLines, IsEscapedLineOf};
 ghost use Rattle.haya_json.specs.Printed.{library_json, library_members};
 ghost use Rattle.haya_json.specs.Writing.{KeepsBefore};
 ghost use Rattle.hayagriva.specs.Query.{hit_entry};
-ghost use Rattle.haya_command.specs.Printed.{IsJsonLineOf, IsLinesFault, IsPrintedOf, IsTextOf};
-ghost use Rattle.haya_command.specs.Printed.{library_text};
+ghost use Rattle.haya_command.specs.Printed.{IsJsonLineOf, IsLibraryInYaml, IsLinesFault};
+ghost use Rattle.haya_command.specs.Printed.{IsPrintedOf};
+ghost use Rattle.haya_command.specs.Printed.{IsTextOf, library_bytes, library_text};
 ghost use Rattle.haya_command.specs.declared.form.Form.TheVariants.{Lines};
 ghost use Rattle.haya_printing.specs.declared.error.LinesError.TheVariants.{OutOfMemory as memory};
 
@@ -22,6 +24,7 @@ use haya_hits::push_escaped_line;
 use haya_json::{lay_out, write_entry};
 use haya_printing::{LinesError, PrintableLines, entry_lines, printable_lines};
 use haya_text::OutOfMemory;
+use haya_yaml_library::to_yaml;
 use hayagriva::Hit;
 use json::Writer;
 use std::alloc::Global;
@@ -43,6 +46,7 @@ pub fn hits_text(
         Form::Keys => Ok(key_lines(alloc, hits)?),
         Form::Lines => entries_lines(alloc, hits, strict, left),
         Form::Hayagriva => Ok(file(alloc, hits)?),
+        Form::Yaml => Ok(file_in_yaml(alloc, hits)?),
         Form::JsonLines => Ok(json_lines(alloc, hits)?),
     }
 }
@@ -127,17 +131,35 @@ fn said_lines(alloc: Global, hit: &Hit, left: &mut LeftNotes) -> Result<String, 
 fn file(alloc: Global, hits: &[Hit]) -> Result<String, OutOfMemory>
     ensures { IfOk result (λ text. string_bytes text ≡ library_text (map hit_entry hits.now)) }
 {
+    let json = json_file(alloc, hits)?;
+    let mut text = text_of(lay_out(alloc, json.as_str())?);
+    text.push('\n')?;
+    Ok(text)
+}
+
+// The same without white space.
+fn json_file(alloc: Global, hits: &[Hit]) -> Result<String, OutOfMemory>
+    ensures bytes { IfOk result (λ text.
+        string_bytes text ≡ library_bytes (map hit_entry hits.now)) }
+    ensures json { IfOk result (λ text.
+        tokens (string_bytes text) ≡ json_tokens (library_json (map hit_entry hits.now))) }
+{
     let mut out = Writer::new(Vec::new(alloc));
     out.begin_object()?;
     write_entries(alloc, &mut out, hits)?;
     out.end_object()?;
-    let bytes = out.into_inner();
-    let mut text = match str::from_utf8(bytes.as_slice()) {
-        Ok(text) => text_of(lay_out(alloc, text)?),
-        Err(_) => unreachable!(),
-    };
-    text.push('\n')?;
-    Ok(text)
+    Ok(text_of(out.into_inner()))
+}
+
+// The same in YAML.
+fn file_in_yaml(alloc: Global, hits: &[Hit]) -> Result<String, OutOfMemory>
+    ensures { IfOk result (λ text. IsLibraryInYaml (map hit_entry hits.now) (string_bytes text)) }
+{
+    let json = json_file(alloc, hits)?;
+    match to_yaml(alloc, json.as_str())? {
+        Some(text) => Ok(text),
+        None => file(alloc, hits),
+    }
 }
 
 // The entries under their keys.

@@ -1,24 +1,32 @@
 //! The library of texts in any of the formats.
-ghost use Rattle.std.specs.Prelude.{◌≡◌, ◌⊎◌, [], IfErr, IfOk, IsTrue, List, OnOk, fold, map};
-ghost use Rattle.std.specs.Prelude.{string_bytes};
+ghost use Rattle.std.specs.Prelude.{◌≡◌, ◌⊎◌, ◌++◌, ◌∷◌, [], Contains, IfErr, IfOk, IsTrue, List};
+ghost use Rattle.std.specs.Prelude.{None, OnOk, Some, map, string_bytes};
 ghost use Rattle.haya_input.specs.Repeats.{repeats_view};
-ghost use Rattle.haya_json.specs.Notes.{IsNone, kept_of, notes_view};
-ghost use Rattle.hayagriva.specs.Library.{push};
-ghost use Rattle.haya_command.specs.Reading.{AreReadAs, Describes, IsAgain, IsErrorOf, IsReadAs};
-ghost use Rattle.haya_command.specs.Reading.{IsFaultIn, IsInputFault, IsLoss, Tells, again_note};
-ghost use Rattle.haya_command.specs.Reading.{format_in, texts};
-ghost use Rattle.haya_command.specs.declared.format.Format.TheVariants.{Lines};
+ghost use Rattle.haya_json.specs.Notes.{NotesView, all_kept, first_note, kept_of, note_view};
+ghost use Rattle.haya_json.specs.Notes.{notes_view};
+ghost use Rattle.haya_json.specs.Told.{told_again};
+ghost use Rattle.hayagriva.specs.Library.{get, key_of};
 ghost use Rattle.hayagriva.specs.Tree.{Tree};
+ghost use Rattle.haya_command.specs.Reading.{AddsPart, AreCollected, Describes, IsAgain};
+ghost use Rattle.haya_command.specs.Reading.{IsAgainFault};
+ghost use Rattle.haya_command.specs.Reading.{IsErrorOf, IsFaultBehind, IsFaultIn, IsInputFault};
+ghost use Rattle.haya_command.specs.Reading.{IsLoss};
+ghost use Rattle.haya_command.specs.Reading.{IsKeyAgain, IsReadAs, Tells, TellsBy, again_note};
+ghost use Rattle.haya_command.specs.Reading.{all_pushed};
+ghost use Rattle.haya_command.specs.Reading.{format_in, input_names, keys_again, texts};
+ghost use Rattle.haya_command.specs.Told.{told_names, told_views};
+ghost use Rattle.haya_command.specs.declared.format.Format.TheVariants.{Lines};
 ghost use Rattle.haya_command.specs.declared.options.Options.{Options as OptionsData};
 
 use crate::fault::{Fault, InputError};
 use crate::format::{Format, format_for};
-use crate::notes::{members_text, note_text, push_notes};
 use crate::options::{Input, Options};
+use crate::told::InputNotes;
 use haya_csl::read_csl_json_with_hash_keys;
 use haya_input::{InputFault, Repeat, read_library_with_repeats};
-use haya_json::{Ignored, Lost, Note, Notes, read_json_lines, read_library_with_hash_keys};
+use haya_json::{Lost, Note, Notes, read_json_lines, read_library_with_hash_keys};
 use haya_text::OutOfMemory;
+use haya_yaml_library::read_yaml_with_hash_keys;
 use hayagriva::laws::distinct_entries_stand;
 use hayagriva::{HashKeys, Library};
 use std::alloc::Global;
@@ -38,15 +46,19 @@ pub fn read(
 {
     match format {
         Format::Hayagriva => match read_library_with_hash_keys(alloc, keys, text) {
-            Ok((library, ignored)) => Ok((library, Notes::of_names(alloc, ignored))),
+            Ok(read) => Ok(read),
             Err(error) => Err(InputError::Json(error)),
+        },
+        Format::Yaml => match read_yaml_with_hash_keys(alloc, keys, text) {
+            Ok(read) => Ok(read),
+            Err(error) => Err(InputError::Yaml(error)),
         },
         Format::CslJson(key) => match read_csl_json_with_hash_keys(alloc, keys, key, text) {
             Ok(read) => Ok(read),
             Err(error) => Err(InputError::Json(error)),
         },
         Format::JsonLines => match read_json_lines(alloc, keys, text) {
-            Ok((library, ignored)) => Ok((library, Notes::of_names(alloc, ignored))),
+            Ok(read) => Ok(read),
             Err(error) => Err(InputError::JsonLines(error)),
         },
         Format::Lines => read_lines(alloc, keys, text),
@@ -85,67 +97,72 @@ fn repeats_noted(alloc: Global, keys: HashKeys, repeats: Vec<Repeat>) -> Result<
     Ok(notes)
 }
 
-/// A library, and a line for each note on an input.
+/// The library of all inputs, and what is told of each.
 #[derive(Drop)]
 pub struct Collected {
     /// The library.
     pub library: Library,
-    /// The lines.
-    pub notes: String,
+    /// What is told, in the order of the inputs.
+    pub told: Vec<InputNotes>,
 }
 
-/// The library of all inputs: the entries of each in turn, pushed one after another. The library's
-/// map hashes with the keys. The fault is the first input's that has one, or out of memory.
+/// The library of all inputs: the entries of each in turn, pushed one after another. Of each is
+/// told, under its name, what is told of its text, and which of its keys an earlier input has; in a
+/// strict run the first of this is a fault. The library's map hashes with the keys. The fault is
+/// the first input's that has one, or out of memory.
 pub fn read_inputs(
     alloc: Global,
     keys: HashKeys,
     options: &Options,
     inputs: &[Input],
 ) -> Result<Collected, Fault>
-    ensures library { IfOk result (λ read. AreReadAs options.now (texts inputs.now) read.library) }
+    ensures read { IfOk result (λ read.
+        AreCollected options.now (texts inputs.now) read.library (told_views read.told.items)) }
+    ensures names { IfOk result (λ read. told_names read.told.items ≡ input_names inputs.now) }
     ensures fault { IfErr result (IsInputFault options.now inputs.now) }
 {
     let mut library = Library::with_hash_keys(alloc, keys);
-    let mut notes = String::new(alloc);
+    let mut told = Vec::new(alloc);
     'inputs: for input in inputs {
-        match add_input(alloc, keys, options, input, &mut library, &mut notes) {
+        match add_input(alloc, keys, options, input, &mut library, &mut told) {
             Ok(()) => {}
             Err(fault) => return Err(fault),
         }
     }
-    Ok(Collected { library, notes })
+    Ok(Collected { library, told })
 }
 
-// Pushes the entries of one input to the library. What is told of it is noted; a strict run takes it
-// for a fault.
+// Pushes the entries of one input to the library, and tells what is told of it.
 fn add_input(
     alloc: Global,
     keys: HashKeys,
     options: &Options,
     input: &Input,
     library: &mut Library,
-    notes: &mut String,
+    told: &mut Vec<InputNotes>,
 ) -> Result<(), Fault>
-    ensures library { OnOk result ((part : List Tree)
-        × IsReadAs options.now (string_bytes input.now.text) part
-        × (library.new ≡ fold (λ done t. push t done) library.old part)) }
-    ensures fault { IfErr result
-        (λ e. (e ≡ Fault.OutOfMemory) ⊎ IsFaultIn options.now e input.now) }
+    ensures adds { OnOk result (AddsPart options.now (string_bytes input.now.text)
+        library.old library.new (told_views told.old.items) (told_views told.new.items)) }
+    ensures names { OnOk result (told_names told.new.items
+        ≡ told_names told.old.items ++ string_bytes input.now.name ∷ []) }
+    ensures fault { IfErr result (λ e.
+        (e ≡ Fault.OutOfMemory) ⊎ IsFaultBehind options.now library.old input.now e) }
 {
-    let (part, mut told) = read_input(alloc, keys, options, input)?;
-    push_all(
+    let (part, mut notes) = read_input(alloc, keys, options, input)?;
+    note_repeats(
         alloc,
         options,
         input.name.as_str(),
         library,
-        part,
-        &mut told,
+        &part,
+        &mut notes,
     )?;
-    push_notes(alloc, notes, input.name.as_str(), &told)?;
+    push_all(library, part)?;
+    told.push(InputNotes::new(alloc, input.name.as_str(), notes)?)?;
     Ok(())
 }
 
-// The library of one input, and what is told of it; a strict run takes that for a fault.
+// The library of one input, and what is told of it; in a strict run the first of this is a fault.
 fn read_input(
     alloc: Global,
     keys: HashKeys,
@@ -154,13 +171,15 @@ fn read_input(
 ) -> Result<(Library, Notes), Fault>
     ensures library { IfOk result
         (λ read. IsReadAs options.now (string_bytes input.now.text) read.0) }
+    ensures notes { IfOk result
+        (λ read. TellsBy options.now (string_bytes input.now.text) (notes_view read.1)) }
     ensures fault { IfErr result
         (λ e. (e ≡ Fault.OutOfMemory) ⊎ IsFaultIn options.now e input.now) }
 {
     let format = format_for(alloc, options.from, input.text.as_bytes())?.keyed_by(options.key);
     match read(alloc, keys, format, input.text.as_str()) {
-        Ok((library, notes)) => match check_notes(alloc, options, input.name.as_str(), &notes) {
-            Ok(()) => Ok((library, notes)),
+        Ok((library, notes)) => match check_notes(alloc, options, input.name.as_str(), notes) {
+            Ok(notes) => Ok((library, notes)),
             Err(fault) => {
                 drop(library);
                 Err(fault)
@@ -170,75 +189,37 @@ fn read_input(
     }
 }
 
-/// Notes what is told of the input that is called so, if anything is. A strict run takes it for a
-/// fault.
-pub(crate) fn note_passed_over(
+/// What is told of the input that is called so; in a strict run the first of this is a fault.
+pub(crate) fn check_notes(
     alloc: Global,
     options: &Options,
     name: &str,
-    told: &Notes,
-    notes: &mut String,
-) -> Result<(), Fault>
-    ensures none { OnOk result (IsTrue options.now.strict → IsNone (notes_view told.now)) }
+    told: Notes,
+) -> Result<Notes, Fault>
+    ensures same { IfOk result (λ notes. notes_view notes ≡ notes_view told) }
+    ensures none { OnOk result (IsTrue options.now.strict → first_note (notes_view told) ≡ None) }
     ensures fault { IfErr result (λ e. (e ≡ Fault.OutOfMemory)
-        ⊎ (IsTrue options.now.strict × IsLoss name.now e × (¬ IsNone (notes_view told.now)))) }
+        ⊎ (IsTrue options.now.strict × IsLoss name.now (notes_view told) e)) }
 {
-    match check_notes(alloc, options, name, told) {
-        Ok(()) => match push_notes(alloc, notes, name, told) {
-            Ok(()) => Ok(()),
-            Err(OutOfMemory) => Err(Fault::OutOfMemory),
-        },
-        Err(fault) => Err(fault),
+    if !options.strict {
+        return Ok(told);
+    }
+    match told.into_first() {
+        Ok(note) => Err(loss_fault(alloc, name, note)),
+        Err(told) => Ok(told),
     }
 }
 
-// Refuses notes on the input that is called so, in a strict run.
-fn check_notes(alloc: Global, options: &Options, name: &str, told: &Notes) -> Result<(), Fault>
-    ensures none { OnOk result (IsTrue options.now.strict → IsNone (notes_view told.now)) }
-    ensures fault { IfErr result (λ e. (e ≡ Fault.OutOfMemory)
-        ⊎ (IsTrue options.now.strict × IsLoss name.now e × (¬ IsNone (notes_view told.now)))) }
+// The fault that this is the first that is told of the input that is called so.
+fn loss_fault(alloc: Global, name: &str, note: Note) -> Fault
+    ensures { (result ≡ Fault.OutOfMemory)
+        ⊎ ((kept : NotesView) → first_note kept ≡ Some (note_view note)
+        → IsLoss name.now kept result) }
 {
-    if told.is_empty() || !options.strict {
-        return Ok(());
-    }
-    Err(loss_fault(alloc, name, told))
-}
-
-// The fault that something is told of the input that is called so: the first note where that is
-// known, otherwise the names that are counted.
-fn loss_fault(alloc: Global, name: &str, told: &Notes) -> Fault
-    ensures { (result ≡ Fault.OutOfMemory) ⊎ IsLoss name.now result }
-{
-    let Ok(name) = String::from_str(alloc, name) else {
-        return Fault::OutOfMemory;
-    };
-    match told.first() {
-        Some(note) => first_fault(alloc, name, note),
-        None => unknown_fault(alloc, name, told.ignored()),
-    }
-}
-
-// The fault that has this note as its text.
-fn first_fault(alloc: Global, name: String, note: &Note) -> Fault
-    ensures { (result ≡ Fault.OutOfMemory) ⊎ IsLoss (string_bytes name) result }
-{
-    match note_text(alloc, note) {
-        Ok(text) => Fault::PassedOver(name, text),
+    match String::from_str(alloc, name) {
+        Ok(name) => Fault::PassedOver(name, note),
         Err(_) => {
-            drop(name);
-            Fault::OutOfMemory
-        }
-    }
-}
-
-// The fault that members of the input that is called so are unknown.
-fn unknown_fault(alloc: Global, name: String, ignored: &Ignored) -> Fault
-    ensures { (result ≡ Fault.OutOfMemory) ⊎ IsLoss (string_bytes name) result }
-{
-    match members_text(alloc, ignored) {
-        Ok(members) => Fault::Unknown(name, members),
-        Err(_) => {
-            drop(name);
+            drop(note);
             Fault::OutOfMemory
         }
     }
@@ -257,47 +238,55 @@ fn error_fault(alloc: Global, input: &Input, error: InputError) -> Fault
     }
 }
 
-// Pushes each entry of the second library, that of the input that is called so, to the first. Where
-// that has none, the second is what its entries make, as they have keys of their own. A key that the
-// first has comes again: it is noted, and a strict run takes it for a fault.
-fn push_all(
+// Tells which keys of the second library, that of the input that is called so, the first has. In a
+// strict run the first of them is a fault.
+#[tactic(auto, using(haya_json::proofs::NotesKept::kept_together))]
+fn note_repeats(
     alloc: Global,
     options: &Options,
     name: &str,
-    library: &mut Library,
-    more: Library,
+    library: &Library,
+    more: &Library,
     told: &mut Notes,
 ) -> Result<(), Fault>
-    ensures all { OnOk result (library.new ≡ fold (λ done t. push t done) library.old more) }
-    ensures fault { IfErr result (λ e.
-        (e ≡ Fault.OutOfMemory) ⊎ (IsTrue options.now.strict × IsAgain name.now e)) }
+    ensures told { OnOk result (notes_view told.new
+        ≡ all_kept (keys_again library.now more.now) (notes_view told.old)) }
+    ensures strict { OnOk result
+        (IsTrue options.now.strict → notes_view told.new ≡ notes_view told.old) }
+    ensures fault { IfErr result (λ e. (e ≡ Fault.OutOfMemory)
+        ⊎ (IsTrue options.now.strict × IsAgain name.now library.now more.now e)) }
 {
     if library.is_empty() {
-        distinct_entries_stand();
-        drop(more.iter());
-        *library = more;
         return Ok(());
     }
-    'entries: for entry in more {
-        if library.get(entry.key()).is_some() {
-            note_again(alloc, options, name, entry.key(), told)?;
-        }
-        library.insert(entry)?;
+    'entries: for entry in more.iter() {
+        note_repeat(alloc, options, name, library, entry.key(), told)?;
     }
     Ok(())
 }
 
-// Notes that a key of the input that is called so comes again; a strict run takes it for a fault.
-fn note_again(
+// Tells that a key of the input that is called so comes again, where the library has it; in a
+// strict run that is a fault.
+fn note_repeat(
     alloc: Global,
     options: &Options,
     name: &str,
+    library: &Library,
     key: &str,
     told: &mut Notes,
 ) -> Result<(), Fault>
-    ensures { IfErr result (λ e.
-        (e ≡ Fault.OutOfMemory) ⊎ (IsTrue options.now.strict × IsAgain name.now e)) }
+    ensures told { OnOk result (notes_view told.new
+        ≡ all_kept (told_again library.now key.now) (notes_view told.old)) }
+    ensures none { OnOk result
+        (IsTrue options.now.strict → told_again library.now key.now ≡ []) }
+    ensures strict { OnOk result
+        (IsTrue options.now.strict → notes_view told.new ≡ notes_view told.old) }
+    ensures fault { IfErr result (λ e. (e ≡ Fault.OutOfMemory)
+        ⊎ (IsTrue options.now.strict × IsKeyAgain name.now library.now key.now e)) }
 {
+    if library.get(key).is_none() {
+        return Ok(());
+    }
     if options.strict {
         return Err(again_fault(alloc, name, key));
     }
@@ -309,7 +298,7 @@ fn note_again(
 
 // The fault that a key of the input that is called so comes again.
 fn again_fault(alloc: Global, name: &str, key: &str) -> Fault
-    ensures { (result ≡ Fault.OutOfMemory) ⊎ IsAgain name.now result }
+    ensures { (result ≡ Fault.OutOfMemory) ⊎ IsAgainFault name.now key.now result }
 {
     let Ok(name) = String::from_str(alloc, name) else {
         return Fault::OutOfMemory;
@@ -321,4 +310,21 @@ fn again_fault(alloc: Global, name: &str, key: &str) -> Fault
             Fault::OutOfMemory
         }
     }
+}
+
+// Pushes each entry of the second library to the first. Where that has none, the second is what its
+// entries make, as they have keys of their own.
+fn push_all(library: &mut Library, more: Library) -> Result<(), OutOfMemory>
+    ensures { OnOk result (library.new ≡ all_pushed library.old more) }
+{
+    if library.is_empty() {
+        distinct_entries_stand();
+        drop(more.iter());
+        *library = more;
+        return Ok(());
+    }
+    'entries: for entry in more {
+        library.insert(entry)?;
+    }
+    Ok(())
 }

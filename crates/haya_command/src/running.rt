@@ -13,6 +13,7 @@ use crate::notes::fault_text;
 use crate::options::{Input, Options};
 use crate::reading::{Collected, read_inputs};
 use crate::selector_text::check_selector;
+use crate::told::told_text;
 use haya_stream::write_text;
 use hayagriva::{HashKeys, Library};
 use std::alloc::Global;
@@ -88,13 +89,14 @@ fn print_answer<W: Write, E: Write>(
         Keeps (E.contents err.old) (E.contents err.new) }
 {
     check_selector(alloc, options.selector.as_str())?;
-    let Collected { library, notes } = read_inputs(alloc, keys, options, inputs)?;
+    let Collected { library, told } = read_inputs(alloc, keys, options, inputs)?;
     let asked = ask(alloc, &library, options);
     let hint = hint_for(alloc, options, &library, &asked);
     // The process ends with this answer, and gives all memory back at once: entry by entry that
     // takes longer than any selector.
     mem::forget(library);
     let answer = asked?;
+    let notes = told_text(alloc, told.as_slice())?;
     tell_notes(options, notes.as_str(), err);
     tell_notes(options, answer.notes.as_str(), err);
     warn(alloc, options, err);

@@ -1,5 +1,6 @@
 //! The entries of inputs asked one after another, as they are read.
 ghost use Rattle.std.specs.Prelude.{◌≡◌, ◌⊎◌, IfErr, IfOk};
+ghost use Rattle.haya_json.specs.Notes.{none_kept, notes_view};
 ghost use Rattle.haya_command.specs.Streamed.{AsksElements, AsksElementsPart, AsksFirst, AsksInput};
 ghost use Rattle.haya_command.specs.Streamed.{AsksPart, IsStreamFault};
 ghost use Rattle.haya_command.specs.declared.format.Format.TheVariants.{CslJson, Hayagriva};
@@ -9,7 +10,7 @@ use crate::asker::Asker;
 use crate::element_readers::{ItemReader, MemberReader};
 use crate::fault::{Fault, InputError};
 use crate::json_reader::JsonReader;
-use crate::reading::note_passed_over;
+use crate::reading::check_notes;
 use haya_csl::ItemKey;
 use haya_elements::Brackets;
 use haya_json::Notes;
@@ -34,7 +35,8 @@ pub fn ask_lines<'o, R: Read, W: Write>(
     ensures selector { IfOk result (λ asked. asked.selector ≡ asker.entry.selector) }
     ensures asks { IfOk result (λ asked.
         AsksInput Lines asker.entry.options.now asker.entry.selector asker.entry.hits asked.hits
-        (R.remaining input.old) (R.remaining input.new) (W.contents out.old) (W.contents out.new)
+        none_kept (R.remaining input.old) (R.remaining input.new)
+        (W.contents out.old) (W.contents out.new)
         ⊎ AsksFirst Lines asker.entry.options.now asker.entry.selector asker.entry.hits
         asked.hits (R.remaining input.old) (R.remaining input.new)
         (W.contents out.old) (W.contents out.new)) }
@@ -50,22 +52,22 @@ pub fn ask_lines<'o, R: Read, W: Write>(
     }
 }
 
-/// The same of an input in lines of JSON. What is passed over of it is noted when the input has
-/// ended; in a strict run that is a fault.
+/// The same of an input in lines of JSON, with what is told of it. In a strict run the first that
+/// is told is a fault, when the input has ended.
 pub fn ask_json_lines<'o, R: Read, W: Write>(
     asker: Asker<'o>,
     name: &str,
-    notes: &mut String,
     input: &mut R,
     out: &mut W,
-) -> Result<Asker<'o>, Fault>
-    ensures options { IfOk result (λ asked. asked.options.now ≡ asker.entry.options.now) }
-    ensures selector { IfOk result (λ asked. asked.selector ≡ asker.entry.selector) }
+) -> Result<(Asker<'o>, Notes), Fault>
+    ensures options { IfOk result (λ asked. asked.0.options.now ≡ asker.entry.options.now) }
+    ensures selector { IfOk result (λ asked. asked.0.selector ≡ asker.entry.selector) }
     ensures asks { IfOk result (λ asked.
-        AsksInput JsonLines asker.entry.options.now asker.entry.selector asker.entry.hits asked.hits
-        (R.remaining input.old) (R.remaining input.new) (W.contents out.old) (W.contents out.new)
+        AsksInput JsonLines asker.entry.options.now asker.entry.selector asker.entry.hits
+        asked.0.hits (notes_view asked.1) (R.remaining input.old) (R.remaining input.new)
+        (W.contents out.old) (W.contents out.new)
         ⊎ AsksFirst JsonLines asker.entry.options.now asker.entry.selector asker.entry.hits
-        asked.hits (R.remaining input.old) (R.remaining input.new)
+        asked.0.hits (R.remaining input.old) (R.remaining input.new)
         (W.contents out.old) (W.contents out.new)) }
     ensures part { IfErr result
         (AsksPart JsonLines name.now asker.entry.options.now asker.entry.selector
@@ -83,24 +85,23 @@ pub fn ask_json_lines<'o, R: Read, W: Write>(
         Ok(done) => done,
         Err(fault) => return Err(list_fault(alloc, name, fault)),
     };
-    let told = Notes::of_names(alloc, reader.ignored);
-    note_passed_over(alloc, asked.options, name, &told, notes)?;
-    Ok(asked)
+    let notes = check_notes(alloc, asked.options, name, reader.notes)?;
+    Ok((asked, notes))
 }
 
 /// The same of an input in CSL-JSON that is a list of items, whose entries have this member as key:
-/// each item is asked as it is read. What is printed is a contract where the bytes of the input are known.
+/// each item is asked as it is read. What is printed is a contract where the bytes of the input are
+/// known.
 pub fn ask_csl_json<'o, R: Read, W: Write>(
     asker: Asker<'o>,
     key: ItemKey,
     name: &str,
-    notes: &mut String,
     input: &mut R,
     out: &mut W,
-) -> Result<Asker<'o>, Fault>
+) -> Result<(Asker<'o>, Notes), Fault>
     ensures asks { IfOk result (λ asked. AsksElements (CslJson key) asker.entry.options.now
-        asked.options.now asker.entry.selector asked.selector asker.entry.hits asked.hits
-        (R.remaining input.old) (R.remaining input.new) (W.contents out.old)
+        asked.0.options.now asker.entry.selector asked.0.selector asker.entry.hits asked.0.hits
+        (notes_view asked.1) (R.remaining input.old) (R.remaining input.new) (W.contents out.old)
         (W.contents out.new)) }
     ensures part { IfErr result (AsksElementsPart (CslJson key) name.now asker.entry.options.now
         asker.entry.selector (R.remaining input.old) (W.contents out.old) (W.contents out.new)) }
@@ -117,21 +118,20 @@ pub fn ask_csl_json<'o, R: Read, W: Write>(
         Ok(done) => done,
         Err(fault) => return Err(list_fault(alloc, name, fault)),
     };
-    note_passed_over(alloc, asked.options, name, &items.notes, notes)?;
-    Ok(asked)
+    let notes = check_notes(alloc, asked.options, name, items.notes)?;
+    Ok((asked, notes))
 }
 
 /// The same of an input in hayagriva's format: each member of its object is asked as it is read.
 pub fn ask_hayagriva<'o, R: Read, W: Write>(
     asker: Asker<'o>,
     name: &str,
-    notes: &mut String,
     input: &mut R,
     out: &mut W,
-) -> Result<Asker<'o>, Fault>
+) -> Result<(Asker<'o>, Notes), Fault>
     ensures asks { IfOk result (λ asked. AsksElements Hayagriva asker.entry.options.now
-        asked.options.now asker.entry.selector asked.selector asker.entry.hits asked.hits
-        (R.remaining input.old) (R.remaining input.new) (W.contents out.old)
+        asked.0.options.now asker.entry.selector asked.0.selector asker.entry.hits asked.0.hits
+        (notes_view asked.1) (R.remaining input.old) (R.remaining input.new) (W.contents out.old)
         (W.contents out.new)) }
     ensures part { IfErr result (AsksElementsPart Hayagriva name.now asker.entry.options.now
         asker.entry.selector (R.remaining input.old) (W.contents out.old) (W.contents out.new)) }
@@ -148,9 +148,8 @@ pub fn ask_hayagriva<'o, R: Read, W: Write>(
         Ok(done) => done,
         Err(fault) => return Err(list_fault(alloc, name, fault)),
     };
-    let told = Notes::of_names(alloc, members.ignored);
-    note_passed_over(alloc, asked.options, name, &told, notes)?;
-    Ok(asked)
+    let notes = check_notes(alloc, asked.options, name, members.notes)?;
+    Ok((asked, notes))
 }
 
 // The fault of the input that is called so, at which its stream stops.

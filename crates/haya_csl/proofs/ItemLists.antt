@@ -14,14 +14,16 @@ use Rattle.haya_elements.proofs.Documents.{document_of_items}
 use Rattle.haya_entry.specs.Tree.{Tree}
 use Rattle.hayagriva.specs.Library.{AreDistinct, from_entries, get, has_key, key_of, push}
 use Rattle.hayagriva.proofs.Parts.{AreApart-distinct, from_entries-distinct}
+use Rattle.haya_json.specs.Fields.{EntryView}
+use Rattle.haya_json.specs.Told.{told_alone, told_first}
 use Rattle.haya_json.specs.Notes.{NoteView, NotesView, kept_of}
 use Rattle.haya_json.specs.Refusal.{Refusal, and_then, to_item, within}
 use Rattle.haya_json.proofs.ValuesAlone.{one_item}
 use Rattle.haya_json.proofs.TextsRead.{both_ok, ok_same, within_ok}
 use Rattle.haya_csl.specs.ItemLines.{IsItemLineOf, ItemsSay, LinesList, Lists, line_told}
-use Rattle.haya_csl.specs.Items.{ItemView, item_of, item_said}
+use Rattle.haya_csl.specs.Items.{item_of, item_said}
 use Rattle.haya_csl.specs.Libraries.{DescribesAsCsl, csl_library_of, items_pushed}
-use Rattle.haya_csl.specs.Told.{TellsAsCsl, items_told, told_alone, told_first}
+use Rattle.haya_csl.specs.Told.{TellsAsCsl, items_told}
 use Rattle.haya_csl.specs.declared.item_key.ItemKey.{ItemKey}
 
 module _ (by : ItemKey) where
@@ -95,7 +97,7 @@ module _ (by : ItemKey) where
   -- ---- entries with distinct keys
 
   -- what is told of an item whose key is new, and of those behind it
-  told_of_new : (library : List Tree) (said : Result ItemView Refusal) (t : Tree) (more : List Tree → List NoteView)
+  told_of_new : (library : List Tree) (said : Result EntryView Refusal) (t : Tree) (more : List Tree → List NoteView)
       → and_then said (λ v. Ok v.entry) ≡ Ok t → get (key_of t) library ≡ None
       → told_first library said more ≡ told_alone said ++ more (push t library)
   told_of_new library (Ok v) t more is none =

@@ -7,12 +7,14 @@ use Rattle.std.proofs.lemmas.List.Elements.{Contains-append_left, Contains-appen
 use Rattle.json.specs.Json as json
 use Rattle.json.specs.Json.{Json, Members}
 use Rattle.haya_people.specs.Roles.{RoleView}
+use Rattle.haya_json.specs.Fields.{EntryView}
 use Rattle.haya_json.specs.Notes.{LostView, all_behind, lost_here, named}
 use Rattle.haya_json.specs.Refusal.{to_member}
 use Rattle.haya_json.proofs.TextsRead.{both_ok, ok_same}
-use Rattle.haya_csl.specs.Items.{DraftView, ItemView, MemberView, after_member, citation_key_lost, is_place_again, item_key, item_said, item_under, members_set, only_lost, role_of, type_lost, with_field, with_member, with_role_or_place}
+use Rattle.haya_csl.specs.Items.{DraftView, MemberView, after_member, citation_key_lost, is_place_again, item_key, item_said, item_under, members_set, only_lost, role_of, type_lost, with_field, with_member, with_role_or_place}
 use Rattle.haya_csl.specs.Kinds.{is_empty, kind_of}
-use Rattle.haya_csl.specs.LostMembers.{HasMember, lost_as, name_by_choice, name_by_role, told_as}
+use Rattle.haya_json.specs.LostMembers.{HasMember}
+use Rattle.haya_csl.specs.LostMembers.{lost_as, name_by_choice, name_by_role, told_as}
 use Rattle.haya_csl.specs.Members.{place_of}
 use Rattle.haya_csl.specs.declared.item_key.ItemKey.{ItemKey}
 use Rattle.haya_csl.specs.declared.kinds.Kind.{Kind}
@@ -84,11 +86,11 @@ module _ (by : ItemKey) (item : Json) (key : List ℕ) where
       alone = subst (λ (losts : List LostView). Contains (all_behind (to_member k) losts) (lost_as name told)) (sym own) (one k same.0)
 
 -- in an item
-pub member_told : (by : ItemKey) (ms : Members) (said : ItemView) (name : List ℕ) (j : Json) (told : List ℕ) → item_said by (json.object ms) ≡ Ok said → HasMember ms name j
+pub member_told : (by : ItemKey) (ms : Members) (said : EntryView) (name : List ℕ) (j : Json) (told : List ℕ) → item_said by (json.object ms) ≡ Ok said → HasMember ms name j
     → told_as (json.object ms) name j ≡ Some told → Contains said.lost (lost_as name told)
 member_told by ms said name j told is has h =
     let item = json.object ms in
     let first = both_ok (item_key by item) (λ key. Ok (item_under by key item ms)) said is in
     let same : item_under by first.value item ms ≡ said = ok_same first.then in
-    subst (λ (v : ItemView). Contains v.lost (lost_as name told)) same
+    subst (λ (v : EntryView). Contains v.lost (lost_as name told)) same
     (lost_in by item first.value ms (only_lost [] _) name j told has h)

@@ -1,10 +1,11 @@
 -- A text is separated at its opening brackets, one after another.
-use Rattle.std.proofs.Common.{◌≡◌, ℕ, ◌+◌, ◌<◌, suc, Bool, true, false, cond, List, [], ◌∷◌, length, take, drop, Option, None, Some, refl, sym, subst, arith}
+use Rattle.std.proofs.Common.{◌≡◌, ℕ, ◌+◌, ◌<◌, suc, Bool, true, false, cond, List, [], ◌∷◌, length, take, drop, Option, None, Some, refl, sym, ap, ◌∙◌, subst, append-nil, arith}
 use Rattle.std.specs.Prelude.{◌==◌, nat_lt, option_map}
 use Rattle.std.specs.List.{position_or_len}
 use Rattle.std.proofs.lemmas.Bool.Decides.{nat_tests}
 use Prim.Native.Nat.compare.{suc-suc}
-use Rattle.haya_csl.specs.Markup.{cut, pieces}
+use Rattle.haya_text.specs.Printing.{text_display}
+use Rattle.haya_csl.specs.Markup.{cut, markup_read, pieces, pieces_read}
 
 -- the pieces of a text are what stands before the first bracket, and those of what follows it
 abbrev pub PiecesBy : Option (List ℕ × List ℕ) → List ℕ → Type 0
@@ -47,3 +48,11 @@ pieces_cut (b ∷ bs) = by (pieces_cut bs) (b == 60) refl
 
 pub pieces_by : (text : List ℕ) (r : Option (List ℕ × List ℕ)) → r ≡ cut 60 text → PiecesBy r text
 pieces_by text r is = subst (λ q. PiecesBy q text) (sym is) (pieces_cut text)
+
+-- a text without a bracket is shown as it is
+pub plain_whole : (text : List ℕ) → cut 60 text ≡ None → text_display (markup_read text) ≡ text
+plain_whole text none = ap (λ ps. text_display (pieces_read ps).read) (pieces_by text None (sym none)) ∙ by text
+  where
+    by : (text : List ℕ) → text_display (pieces_read (text ∷ [])).read ≡ text
+    by [] = refl
+    by (b ∷ bs) = append-nil (b ∷ bs)

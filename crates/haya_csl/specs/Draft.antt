@@ -3,9 +3,8 @@ use Rattle.std.specs.Prelude.{List, map}
 use Rattle.haya_entry.specs.Tree.{view}
 use Rattle.haya_json.specs.Notes.{losts_view}
 use Rattle.haya_json.specs.declared.notes.Lost.{Lost}
-use Rattle.haya_csl.specs.Items.{DraftView, ItemView, MemberView}
+use Rattle.haya_csl.specs.Items.{DraftView, MemberView}
 use Rattle.haya_csl.specs.declared.draft.Draft.{Draft}
-use Rattle.haya_csl.specs.declared.items.Item.{Item}
 
 abbrev pub draft_view : Draft → DraftView
 draft_view d = record {
@@ -19,6 +18,3 @@ draft_view d = record {
 -- the entries after a member, and what is lost of it
 abbrev pub member_view : List Lost → Draft → MemberView
 member_view losts d = record { after = draft_view d; lost = losts_view losts }
-
-abbrev pub item_view : Item → ItemView
-item_view read = record { entry = view read.entry; lost = losts_view read.lost.items }

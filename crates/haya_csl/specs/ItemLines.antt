@@ -13,9 +13,9 @@ use Rattle.haya_json.specs.Alone.{value_alone}
 use Rattle.haya_json.specs.Libraries.{IsErrorOfJson}
 use Rattle.haya_json.specs.Notes.{NoteView, NotesView, kept_of}
 use Rattle.haya_json.specs.Refusal.{Refusal, to_item, within}
+use Rattle.haya_json.specs.Told.{told_alone}
 use Rattle.haya_json.specs.declared.error.ReadError.{ReadError}
 use Rattle.haya_csl.specs.Items.{item_of, item_said}
-use Rattle.haya_csl.specs.Told.{told_alone}
 use Rattle.haya_csl.specs.declared.item_key.ItemKey.{ItemKey}
 
 -- ---- one line

@@ -10,6 +10,7 @@ use Rattle.haya_people.specs.declared.role.PersonRole.TheVariants as role
 use Rattle.haya_entry.specs.Tree.{Tree, new_entry, with_parents}
 use Rattle.haya_entry.specs.declared.types.EntryType.{EntryType}
 use Rattle.haya_entry.specs.declared.types.EntryType.TheVariants as type
+use Rattle.haya_json.specs.Fields.{EntryView}
 use Rattle.haya_json.specs.Notes.{LossView, LostView, all_behind, lost_here, named, unread}
 use Rattle.haya_json.specs.Refusal.{Refusal, refused, within, and_then, to_member}
 use Rattle.haya_json.specs.Parts.{bytes_of, needed_in, text_in}
@@ -214,21 +215,17 @@ members_set by kind key item (json.member k j ms) m =
     (after_member k m.lost (with_member by kind key k item j m.after))
 
 -- what an item says: its entry, and what is lost of it
-pub record ItemView : Type 0 where
-  pub entry : Tree
-  pub lost : List LostView
-
-abbrev pub item_made : MemberView → ItemView
+abbrev pub item_made : MemberView → EntryView
 item_made m = record { entry = entry_made m.after; lost = m.lost }
 
 -- the same under this key, which the item's parents have, too
-abbrev pub item_under : ItemKey → List ℕ → Json → Members → ItemView
+abbrev pub item_under : ItemKey → List ℕ → Json → Members → EntryView
 item_under by key item ms =
     let kind = kind_of item in
     item_made (members_set by kind key item ms (only_lost [] (new_draft key kind.entry)))
 
 -- an item is an object that has a key
-abbrev pub item_said : ItemKey → Json → Result ItemView Refusal
+abbrev pub item_said : ItemKey → Json → Result EntryView Refusal
 item_said by (json.object ms) =
     and_then (item_key by (json.object ms)) (λ key. Ok (item_under by key (json.object ms) ms))
 item_said by _ = refused NotObject

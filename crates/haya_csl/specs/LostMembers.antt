@@ -1,8 +1,7 @@
 -- Members of an item that set nothing.
-use Rattle.std.specs.Prelude.{◌≡◌, ◌⊎◌, ℕ, ◌||◌, List, Option, None, Some, codes, if◌then◌else◌}
+use Rattle.std.specs.Prelude.{ℕ, ◌||◌, List, Option, None, Some, codes, if◌then◌else◌}
 use Rattle.std.specs.Str.{bytes_eq}
-use Rattle.json.specs.Json as json
-use Rattle.json.specs.Json.{Json, Members}
+use Rattle.json.specs.Json.{Json}
 use Rattle.haya_people.specs.Roles.{RoleView}
 use Rattle.haya_json.specs.Notes.{LostView, lost_behind, lost_here, named}
 use Rattle.haya_json.specs.Refusal.{to_member}
@@ -12,11 +11,6 @@ use Rattle.haya_csl.specs.Members.{beside, place_of}
 use Rattle.haya_csl.specs.declared.members.Choice.{Choice}
 use Rattle.haya_csl.specs.declared.members.Choice.TheVariants.{Put, Pass}
 use Rattle.haya_csl.specs.declared.members.Place.{Place}
-
--- one of the members has this name and this value
-abbrev pub HasMember : Members → List ℕ → Json → Type 0
-HasMember json.no_members name j = ⊥
-HasMember (json.member k i ms) name j = ((k ≡ name) × (i ≡ j)) ⊎ HasMember ms name j
 
 -- ---- the name that a member is told under
 

@@ -4,15 +4,17 @@ use Rattle.json.specs.Json.{Json, Items, no_items, item, array, document}
 use Rattle.json.specs.Strict.{ItemsHaveUniqueKeys}
 use Rattle.json.specs.Token.{Token}
 use Rattle.hayagriva.specs.Library.{push}
+use Rattle.haya_json.specs.Fields.{EntryView}
 use Rattle.haya_json.specs.Notes.{all_kept, kept_of, notes_view}
 use Rattle.haya_json.specs.Refusal.{IsFaultOf, within, to_item}
+use Rattle.haya_json.specs.Told.{told_of}
 use Rattle.haya_json.specs.declared.error.ReadError.{ReadError}
 use Rattle.haya_json.specs.declared.error.ReadError.TheVariants as error
 use Rattle.haya_json.specs.declared.fault.Fault.{Fault}
 use Rattle.haya_json.specs.declared.fault.Fault.TheVariants as fault
-use Rattle.haya_csl.specs.Items.{ItemView, item_of, item_said}
+use Rattle.haya_csl.specs.Items.{item_of, item_said}
 use Rattle.haya_csl.specs.Libraries.{items_pushed}
-use Rattle.haya_csl.specs.Told.{items_told, told_of}
+use Rattle.haya_csl.specs.Told.{items_told}
 use Rattle.haya_csl.specs.declared.item_key.ItemKey.{ItemKey}
 use Rattle.haya_csl.specs.declared.turns.Made.{Made}
 
@@ -53,7 +55,7 @@ TakesItem by j place old new =
 
 -- the entry of an item is pushed, and what is lost of the item is told
 pub record MakesOne (by : ItemKey) (j : Json) (old new : Made) : Type 0 where
-  pub view : ItemView
+  pub view : EntryView
   pub said : item_said by j ≡ Ok view
   pub pushed : new.library ≡ push view.entry old.library
   pub told : notes_view new.notes

@@ -24,8 +24,7 @@ use haya_text::OutOfMemory;
 use haya_time::{Date, Season};
 use json::Value;
 use kept::{
-    dated, followed_by, kept, kept_but_named, kept_but_unread, ranged, unknown_member, with_all,
-    with_one,
+    dated, followed_by, kept, kept_but_named, kept_but_unread, ranged, unknown_member, with_one,
 };
 use parts::read_dates;
 use std::alloc::Global;

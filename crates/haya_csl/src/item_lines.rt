@@ -5,16 +5,15 @@ ghost use Rattle.json.specs.Value.{value_view};
 ghost use Rattle.haya_entry.specs.Tree.{view};
 ghost use Rattle.haya_json.specs.Notes.{all_kept, notes_view};
 ghost use Rattle.haya_json.specs.Refusal.{IsFaultOf};
+ghost use Rattle.haya_json.specs.Told.{told_alone};
 ghost use Rattle.haya_csl.specs.ItemLines.{IsItemLineErrorOf, IsItemLineOf};
 ghost use Rattle.haya_csl.specs.ItemLines.{item_at, item_in, line_told};
 ghost use Rattle.haya_csl.specs.Items.{item_of, item_said};
-ghost use Rattle.haya_csl.specs.Told.{told_alone};
 
 use crate::item_key::ItemKey;
 use crate::items::read_item;
-use crate::told::take_entry;
 use haya_entry::Entry;
-use haya_json::reading::{Fault, name_twice_in_line, no_item, read_alone};
+use haya_json::reading::{Fault, name_twice_in_line, no_item, read_alone, take_entry};
 use haya_json::{Notes, ReadError};
 use json::{Reader, Scratch, Value};
 use std::alloc::Global;

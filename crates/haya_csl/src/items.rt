@@ -2,14 +2,14 @@
 ghost use Rattle.std.specs.Map.{lookup};
 ghost use Rattle.std.specs.Option.{option_map_or};
 ghost use Rattle.std.specs.Str.{bytes_eq};
-ghost use Rattle.std.specs.Prelude.{◌≡◌, ◌++◌, [], ◌∷◌, Ok, false, option_map, IfErr, IfOk, OnOk};
+ghost use Rattle.std.specs.Prelude.{◌≡◌, [], Ok, false, option_map, IfErr, IfOk};
 ghost use Rattle.json.specs.Value.{members_view, value_view};
 ghost use Rattle.haya_people.specs.Roles.{role_view};
-ghost use Rattle.haya_json.specs.Notes.{all_behind, lost_here, lost_view, losts_view, named};
-ghost use Rattle.haya_json.specs.Notes.{unread};
+ghost use Rattle.haya_json.specs.Notes.{losts_view};
 ghost use Rattle.haya_json.specs.Parts.{text_in};
-ghost use Rattle.haya_json.specs.Refusal.{IsFaultOf, to_member};
-ghost use Rattle.haya_csl.specs.Draft.{draft_view, item_view, member_view};
+ghost use Rattle.haya_json.specs.Readings.{reading_view};
+ghost use Rattle.haya_json.specs.Refusal.{IsFaultOf};
+ghost use Rattle.haya_csl.specs.Draft.{draft_view, member_view};
 ghost use Rattle.haya_csl.specs.Items.{citation_key_lost, is_place_again, item_of, item_said};
 ghost use Rattle.haya_csl.specs.Items.{item_under, later_roles, members_set, only_lost, placed};
 ghost use Rattle.haya_csl.specs.Items.{role_of, text_lost, type_lost, with_field, with_member};
@@ -19,24 +19,17 @@ use crate::item_key::{ItemKey, item_key};
 use crate::kinds::{Kind, has, is_empty, kind_named, kind_of, text_at};
 use crate::members::{Choice, Place, beside, place_of};
 use haya_entry::Entry;
-use haya_json::reading::{Fault, text_in};
-use haya_json::{Lost, Why, all_in_member};
+use haya_json::reading::{Fault, Reading, add_in_member, only_named, only_unread, text_in};
+use haya_json::{Lost, Why};
 use haya_people::PersonRole;
 use haya_text::OutOfMemory;
 use json::Value;
 use std::alloc::Global;
 
-/// What an item says: its entry, and what is lost of it.
-#[derive(Drop)]
-pub(crate) struct Item {
-    pub(crate) entry: Entry,
-    pub(crate) lost: Vec<Lost>,
-}
-
 /// What an item says, an object that has a key.
-pub(crate) fn read_item(alloc: Global, by: ItemKey, item: &Value<'_>) -> Result<Item, Fault>
+pub(crate) fn read_item(alloc: Global, by: ItemKey, item: &Value<'_>) -> Result<Reading, Fault>
     ensures ok { IfOk result (λ read.
-        item_said by (value_view item.now) ≡ Ok (item_view read)) }
+        item_said by (value_view item.now) ≡ Ok (reading_view read)) }
     ensures fault { IfErr result (IsFaultOf (item_of by (value_view item.now))) }
 {
     let Value::Object(members) = item else {
@@ -59,9 +52,9 @@ fn read_under(
     key: &str,
     item: &Value<'_>,
     members: &Vec<(&str, Value<'_>)>,
-) -> Result<Item, OutOfMemory>
+) -> Result<Reading, OutOfMemory>
     ensures { IfOk result (λ read. item_under by key.now (value_view item.now)
-        (members_view members.now.items) ≡ item_view read) }
+        (members_view members.now.items) ≡ reading_view read) }
 {
     let kind = kind_of(item);
     let mut draft = Draft::new(alloc, Entry::new(alloc, key, kind.entry)?);
@@ -73,7 +66,7 @@ fn read_under(
         }
     };
     match draft.into_entry() {
-        Ok(entry) => Ok(Item { entry, lost }),
+        Ok(entry) => Ok(Reading { entry, lost }),
         Err(error) => {
             drop(lost);
             Err(error)
@@ -98,28 +91,9 @@ fn set_members(
     let mut lost = Vec::new(alloc);
     'members: for member in members {
         let of_member = set_member(alloc, draft, by, kind, key, member.0, item, &member.1)?;
-        add_lost(alloc, &mut lost, of_member, member.0)?;
+        add_in_member(alloc, &mut lost, of_member, member.0)?;
     }
     Ok(lost)
-}
-
-// Puts what is lost of a member last, as it is seen from the item.
-fn add_lost(
-    alloc: Global,
-    lost: &mut Vec<Lost>,
-    of_member: Vec<Lost>,
-    name: &str,
-) -> Result<(), OutOfMemory>
-    ensures { OnOk result (losts_view lost.new.items ≡ losts_view lost.old.items
-        ++ all_behind (to_member name.now) (losts_view of_member.items)) }
-{
-    let mut more = all_in_member(alloc, of_member, name)?;
-    let added = lost.append(&mut more);
-    drop(more);
-    match added {
-        Ok(()) => Ok(()),
-        Err(_) => Err(OutOfMemory),
-    }
 }
 
 // Sets one member, and answers what is lost of it.
@@ -152,30 +126,6 @@ fn set_member(
     set_field(alloc, draft, kind, key, name, item, json)
 }
 
-// The value itself is lost, under this name.
-fn named(alloc: Global, name: &str) -> Result<Vec<Lost>, OutOfMemory>
-    ensures { IfOk result (λ lost.
-        losts_view lost.items ≡ lost_here (named name.now) ∷ []) }
-{
-    only(alloc, Lost::named(alloc, name)?)
-}
-
-// The value itself isn't read, for this reason.
-fn unread(alloc: Global, why: Why, json: &Value<'_>) -> Result<Vec<Lost>, OutOfMemory>
-    ensures { IfOk result (λ lost. losts_view lost.items ≡ lost_here (unread why) ∷ []) }
-{
-    only(alloc, Lost::unread(alloc, why, json)?)
-}
-
-// This alone is lost.
-fn only(alloc: Global, lost: Lost) -> Result<Vec<Lost>, OutOfMemory>
-    ensures { IfOk result (λ losts. losts_view losts.items ≡ lost_view lost ∷ []) }
-{
-    let mut losts = Vec::new(alloc);
-    losts.push(lost)?;
-    Ok(losts)
-}
-
 // What is lost of a `citation-key`: where it isn't the key, all of it.
 fn citation_key_lost(alloc: Global, by: ItemKey, json: &Value<'_>) -> Result<Vec<Lost>, OutOfMemory>
     ensures { IfOk result (λ lost.
@@ -183,7 +133,7 @@ fn citation_key_lost(alloc: Global, by: ItemKey, json: &Value<'_>) -> Result<Vec
 {
     match by {
         ItemKey::CitationKey => text_lost(alloc, text_in(json), json),
-        ItemKey::Id => named(alloc, "citation-key"),
+        ItemKey::Id => only_named(alloc, "citation-key"),
     }
 }
 
@@ -194,7 +144,7 @@ fn text_lost(alloc: Global, text: Option<&str>, json: &Value<'_>) -> Result<Vec<
 {
     match text {
         Some(_) => Ok(Vec::new(alloc)),
-        None => unread(alloc, Why::NotText, json),
+        None => only_unread(alloc, Why::NotText, json),
     }
 }
 
@@ -209,11 +159,11 @@ fn type_lost(
         ≡ type_lost (option_map (λ t. t.now) name.entry) (value_view item.now)) }
 {
     let Some(name) = name else {
-        return unread(alloc, Why::NotText, json);
+        return only_unread(alloc, Why::NotText, json);
     };
     match kind_named(name, item) {
         Some(_) => Ok(Vec::new(alloc)),
-        None => unread(alloc, Why::UnknownType, json),
+        None => only_unread(alloc, Why::UnknownType, json),
     }
 }
 
@@ -279,10 +229,10 @@ fn set_placed(
         (draft_view draft.old) ≡ member_view lost.items draft.new) }
 {
     let Some(place) = place else {
-        return named(alloc, name);
+        return only_named(alloc, name);
     };
     match place.choice {
-        Choice::Pass => named(alloc, beside(name)),
+        Choice::Pass => only_named(alloc, beside(name)),
         Choice::Put(field) => draft.set(alloc, place.level, key, field, name, item, json),
     }
 }

@@ -5,12 +5,14 @@ ghost use Rattle.std.specs.List.{Contains};
 ghost use Rattle.json.specs.Json.{Items, Json, Members, array, document, object};
 ghost use Rattle.haya_entry.specs.Tree.{Tree};
 ghost use Rattle.hayagriva.specs.Library.{AreDistinct, from_entries};
+ghost use Rattle.haya_json.specs.Fields.{EntryView};
+ghost use Rattle.haya_json.specs.LostMembers.{HasMember};
 ghost use Rattle.haya_json.specs.Notes.{NotesView};
 ghost use Rattle.haya_json.specs.Refusal.{Refusal};
 ghost use Rattle.haya_csl.specs.ItemLines.{LinesList, Lists};
-ghost use Rattle.haya_csl.specs.Items.{ItemView, item_said};
+ghost use Rattle.haya_csl.specs.Items.{item_said};
 ghost use Rattle.haya_csl.specs.Libraries.{DescribesAsCsl, csl_library_of};
-ghost use Rattle.haya_csl.specs.LostMembers.{HasMember, lost_as, told_as};
+ghost use Rattle.haya_csl.specs.LostMembers.{lost_as, told_as};
 ghost use Rattle.haya_csl.specs.Refused.{RefusesLibrary};
 ghost use Rattle.haya_csl.specs.Told.{TellsAsCsl};
 ghost use Rattle.haya_csl.specs.declared.item_key.ItemKey.{ItemKey};
@@ -48,7 +50,7 @@ pub fn libraries_are_lists()
 /// A member of an item that sets nothing is told under its name: one that has no place in an entry,
 /// or in whose place the item has another.
 pub fn lost_members_are_told()
-    ensures { (by : ItemKey) (ms : Members) (said : ItemView) (name : List ℕ) (j : Json)
+    ensures { (by : ItemKey) (ms : Members) (said : EntryView) (name : List ℕ) (j : Json)
         (told : List ℕ) →
         item_said by (object ms) ≡ Ok said → HasMember ms name j →
         told_as (object ms) name j ≡ Some told → Contains said.lost (lost_as name told) }

@@ -17,7 +17,6 @@ mod numbers;
 mod said;
 mod serials;
 mod texts;
-mod told;
 mod turns;
 
 pub use item_key::ItemKey;

@@ -9,9 +9,8 @@ ghost use Rattle.haya_csl.specs.Told.{TellsAsCsl, items_told, list_in_told, list
 
 use crate::item_key::ItemKey;
 use crate::items::read_item;
-use crate::told::push_item;
 use crate::turns::read_list_text;
-use haya_json::reading::{Fault, member, name_twice, not_json};
+use haya_json::reading::{Fault, member, name_twice, not_json, push_reading};
 use haya_json::{Notes, ReadError, Why};
 use hayagriva::{HashKeys, Library};
 use json::{Scratch, Value};
@@ -185,7 +184,7 @@ fn read_items(
     let mut library = Library::with_hash_keys(alloc, keys);
     'items: for place in 0..items.len() {
         match read_item(alloc, by, &items[place]) {
-            Ok(read) => push_item(alloc, &mut library, notes, read)?,
+            Ok(read) => push_reading(alloc, &mut library, notes, read)?,
             Err(fault) => return Err(fault.in_item(place)),
         }
     }

@@ -1,6 +1,8 @@
 //! Texts with CSL's markup: its tags are taken out, and what is to keep its case is verbatim.
 ghost use Rattle.std.specs.Prelude.{◌≡◌, ◌+◌, ◌≤◌, ◌<◌, ◌^◌, IfOk, OnOk, option_map};
+ghost use Rattle.std.specs.Prelude.{string_bytes};
 ghost use Rattle.haya_text.specs.Chunks.{chunks};
+ghost use Rattle.haya_text.specs.Printing.{text_display};
 ghost use Rattle.haya_csl.specs.Markup.{behind_tag, cut, kind_in, markup_read, other_tag, pushed};
 ghost use Rattle.haya_csl.specs.Markup.{tag_of, taken};
 ghost use Rattle.haya_csl.specs.Reader.{reader_view};
@@ -50,7 +52,18 @@ pub(crate) fn read_markup(alloc: Global, text: &str) -> Result<ChunkedString, Ou
     Ok(reader.read)
 }
 
-// What stands before the first of these signs, and behind it.
+/// What is shown of a text without its markup.
+pub(crate) fn plain_text(alloc: Global, text: &str) -> Result<String, OutOfMemory>
+    ensures { IfOk result (λ plain. string_bytes plain ≡ text_display (markup_read text.now)) }
+{
+    if cut(text, '<').is_none() {
+        return Ok(String::from_str(alloc, text)?);
+    }
+    let read = read_markup(alloc, text)?;
+    Ok(format!(in alloc; "{read}")?)
+}
+
+// What comes before the first of these signs, and behind it.
 fn cut(text: &str, sign: char) -> Option<(&str, &str)>
     requires { sign < 128 }
     ensures { option_map (λ p. (p.0.now, p.1.now)) result ≡ cut sign text.now }

@@ -15,10 +15,10 @@ ghost use Rattle.haya_csl.specs.Names.{with_part};
 ghost use Rattle.haya_csl.specs.Said.{said_view};
 ghost use Rattle.haya_csl.specs.Texts.{said_as, says_some};
 
-use crate::markup::read_markup;
+use crate::markup::plain_text;
 use crate::said::Said;
-use haya_json::reading::text_in;
-use haya_json::{Lost, Why, all_in_item, all_in_member};
+use haya_json::reading::{add_in_item, add_in_member, text_in};
+use haya_json::{Lost, Why};
 use haya_people::Person;
 use haya_text::OutOfMemory;
 use json::Value;
@@ -82,7 +82,7 @@ fn read_each(
     'names: for place in 0..items.len() {
         let said = read_name(alloc, of, &items[place])?;
         add_person(&mut persons, said.value)?;
-        add_lost(&mut lost, all_in_item(alloc, said.lost, place)?)?;
+        add_in_item(alloc, &mut lost, said.lost, place)?;
     }
     Ok(Said {
         value: some_persons(persons),
@@ -110,15 +110,6 @@ fn add_person(persons: &mut Vec<Person>, person: Option<Person>) -> Result<(), O
     if let Some(person) = person {
         persons.push(person)?;
     }
-    Ok(())
-}
-
-// Puts what is lost behind what was lost before.
-fn add_lost(all: &mut Vec<Lost>, mut lost: Vec<Lost>) -> Result<(), OutOfMemory>
-    ensures { OnOk result (losts_view all.new.items
-        ≡ losts_view all.old.items ++ losts_view lost.items) }
-{
-    all.append(&mut lost)?;
     Ok(())
 }
 
@@ -230,7 +221,7 @@ impl NameParts {
             (parts_view self.old)) }
     {
         let Said { value, lost } = read_part(alloc, json)?;
-        add_lost(&mut self.lost, all_in_member(alloc, lost, name)?)?;
+        add_in_member(alloc, &mut self.lost, lost, name)?;
         Ok(value)
     }
 
@@ -243,7 +234,7 @@ impl NameParts {
             (parts_view self.old)) }
     {
         let Said { value, lost } = read_truth(alloc, json)?;
-        add_lost(&mut self.lost, all_in_member(alloc, lost, name)?)?;
+        add_in_member(alloc, &mut self.lost, lost, name)?;
         Ok(value.unwrap_or(false))
     }
 
@@ -268,10 +259,7 @@ fn read_part(alloc: Global, json: &Value<'_>) -> Result<Said<String>, OutOfMemor
     match text_in(json) {
         None => Said::unread(alloc, Why::NotText, json),
         Some("") => Ok(Said::none(alloc)),
-        Some(text) => {
-            let read = read_markup(alloc, text)?;
-            Ok(some_text(alloc, format!(in alloc; "{read}")?))
-        }
+        Some(text) => Ok(some_text(alloc, plain_text(alloc, text)?)),
     }
 }
 

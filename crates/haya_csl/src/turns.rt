@@ -13,8 +13,9 @@ ghost use Rattle.haya_csl.specs.Turns.{first_and_left, items_left};
 
 use crate::item_key::ItemKey;
 use crate::items::read_item;
-use crate::told::push_item;
-use haya_json::reading::{ELEMENT_DEPTH, Fault, has_unique_names, name_twice, not_json};
+use haya_json::reading::{
+    ELEMENT_DEPTH, Fault, has_unique_names, name_twice, not_json, push_reading,
+};
 use haya_json::{Notes, ReadError};
 use haya_text::OutOfMemory;
 use hayagriva::{HashKeys, Library};
@@ -199,7 +200,7 @@ impl Made {
             return Ok(());
         }
         match read_item(alloc, by, item) {
-            Ok(read) => push_item(alloc, &mut self.library, &mut self.notes, read),
+            Ok(read) => push_reading(alloc, &mut self.library, &mut self.notes, read),
             Err(fault) => self.refuse(fault.in_item(place)),
         }
     }

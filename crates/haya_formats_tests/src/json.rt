@@ -1,10 +1,8 @@
-//! Libraries in JSON: what is read and printed, and why a text says no library.
-mod examples;
+//! Libraries in JSON: what is read, and why a text says no library. `tests/json` tries what is printed.
 mod ignored;
 mod limits;
 mod lines;
 mod member_lines;
-mod printed;
 mod refused;
 mod rows;
 mod shown;

@@ -7,9 +7,9 @@ mod csl;
 #[cfg(test)]
 mod elements;
 #[cfg(test)]
-mod hits;
-#[cfg(test)]
 mod json;
+#[cfg(test)]
+mod notes;
 #[cfg(test)]
 mod open_entries;
 #[cfg(test)]

@@ -23,7 +23,7 @@ const CSL: (&str, &str) = (
     " [{\"id\":\"m\",\"citation-key\":\"n\",\"type\":\"tale\",\"x\":1}]",
 );
 
-const BAD: (&str, &str) = ("e.json", "{\"k\":{\"type\":\"book\",\"date\":\"soon\"}}");
+const BAD: (&str, &str) = ("e.json", "{\"k\":{\"type\":\"book\"},\"l\":1}");
 
 const NOTE: &str = "haya: c.json: passed over: colour (1), size (2)\n";
 
@@ -75,13 +75,13 @@ const ROWS: &[(&str, &str, &[(&str, &str)], u8, &str, &str)] = &[
     ("*[isnb, doi]", "", &[LINES], 1, "", NAME_NOTE),
 ];
 
-const JSON_FAULT: &str = "haya: c.json: unknown members: colour (1), size (2)\n";
+const JSON_FAULT: &str = "haya: c.json: `k`: colour: passed over: colour\n";
 
 const CSL_FAULT: &str = "haya: d.json: `n`: type: unknown type: \"tale\"\n";
 
 const ID_FAULT: &str = "haya: d.json: `m`: citation-key: passed over: citation-key\n";
 
-const BAD_FAULT: &str = "haya: e.json: /k/date: no date\n";
+const BAD_FAULT: &str = "haya: e.json: /l: expected an object\n";
 
 const TYPE_FAULT: &str = "haya: book > Artcle\n             \
     ^^^^^^ unknown entry type: `artcle`; did you mean `article`?\n";

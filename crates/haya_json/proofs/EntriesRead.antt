@@ -1,5 +1,5 @@
 -- Entries that were read, with all their ancestors.
-use Rattle.std.proofs.Common.{◌≡◌, ◌+◌, ◌&&◌, ℕ, Bool, true, false, List, [], ◌∷◌, None, Some, Result, Ok, sym, subst}
+use Rattle.std.proofs.Common.{◌≡◌, ◌+◌, ◌&&◌, ℕ, Bool, true, false, List, [], ◌∷◌, None, Some, Result, Ok, Err, refl, sym, subst}
 use Rattle.std.specs.Prelude.{codes, is_some, if◌then◌else◌}
 use Rattle.std.specs.Str.{bytes_eq}
 use Rattle.json.specs.Json as json
@@ -10,8 +10,9 @@ use Rattle.haya_entry.specs.Tree.{Tree, Trees, node, no_trees, one_more, fields,
 use Rattle.haya_entry.specs.declared.types.EntryType.{EntryType}
 use Rattle.haya_json.specs.Refusal.{Refusal, within, and_then, to_member, to_item}
 use Rattle.haya_json.specs.Parts.{plain_of}
-use Rattle.haya_json.specs.Fields.{with_field}
-use Rattle.haya_json.specs.Entries.{Default, type_among, key_among, with_member, entry_of, members_set, parents_of, parents_from}
+use Rattle.haya_json.specs.Fields.{EntryView, entry_alone, with_field}
+use Rattle.haya_json.specs.Notes.{refusal_lost}
+use Rattle.haya_json.specs.Entries.{Default, ParentsView, after_member, entry_begun, entry_of, entry_said, items_said, key_among, kind_of, members_said, parents_said, type_of, with_item, with_member}
 use Rattle.haya_json.specs.Libraries.{entries_of, library_of}
 use Rattle.haya_json.specs.Readable.{TreeIsReadable, TreesAreReadable, EntriesAreReadable}
 use Rattle.haya_json.proofs.FieldsRead.{FieldsWereRead, Kept, field_read, fields_readable, none_read}
@@ -63,65 +64,70 @@ fields_of_read : (t : Tree) → TreeWasRead t → FieldsWereRead (fields t)
 fields_of_read (node f ps) r = r.0
 
 module _ (again : ReadAgain) where
-  member_read : (default : Default) (k : List ℕ) (j : Json) (parents : Result (List Tree) Refusal) (t u : Tree) → HasTexts j → ((ps : List Tree) → parents ≡ Ok ps → EntriesWereRead ps)
-      → TreeWasRead t → with_member default k j parents t ≡ Ok u → TreeWasRead u
-  member_read default k j ps t u texts each r h = by (is_null j) (bytes_eq k (codes "type")) (bytes_eq k (codes "parent")) (bytes_eq k (codes "key") && is_some default) h
+  member_read : (default : Default) (k : List ℕ) (j : Json) (ps : ParentsView) (t : Tree) → HasTexts j → EntriesWereRead ps.entries → TreeWasRead t → TreeWasRead (with_member default k j ps t).entry
+  member_read default k j ps t texts each r = by (is_null j) (bytes_eq k (codes "type")) (bytes_eq k (codes "parent")) (bytes_eq k (codes "key") && is_some default)
     where
-      same : (let r : Result Tree Refusal = Ok t in r ≡ Ok u) → TreeWasRead u
-      same g = subst TreeWasRead (ok_same g) r
-
-      over : (t : Tree) (qs : List Tree) → TreeWasRead t → EntriesWereRead qs → TreeWasRead (with_parents qs t)
-      over (node f os) qs s e = (s.0, from_list qs e)
+      over : (t : Tree) → TreeWasRead t → TreeWasRead (with_parents ps.entries t)
+      over (node f os) s = (s.0, from_list ps.entries each)
 
       by : (a b c d : Bool)
-          → (if a then Ok t else if b then Ok t else if c then and_then ps (λ qs. Ok (with_parents qs t)) else if d then and_then (plain_of j) (λ _. Ok t) else with_field k j t) ≡ Ok u → TreeWasRead u
-      by true b c d g = same g
-      by false true c d g = same g
-      by false false true d g =
-          let q = both_ok ps _ u g in
-          subst TreeWasRead (ok_same q.then) (over t q.value r (each q.value q.first))
-      by false false false true g = let q = both_ok (plain_of j) _ u g in same q.then
-      by false false false false g = kept_tree t u r (field_read again k j t u texts (fields_of_read t r) g)
+          → TreeWasRead
+          (if a then entry_alone t
+          else if b then record { entry = t; lost = refusal_lost (type_of j) }
+          else if c then record { entry = with_parents ps.entries t; lost = ps.lost }
+          else if d then record { entry = t; lost = refusal_lost (plain_of j) }
+          else with_field k j t).entry
+      by true b c d = r
+      by false true c d = r
+      by false false true d = over t r
+      by false false false true = r
+      by false false false false = kept_tree t (with_field k j t).entry r (field_read again k j t texts (fields_of_read t r))
+
+  -- an item in front of others
+  item_read : (n : ℕ) (said : Result EntryView Refusal) (ps : ParentsView) → ((v : EntryView) → said ≡ Ok v → TreeWasRead v.entry) → EntriesWereRead ps.entries → EntriesWereRead (with_item n said ps).entries
+  item_read n (Ok v) ps one more = (one v refl, more)
+  item_read n (Err r) ps one more = more
 
   mutual
-    pub entry_read : (key : List ℕ) (default : Default) (j : Json) (t : Tree) → HasTexts j → entry_of key default j ≡ Ok t → TreeWasRead t
-    entry_read key default (json.object ms) t texts h =
-        let kind = both_ok (type_among default (json.object ms)) _ t h in
+    pub said_read : (key : List ℕ) (default : Default) (j : Json) (v : EntryView) → HasTexts j → entry_said key default j ≡ Ok v → TreeWasRead v.entry
+    said_read key default (json.object ms) v texts h =
         let own : List ℕ = key_among key default (json.object ms) in
-        members_read own default kind.value ms (new_entry own kind.value) t texts (none_read own kind.value, tt) kind.then
-    entry_read key default json.null t texts h = cc
-    entry_read key default (json.boolean b) t texts h = cc
-    entry_read key default (json.number s) t texts h = cc
-    entry_read key default (json.string s) t texts h = cc
-    entry_read key default (json.array js) t texts h = cc
+        let kind = kind_of default (json.object ms) in
+        let same = ok_same h in
+        subst (λ w. TreeWasRead w.entry) same (members_read own default kind ms (entry_begun own default (json.object ms)) texts (none_read own kind, tt))
+    said_read key default json.null v texts h = cc
+    said_read key default (json.boolean b) v texts h = cc
+    said_read key default (json.number s) v texts h = cc
+    said_read key default (json.string s) v texts h = cc
+    said_read key default (json.array js) v texts h = cc
 
-    members_read : (key : List ℕ) (default : Default) (kind : EntryType) (ms : Members) (t u : Tree) → MembersHaveTexts ms → TreeWasRead t → members_set key default kind ms t ≡ Ok u → TreeWasRead u
-    members_read key default kind json.no_members t u texts r h = subst TreeWasRead (ok_same h) r
-    members_read key default kind (json.member k j ms) t u texts r h =
-        let ps : Result (List Tree) Refusal = parents_of key (default_parent kind) j in
-        let first = both_ok (within (to_member k) (with_member default k j ps t)) _ u h in
-        let one = member_read default k j ps t first.value texts.0 (λ qs e. parents_read key (default_parent kind) j qs texts.0 e) r (within_ok (to_member k) (with_member default k j ps t) first.value first.first) in
-        members_read key default kind ms first.value u texts.1 one first.then
+    members_read : (key : List ℕ) (default : Default) (kind : EntryType) (ms : Members) (v : EntryView) → MembersHaveTexts ms → TreeWasRead v.entry → TreeWasRead (members_said key default kind ms v).entry
+    members_read key default kind json.no_members v texts r = r
+    members_read key default kind (json.member k j ms) v texts r =
+        let ps = parents_said key (default_parent kind) j in
+        let one = member_read default k j ps v.entry texts.0 (parents_read key (default_parent kind) j texts.0) r in
+        members_read key default kind ms (after_member k v.lost (with_member default k j ps v.entry)) texts.1 one
 
-    parents_read : (key : List ℕ) (default : EntryType) (j : Json) (ts : List Tree) → HasTexts j → parents_of key default j ≡ Ok ts → EntriesWereRead ts
-    parents_read key default (json.array js) ts texts h = items_read key default 0 js ts texts h
-    parents_read key default (json.object ms) ts texts h =
+    parents_read : (key : List ℕ) (default : EntryType) (j : Json) → HasTexts j → EntriesWereRead (parents_said key default j).entries
+    parents_read key default (json.array js) texts = items_read key default 0 js texts
+    parents_read key default (json.object ms) texts =
         let own : List ℕ = key_among key (Some default) (json.object ms) in
-        let one = both_ok (and_then (type_among (Some default) (json.object ms)) (λ kind. members_set own (Some default) kind ms (new_entry own kind))) _ ts h in
-        let kind = both_ok (type_among (Some default) (json.object ms)) _ one.value one.first in
-        subst EntriesWereRead (ok_same one.then) (members_read own (Some default) kind.value ms (new_entry own kind.value) one.value texts (none_read own kind.value, tt) kind.then, tt)
-    parents_read key default json.null ts texts h = cc
-    parents_read key default (json.boolean b) ts texts h = cc
-    parents_read key default (json.number s) ts texts h = cc
-    parents_read key default (json.string s) ts texts h = cc
+        let kind = kind_of (Some default) (json.object ms) in
+        (members_read own (Some default) kind ms (entry_begun own (Some default) (json.object ms)) texts (none_read own kind, tt), tt)
+    parents_read key default json.null texts = tt
+    parents_read key default (json.boolean b) texts = tt
+    parents_read key default (json.number s) texts = tt
+    parents_read key default (json.string s) texts = tt
 
-    items_read : (key : List ℕ) (default : EntryType) (n : ℕ) (js : Items) (ts : List Tree) → ItemsHaveTexts js → parents_from key default n js ≡ Ok ts → EntriesWereRead ts
-    items_read key default n json.no_items ts texts h = subst EntriesWereRead (ok_same h) tt
-    items_read key default n (json.item j js) ts texts h =
-        let first = both_ok (within (to_item n) (entry_of key (Some default) j)) _ ts h in
-        let more = both_ok (parents_from key default (n + 1) js) _ ts first.then in
-        subst EntriesWereRead (ok_same more.then)
-        (entry_read key (Some default) j first.value texts.0 (within_ok (to_item n) (entry_of key (Some default) j) first.value first.first), items_read key default (n + 1) js more.value texts.1 more.first)
+    items_read : (key : List ℕ) (default : EntryType) (n : ℕ) (js : Items) → ItemsHaveTexts js → EntriesWereRead (items_said key default n js).entries
+    items_read key default n json.no_items texts = tt
+    items_read key default n (json.item j js) texts =
+        item_read n (entry_said key (Some default) j) (items_said key default (n + 1) js) (λ v h. said_read key (Some default) j v texts.0 h) (items_read key default (n + 1) js texts.1)
+
+  entry_read : (key : List ℕ) (default : Default) (j : Json) (t : Tree) → HasTexts j → entry_of key default j ≡ Ok t → TreeWasRead t
+  entry_read key default j t texts h =
+      let b = both_ok (entry_said key default j) _ t h in
+      subst TreeWasRead (ok_same b.then) (said_read key default j b.value texts b.first)
 
   entries_read : (ms : Members) (ts : List Tree) → MembersHaveTexts ms → entries_of ms ≡ Ok ts → EntriesWereRead ts
   entries_read json.no_members ts texts h = subst EntriesWereRead (ok_same h) tt

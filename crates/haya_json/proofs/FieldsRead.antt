@@ -1,20 +1,22 @@
 -- The fields of entries that were read.
-use Rattle.std.proofs.Common.{◌≡◌, ℕ, Bool, true, false, List, [], ◌∷◌, Some, Result, Ok, refl, subst, cond}
-use Rattle.std.specs.Prelude.{IfSome, is_some, unwrap_or, if◌then◌else◌}
+use Rattle.std.proofs.Common.{◌≡◌, ℕ, Bool, true, false, List, [], ◌∷◌, Option, Some, Result, Ok, Err, refl, sym, subst, cond}
+use Rattle.std.specs.Prelude.{IfSome, codes, is_some, if◌then◌else◌}
 use Rattle.std.specs.List.{AllByRecursion}
 use Rattle.std.specs.Map.{lookup}
 use Rattle.std.specs.Str.{bytes_eq}
 use Rattle.json.specs.Json.{Json}
 use Rattle.haya_entry.specs.Tree.{Tree, Fields, node, fields, parents, no_fields}
 use Rattle.haya_entry.specs.declared.types.EntryType.{EntryType}
-use Rattle.haya_json.specs.Refusal.{Refusal, refused}
+use Rattle.haya_json.specs.LostParts.{date_part, format_part, many_lost, parts_lost, person_part, publisher_part, range_part, roles_part, url_part}
+use Rattle.haya_json.specs.Notes.{LostView, lost_here, unread}
+use Rattle.haya_json.specs.Refusal.{Refusal}
 use Rattle.haya_json.specs.Parts.{plain_of}
 use Rattle.haya_json.specs.Values.{format_of, persons_of, affiliated_of, date_of, publisher_of, url_of, number_of, number_or_text_of, pages_or_text_of, range_or_text_of, duration_or_text_of, serials_of}
-use Rattle.haya_json.specs.Fields.{Setter, field_setter, serial_setter, passing_over, setter_in, number_table, text_table, field_table, with_field}
+use Rattle.haya_json.specs.Fields.{Setter, entry_but, field_setter, field_table, none_lost, number_table, read_into, serial_setter, set_by, text_table, with_field}
 use Rattle.haya_json.specs.Readable.{AreReadablePages, IsReadableText, IsReadablePublisher, HasNamedRole, IsReadableDate, IsReadableUrl, IsReadableNumber, IsReadableNumberOrText, AreInOrder, FieldsAreReadable}
 use Rattle.haya_json.specs.declared.fault.Why.TheVariants.{Twice}
 use Rattle.haya_json.proofs.SerialsRead.{serials_read_again}
-use Rattle.haya_json.proofs.TextsRead.{HasTexts, both_ok, ok_same}
+use Rattle.haya_json.proofs.TextsRead.{HasTexts}
 use Rattle.haya_json.proofs.ValuesRead.{ReadAgain, ReadableDuration, ReadableRange, format_read_again, publisher_read_again, affiliated_read_again, date_read_again, url_read_again, number_read_again, number_or_text_read_again, pages_read_again, duration_read_again, range_read_again}
 
 -- each field is as its type says; texts, people and numbers stand apart
@@ -98,68 +100,67 @@ pub record Kept (t u : Tree) : Type 0 where
   pub parents : parents u ≡ parents t
 
 KeepsRead : Setter → Type 0
-KeepsRead set = (j : Json) (t u : Tree) → HasTexts j → FieldsWereRead (fields t) → set j t ≡ Ok u → Kept t u
+KeepsRead set = (j : Json) (t : Tree) → HasTexts j → FieldsWereRead (fields t) → Kept t (set j t).entry
 
-field_keeps : {V : Type 0} (P : V → Type 0) (read : Json → Result V Refusal) (put : V → Fields → Fields) → ((j : Json) (v : V) → HasTexts j → read j ≡ Ok v → P v)
-    → ((v : V) (f : Fields) → FieldsWereRead f → P v → FieldsWereRead (put v f)) → KeepsRead (field_setter read put)
+field_keeps : {V : Type 0} (P : V → Type 0) (read : Json → Result V Refusal) (lost : Json → List LostView) (get : Fields → Option V) (put : Option V → Fields → Fields)
+    → ((j : Json) (v : V) → HasTexts j → read j ≡ Ok v → P v) → ((f : Fields) → put (get f) f ≡ f)
+    → ((v : V) (f : Fields) → FieldsWereRead f → P v → FieldsWereRead (put (Some v) f)) → KeepsRead (field_setter read lost get put)
 unfolding KeepsRead
-field_keeps P read put each puts j (node f ps) u texts r is =
-    let b = both_ok (read j) _ u is in
-    let same : node (put b.value f) ps ≡ u = ok_same b.then in
-    subst (Kept (node f ps)) same (record { fields = puts b.value f r (each j b.value texts b.first); parents = refl })
+field_keeps P read lost get put each same puts j (node f ps) texts r = by (read j) refl
+  where
+    by : (s : Result _ Refusal) → read j ≡ s → Kept (node f ps) (node (put (read_into s (lost j) (get f)).after f) ps)
+    by (Ok v) is = record { fields = puts v f r (each j v texts is); parents = refl }
+    by (Err e) is = record { fields = subst FieldsWereRead (sym (same f)) r; parents = refl }
 
 AllKeep : List (List ℕ × Setter) → Type 0
 AllKeep [] = Unit {0}
 AllKeep (row ∷ rows) = KeepsRead row.1 × AllKeep rows
 
-setter_keeps : (rows : List (List ℕ × Setter)) (name : List ℕ) → AllKeep rows → KeepsRead (setter_in rows name)
+-- the setter of a name in a table
+setter_keeps : (rows : List (List ℕ × Setter)) (name : List ℕ) → AllKeep rows → KeepsRead (set_by (lookup (bytes_eq name) rows) name)
 unfolding KeepsRead AllKeep
-setter_keeps [] name h j t u texts r is = let same : t ≡ u = ok_same is in subst (Kept t) same (record { fields = r; parents = refl })
-setter_keeps (row ∷ rows) name h j t u texts r is = by (setter_keeps rows name h.1 j t u texts r) (bytes_eq name row.0) is
+setter_keeps [] name h j t texts r = record { fields = r; parents = refl }
+setter_keeps (row ∷ rows) name h j t texts r = by (setter_keeps rows name h.1 j t texts r) (bytes_eq name row.0)
   where
-    by : (setter_in rows name j t ≡ Ok u → Kept t u) → (b : Bool) → unwrap_or (cond b (Some row.1) (lookup (bytes_eq name) rows)) passing_over j t ≡ Ok u → Kept t u
-    by rest true k = h.0 j t u texts r k
-    by rest false k = rest k
+    by : Kept t (set_by (lookup (bytes_eq name) rows) name j t).entry → (b : Bool) → Kept t (set_by (cond b (Some row.1) (lookup (bytes_eq name) rows)) name j t).entry
+    by rest true = h.0 j t texts r
+    by rest false = rest
 
 module _ (again : ReadAgain) where
   serial_keeps : KeepsRead serial_setter
   unfolding KeepsRead
-  serial_keeps j t u texts r is = by (is_some (fields t).serial_number) is
+  serial_keeps j t texts r = by (is_some (fields t).serial_number)
     where
       set : Setter
-      set = field_setter serials_of (λ v f. record f { serial_number = Some v })
+      set = field_setter serials_of none_lost (λ f. f.serial_number) (λ v f. record f { serial_number = v })
 
-      by : (b : Bool) → (if b then refused Twice else set j t) ≡ Ok u → Kept t u
-      by true h = cc
-      by false h = field_keeps (AreInOrder []) serials_of (λ v f. record f { serial_number = Some v }) (λ j v texts k. serials_read_again j v k) (λ v f w p. record { texts = w.texts; people = w.people; numbers = w.numbers; serial_number = p }) j t u texts r h
+      by : (b : Bool) → Kept t (if b then entry_but (lost_here (unread Twice)) t else set j t).entry
+      by true = record { fields = r; parents = refl }
+      by false =
+          field_keeps (AreInOrder []) serials_of none_lost (λ f. f.serial_number) (λ v f. record f { serial_number = v }) (λ j v texts k. serials_read_again j v k) (λ f. refl)
+          (λ v f w p. record { texts = w.texts; people = w.people; numbers = w.numbers; serial_number = p }) j t texts r
 
   numbers_keep : AllKeep number_table
   unfolding AllKeep
   numbers_keep = (
-    field_keeps _ number_or_text_of _ (number_or_text_read_again again) (λ v f w p. record { texts = w.texts; people = w.people; numbers = (p, w.numbers.1, w.numbers.2, w.numbers.3, w.numbers.4, w.numbers.5, w.numbers.6, w.numbers.7, w.numbers.8); serial_number = w.serial_number }),
+    field_keeps _ number_or_text_of none_lost (λ f. f.issue) (λ v f. record f { issue = v }) (number_or_text_read_again again) (λ f. refl) (λ v f w p. record { texts = w.texts; people = w.people; numbers = (p, w.numbers.1, w.numbers.2, w.numbers.3, w.numbers.4, w.numbers.5, w.numbers.6, w.numbers.7, w.numbers.8); serial_number = w.serial_number }),
     (
-      field_keeps _ number_or_text_of _ (number_or_text_read_again again) (λ v f w p. record { texts = w.texts; people = w.people; numbers = (w.numbers.0, p, w.numbers.2, w.numbers.3, w.numbers.4, w.numbers.5, w.numbers.6, w.numbers.7, w.numbers.8); serial_number = w.serial_number }),
+      field_keeps _ number_or_text_of none_lost (λ f. f.chapter) (λ v f. record f { chapter = v }) (number_or_text_read_again again) (λ f. refl) (λ v f w p. record { texts = w.texts; people = w.people; numbers = (w.numbers.0, p, w.numbers.2, w.numbers.3, w.numbers.4, w.numbers.5, w.numbers.6, w.numbers.7, w.numbers.8); serial_number = w.serial_number }),
       (
-        field_keeps _ number_or_text_of _ (number_or_text_read_again again) (λ v f w p. record { texts = w.texts; people = w.people; numbers = (w.numbers.0, w.numbers.1, p, w.numbers.3, w.numbers.4, w.numbers.5, w.numbers.6, w.numbers.7, w.numbers.8); serial_number = w.serial_number }),
+        field_keeps _ number_or_text_of none_lost (λ f. f.volume) (λ v f. record f { volume = v }) (number_or_text_read_again again) (λ f. refl) (λ v f w p. record { texts = w.texts; people = w.people; numbers = (w.numbers.0, w.numbers.1, p, w.numbers.3, w.numbers.4, w.numbers.5, w.numbers.6, w.numbers.7, w.numbers.8); serial_number = w.serial_number }),
         (
-          field_keeps _ number_or_text_of _ (number_or_text_read_again again) (λ v f w p. record { texts = w.texts; people = w.people; numbers = (w.numbers.0, w.numbers.1, w.numbers.2, p, w.numbers.4, w.numbers.5, w.numbers.6, w.numbers.7, w.numbers.8); serial_number = w.serial_number }),
+          field_keeps _ number_or_text_of none_lost (λ f. f.edition) (λ v f. record f { edition = v }) (number_or_text_read_again again) (λ f. refl) (λ v f w p. record { texts = w.texts; people = w.people; numbers = (w.numbers.0, w.numbers.1, w.numbers.2, p, w.numbers.4, w.numbers.5, w.numbers.6, w.numbers.7, w.numbers.8); serial_number = w.serial_number }),
           (
-            field_keeps _ number_of _ (number_read_again again) (λ v f w p. record { texts = w.texts; people = w.people; numbers = (w.numbers.0, w.numbers.1, w.numbers.2, w.numbers.3, p, w.numbers.5, w.numbers.6, w.numbers.7, w.numbers.8); serial_number = w.serial_number }),
+            field_keeps _ number_of none_lost (λ f. f.volume_total) (λ v f. record f { volume_total = v }) (number_read_again again) (λ f. refl) (λ v f w p. record { texts = w.texts; people = w.people; numbers = (w.numbers.0, w.numbers.1, w.numbers.2, w.numbers.3, p, w.numbers.5, w.numbers.6, w.numbers.7, w.numbers.8); serial_number = w.serial_number }),
             (
-              field_keeps _ number_of _ (number_read_again again) (λ v f w p. record { texts = w.texts; people = w.people; numbers = (w.numbers.0, w.numbers.1, w.numbers.2, w.numbers.3, w.numbers.4, p, w.numbers.6, w.numbers.7, w.numbers.8); serial_number = w.serial_number }),
+              field_keeps _ number_of none_lost (λ f. f.page_total) (λ v f. record f { page_total = v }) (number_read_again again) (λ f. refl) (λ v f w p. record { texts = w.texts; people = w.people; numbers = (w.numbers.0, w.numbers.1, w.numbers.2, w.numbers.3, w.numbers.4, p, w.numbers.6, w.numbers.7, w.numbers.8); serial_number = w.serial_number }),
               (
-                field_keeps _ pages_or_text_of _ (pages_read_again again) (λ v f w p. record { texts = w.texts; people = w.people; numbers = (w.numbers.0, w.numbers.1, w.numbers.2, w.numbers.3, w.numbers.4, w.numbers.5, p, w.numbers.7, w.numbers.8); serial_number = w.serial_number }),
+                field_keeps _ pages_or_text_of none_lost (λ f. f.page_range) (λ v f. record f { page_range = v }) (pages_read_again again) (λ f. refl) (λ v f w p. record { texts = w.texts; people = w.people; numbers = (w.numbers.0, w.numbers.1, w.numbers.2, w.numbers.3, w.numbers.4, w.numbers.5, p, w.numbers.7, w.numbers.8); serial_number = w.serial_number }),
                 (
-                  field_keeps _ range_or_text_of _ (range_read_again again) (λ v f w p. record { texts = w.texts; people = w.people; numbers = (w.numbers.0, w.numbers.1, w.numbers.2, w.numbers.3, w.numbers.4, w.numbers.5, w.numbers.6, p, w.numbers.8); serial_number = w.serial_number }),
+                  field_keeps _ range_or_text_of (parts_lost range_part (codes "time-range")) (λ f. f.time_range) (λ v f. record f { time_range = v }) (range_read_again again) (λ f. refl) (λ v f w p. record { texts = w.texts; people = w.people; numbers = (w.numbers.0, w.numbers.1, w.numbers.2, w.numbers.3, w.numbers.4, w.numbers.5, w.numbers.6, p, w.numbers.8); serial_number = w.serial_number }),
                   (
-                    field_keeps _ duration_or_text_of _ (duration_read_again again) (λ v f w p. record { texts = w.texts; people = w.people; numbers = (w.numbers.0, w.numbers.1, w.numbers.2, w.numbers.3, w.numbers.4, w.numbers.5, w.numbers.6, w.numbers.7, p); serial_number = w.serial_number }),
-                    (
-                      serial_keeps,
-                      (
-                        serial_keeps,
-                        tt,
-                      ),
-                    ),
+                    field_keeps _ duration_or_text_of none_lost (λ f. f.runtime) (λ v f. record f { runtime = v }) (duration_read_again again) (λ f. refl) (λ v f w p. record { texts = w.texts; people = w.people; numbers = (w.numbers.0, w.numbers.1, w.numbers.2, w.numbers.3, w.numbers.4, w.numbers.5, w.numbers.6, w.numbers.7, p); serial_number = w.serial_number }),
+                    (serial_keeps, (serial_keeps, tt)),
                   ),
                 ),
               ),
@@ -173,23 +174,23 @@ module _ (again : ReadAgain) where
   texts_keep : AllKeep text_table
   unfolding AllKeep
   texts_keep = (
-    field_keeps _ format_of _ (format_read_again again) (λ v f w p. record { texts = (p, w.texts.1, w.texts.2, w.texts.3, w.texts.4, w.texts.5, w.texts.6, w.texts.7, w.texts.8); people = w.people; numbers = w.numbers; serial_number = w.serial_number }),
+    field_keeps _ format_of (parts_lost format_part (codes "title")) (λ f. f.title) (λ v f. record f { title = v }) (format_read_again again) (λ f. refl) (λ v f w p. record { texts = (p, w.texts.1, w.texts.2, w.texts.3, w.texts.4, w.texts.5, w.texts.6, w.texts.7, w.texts.8); people = w.people; numbers = w.numbers; serial_number = w.serial_number }),
     (
-      field_keeps _ format_of _ (format_read_again again) (λ v f w p. record { texts = (w.texts.0, p, w.texts.2, w.texts.3, w.texts.4, w.texts.5, w.texts.6, w.texts.7, w.texts.8); people = w.people; numbers = w.numbers; serial_number = w.serial_number }),
+      field_keeps _ format_of (parts_lost format_part (codes "location")) (λ f. f.location) (λ v f. record f { location = v }) (format_read_again again) (λ f. refl) (λ v f w p. record { texts = (w.texts.0, p, w.texts.2, w.texts.3, w.texts.4, w.texts.5, w.texts.6, w.texts.7, w.texts.8); people = w.people; numbers = w.numbers; serial_number = w.serial_number }),
       (
-        field_keeps _ format_of _ (format_read_again again) (λ v f w p. record { texts = (w.texts.0, w.texts.1, p, w.texts.3, w.texts.4, w.texts.5, w.texts.6, w.texts.7, w.texts.8); people = w.people; numbers = w.numbers; serial_number = w.serial_number }),
+        field_keeps _ format_of (parts_lost format_part (codes "organization")) (λ f. f.organization) (λ v f. record f { organization = v }) (format_read_again again) (λ f. refl) (λ v f w p. record { texts = (w.texts.0, w.texts.1, p, w.texts.3, w.texts.4, w.texts.5, w.texts.6, w.texts.7, w.texts.8); people = w.people; numbers = w.numbers; serial_number = w.serial_number }),
         (
-          field_keeps _ format_of _ (format_read_again again) (λ v f w p. record { texts = (w.texts.0, w.texts.1, w.texts.2, p, w.texts.4, w.texts.5, w.texts.6, w.texts.7, w.texts.8); people = w.people; numbers = w.numbers; serial_number = w.serial_number }),
+          field_keeps _ format_of (parts_lost format_part (codes "archive")) (λ f. f.archive) (λ v f. record f { archive = v }) (format_read_again again) (λ f. refl) (λ v f w p. record { texts = (w.texts.0, w.texts.1, w.texts.2, p, w.texts.4, w.texts.5, w.texts.6, w.texts.7, w.texts.8); people = w.people; numbers = w.numbers; serial_number = w.serial_number }),
           (
-            field_keeps _ format_of _ (format_read_again again) (λ v f w p. record { texts = (w.texts.0, w.texts.1, w.texts.2, w.texts.3, p, w.texts.5, w.texts.6, w.texts.7, w.texts.8); people = w.people; numbers = w.numbers; serial_number = w.serial_number }),
+            field_keeps _ format_of (parts_lost format_part (codes "archive-location")) (λ f. f.archive_location) (λ v f. record f { archive_location = v }) (format_read_again again) (λ f. refl) (λ v f w p. record { texts = (w.texts.0, w.texts.1, w.texts.2, w.texts.3, p, w.texts.5, w.texts.6, w.texts.7, w.texts.8); people = w.people; numbers = w.numbers; serial_number = w.serial_number }),
             (
-              field_keeps _ format_of _ (format_read_again again) (λ v f w p. record { texts = (w.texts.0, w.texts.1, w.texts.2, w.texts.3, w.texts.4, p, w.texts.6, w.texts.7, w.texts.8); people = w.people; numbers = w.numbers; serial_number = w.serial_number }),
+              field_keeps _ format_of (parts_lost format_part (codes "call-number")) (λ f. f.call_number) (λ v f. record f { call_number = v }) (format_read_again again) (λ f. refl) (λ v f w p. record { texts = (w.texts.0, w.texts.1, w.texts.2, w.texts.3, w.texts.4, p, w.texts.6, w.texts.7, w.texts.8); people = w.people; numbers = w.numbers; serial_number = w.serial_number }),
               (
-                field_keeps _ format_of _ (format_read_again again) (λ v f w p. record { texts = (w.texts.0, w.texts.1, w.texts.2, w.texts.3, w.texts.4, w.texts.5, p, w.texts.7, w.texts.8); people = w.people; numbers = w.numbers; serial_number = w.serial_number }),
+                field_keeps _ format_of (parts_lost format_part (codes "note")) (λ f. f.note) (λ v f. record f { note = v }) (format_read_again again) (λ f. refl) (λ v f w p. record { texts = (w.texts.0, w.texts.1, w.texts.2, w.texts.3, w.texts.4, w.texts.5, p, w.texts.7, w.texts.8); people = w.people; numbers = w.numbers; serial_number = w.serial_number }),
                 (
-                  field_keeps _ format_of _ (format_read_again again) (λ v f w p. record { texts = (w.texts.0, w.texts.1, w.texts.2, w.texts.3, w.texts.4, w.texts.5, w.texts.6, p, w.texts.8); people = w.people; numbers = w.numbers; serial_number = w.serial_number }),
+                  field_keeps _ format_of (parts_lost format_part (codes "abstract")) (λ f. f.abstract_) (λ v f. record f { abstract_ = v }) (format_read_again again) (λ f. refl) (λ v f w p. record { texts = (w.texts.0, w.texts.1, w.texts.2, w.texts.3, w.texts.4, w.texts.5, w.texts.6, p, w.texts.8); people = w.people; numbers = w.numbers; serial_number = w.serial_number }),
                   (
-                    field_keeps _ format_of _ (format_read_again again) (λ v f w p. record { texts = (w.texts.0, w.texts.1, w.texts.2, w.texts.3, w.texts.4, w.texts.5, w.texts.6, w.texts.7, p); people = w.people; numbers = w.numbers; serial_number = w.serial_number }),
+                    field_keeps _ format_of (parts_lost format_part (codes "genre")) (λ f. f.genre) (λ v f. record f { genre = v }) (format_read_again again) (λ f. refl) (λ v f w p. record { texts = (w.texts.0, w.texts.1, w.texts.2, w.texts.3, w.texts.4, w.texts.5, w.texts.6, w.texts.7, p); people = w.people; numbers = w.numbers; serial_number = w.serial_number }),
                     numbers_keep,
                   ),
                 ),
@@ -204,19 +205,19 @@ module _ (again : ReadAgain) where
   all_keep : AllKeep field_table
   unfolding AllKeep
   all_keep = (
-    field_keeps (λ v. Unit {0}) persons_of _ (λ j v u h. tt) (λ v f w p. record { texts = w.texts; people = w.people; numbers = w.numbers; serial_number = w.serial_number }),
+    field_keeps (λ v. Unit {0}) persons_of (many_lost person_part (codes "author")) (λ f. f.authors) (λ v f. record f { authors = v }) (λ j v u h. tt) (λ f. refl) (λ v f w p. record { texts = w.texts; people = w.people; numbers = w.numbers; serial_number = w.serial_number }),
     (
-      field_keeps (λ v. Unit {0}) persons_of _ (λ j v u h. tt) (λ v f w p. record { texts = w.texts; people = w.people; numbers = w.numbers; serial_number = w.serial_number }),
+      field_keeps (λ v. Unit {0}) persons_of (many_lost person_part (codes "editor")) (λ f. f.editors) (λ v f. record f { editors = v }) (λ j v u h. tt) (λ f. refl) (λ v f w p. record { texts = w.texts; people = w.people; numbers = w.numbers; serial_number = w.serial_number }),
       (
-        field_keeps _ affiliated_of _ (affiliated_read_again again) (λ v f w p. record { texts = w.texts; people = (p, w.people.1, w.people.2, w.people.3); numbers = w.numbers; serial_number = w.serial_number }),
+        field_keeps _ affiliated_of (many_lost roles_part (codes "affiliated")) (λ f. f.affiliated) (λ v f. record f { affiliated = v }) (affiliated_read_again again) (λ f. refl) (λ v f w p. record { texts = w.texts; people = (p, w.people.1, w.people.2, w.people.3); numbers = w.numbers; serial_number = w.serial_number }),
         (
-          field_keeps _ date_of _ (date_read_again again) (λ v f w p. record { texts = w.texts; people = (w.people.0, p, w.people.2, w.people.3); numbers = w.numbers; serial_number = w.serial_number }),
+          field_keeps _ date_of (parts_lost date_part (codes "date")) (λ f. f.date) (λ v f. record f { date = v }) (date_read_again again) (λ f. refl) (λ v f w p. record { texts = w.texts; people = (w.people.0, p, w.people.2, w.people.3); numbers = w.numbers; serial_number = w.serial_number }),
           (
-            field_keeps _ publisher_of _ (publisher_read_again again) (λ v f w p. record { texts = w.texts; people = (w.people.0, w.people.1, p, w.people.3); numbers = w.numbers; serial_number = w.serial_number }),
+            field_keeps _ publisher_of (parts_lost publisher_part (codes "publisher")) (λ f. f.publisher) (λ v f. record f { publisher = v }) (publisher_read_again again) (λ f. refl) (λ v f w p. record { texts = w.texts; people = (w.people.0, w.people.1, p, w.people.3); numbers = w.numbers; serial_number = w.serial_number }),
             (
-              field_keeps _ url_of _ (url_read_again again) (λ v f w p. record { texts = w.texts; people = (w.people.0, w.people.1, w.people.2, p); numbers = w.numbers; serial_number = w.serial_number }),
+              field_keeps _ url_of (parts_lost url_part (codes "url")) (λ f. f.url) (λ v f. record f { url = v }) (url_read_again again) (λ f. refl) (λ v f w p. record { texts = w.texts; people = (w.people.0, w.people.1, w.people.2, p); numbers = w.numbers; serial_number = w.serial_number }),
               (
-                field_keeps (λ v. Unit {0}) plain_of _ (λ j v u h. tt) (λ v f w p. record { texts = w.texts; people = w.people; numbers = w.numbers; serial_number = w.serial_number }),
+                field_keeps (λ v. Unit {0}) plain_of none_lost (λ f. f.language) (λ v f. record f { language = v }) (λ j v u h. tt) (λ f. refl) (λ v f w p. record { texts = w.texts; people = w.people; numbers = w.numbers; serial_number = w.serial_number }),
                 texts_keep,
               ),
             ),
@@ -226,6 +227,6 @@ module _ (again : ReadAgain) where
     ),
   )
 
-  pub field_read : (name : List ℕ) (j : Json) (t u : Tree) → HasTexts j → FieldsWereRead (fields t) → with_field name j t ≡ Ok u → Kept t u
+  pub field_read : (name : List ℕ) (j : Json) (t : Tree) → HasTexts j → FieldsWereRead (fields t) → Kept t (with_field name j t).entry
   unfolding KeepsRead
   field_read name = setter_keeps field_table name all_keep

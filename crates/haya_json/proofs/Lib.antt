@@ -10,6 +10,7 @@ mod Written
 mod WrittenEntries
 mod ReadBacks
 mod Solids
+mod NoneLost
 mod EntriesBack
 mod Looked
 mod PersonsBack
@@ -41,3 +42,4 @@ mod LawsBelow
 pub mod ValuesAlone
 pub mod OneMember
 pub mod MemberLists
+mod MembersTold

@@ -8,13 +8,13 @@ use Rattle.json.specs.Json.{Json}
 use Rattle.haya_elements.specs.Elements.{nonempty_lines}
 use Rattle.haya_entry.specs.Tree.{Tree}
 use Rattle.hayagriva.specs.Library.{has_key, key_of, push, with_replacement}
-use Rattle.haya_json.specs.Entries.{entry_of}
-use Rattle.haya_json.specs.JsonLines.{Describes, IsLineOf, IsListOf, entry_in}
+use Rattle.haya_json.specs.Entries.{entry_said}
+use Rattle.haya_json.specs.JsonLines.{Describes, IsLineOf, IsListOf, entry_in, line_said}
 use Rattle.haya_json.specs.Parts.{needed, plain_of}
 use Rattle.haya_json.specs.Readable.{EntriesAreReadable, TreeIsReadable}
-use Rattle.haya_json.proofs.EntriesRead.{EntriesWereRead, TreeWasRead, entries_readable, entry_read}
+use Rattle.haya_json.proofs.EntriesRead.{EntriesWereRead, TreeWasRead, entries_readable, said_read}
 use Rattle.haya_json.proofs.TextLines.{lines_utf8}
-use Rattle.haya_json.proofs.TextsRead.{HasTexts, both_ok, needed_read}
+use Rattle.haya_json.proofs.TextsRead.{HasTexts, both_ok, needed_read, ok_same}
 use Rattle.haya_json.proofs.TokensParsed.{document_texts}
 use Rattle.haya_json.proofs.ValuesRead.{ReadAgain}
 
@@ -22,8 +22,10 @@ module _ (again : ReadAgain) where
   -- the entry of an object
   object_read : (j : Json) (t : Tree) → HasTexts j → entry_in j ≡ Ok t → TreeWasRead t
   object_read j t texts h =
-      let key = both_ok (needed (codes "key") plain_of j) _ t h in
-      needed_read TreeWasRead (entry_of key.value None) (λ k u. entry_read again key.value None k u) (codes "entry") j t texts key.then
+      let said = both_ok (line_said j) _ t h in
+      let key = both_ok (needed (codes "key") plain_of j) _ said.value said.first in
+      subst TreeWasRead (ok_same said.then)
+      (needed_read (λ v. TreeWasRead v.entry) (entry_said key.value None) (λ k v u g. said_read again key.value None k v u g) (codes "entry") j said.value texts key.then)
 
   -- the entries of lines
   all_read : (ls : List (List ℕ)) (entries : List Tree) → All IsUtf8 ls → AllZip IsLineOf ls entries → EntriesWereRead entries

@@ -1,28 +1,24 @@
 -- How far the lines of a text are read into a library.
-use Rattle.std.proofs.Common.{◌≡◌, ◌==◌, ℕ, ◌+◌, ◌<◌, Bool, true, false, cond, not, List, [], ◌∷◌, ◌++◌, MatchBool, flat_map, fold, get_or, length, take, drop, sym, ap, subst, ◌∙◌, arith}
+use Rattle.std.proofs.Common.{◌≡◌, ◌==◌, ℕ, ◌+◌, ◌<◌, Bool, true, false, cond, not, refl, List, [], ◌∷◌, ◌++◌, MatchBool, fold, get_or, length, take, drop, sym, ap, subst, ◌∙◌, arith}
 use Rattle.std.specs.List.{AllZip}
 use Rattle.std.specs.Str.Lines.{lines}
-use Rattle.std.proofs.lemmas.List.{drop_more, length-take-le, take-append-drop, take_all, take_more}
+use Rattle.std.proofs.lemmas.List.{drop_more, drop_all, length-take-le, take-append-drop, take_all, take_more}
 use Rattle.std.proofs.lemmas.List.Sums.{fold-append}
-use Rattle.std.proofs.lemmas.Grind.{flat_map-append}
 use Rattle.haya_elements.specs.Elements.{nonempty_lines}
 use Rattle.haya_elements.proofs.NonemptyLines.{nonempty_lines-append}
 use Rattle.haya_entry.specs.Tree.{Tree}
 use Rattle.hayagriva.specs.Library.{from_entries, push}
 use Rattle.hayagriva.proofs.Parts.{AllZip-append}
-use Rattle.haya_json.specs.JsonLines.{AreEntriesOf, Describes, ErrorInLine, FirstError, IsLineOf, PushesLine, line_passed_over, lines_passed_over}
-use Rattle.haya_json.specs.Tally.{Counts, all_counted, tally}
+use Rattle.haya_json.specs.JsonLines.{AreEntriesOf, Describes, ErrorInLine, FirstError, IsLineOf, PushesLine, TellsLine, lines_told}
+use Rattle.haya_json.specs.Notes.{NotesView, all_kept, kept_of, none_kept}
 use Rattle.haya_json.specs.declared.error.ReadError.{ReadError}
-use Rattle.haya_json.proofs.Tallies.{counted_from_none, counted_together}
+use Rattle.haya_json.proofs.NotesKept.{kept_from_none}
 
 -- ---- some lines, and then others
 
 pub AreEntriesOf-append : (ls more : List (List ℕ)) (entries others : List Tree) → AreEntriesOf ls entries → AreEntriesOf more others → AreEntriesOf (ls ++ more) (entries ++ others)
 AreEntriesOf-append ls more entries others listed then =
     subst (λ fs. AllZip IsLineOf fs (entries ++ others)) (sym (nonempty_lines-append ls more)) (AllZip-append IsLineOf (nonempty_lines ls) (nonempty_lines more) entries others listed then)
-
-pub lines_passed_over-append : (ls more : List (List ℕ)) → lines_passed_over (ls ++ more) ≡ lines_passed_over ls ++ lines_passed_over more
-lines_passed_over-append ls more = ap (flat_map line_passed_over) (nonempty_lines-append ls more) ∙ flat_map-append line_passed_over (nonempty_lines ls) (nonempty_lines more)
 
 -- ---- a line
 
@@ -46,40 +42,38 @@ pushes_entries line old new pushes = let made = by (length line == 0) pushes in 
 
 -- ---- lines in turn
 
--- so many lines list the entries of the library, and what is passed over of them is counted
-pub record LinesTaken (all : List (List ℕ)) (count : ℕ) (library : List Tree) (counts : Counts) : Type 0 where
+-- So many lines list the entries of the library. What is told of all is what is told of them, and then of those left.
+pub record LinesTaken (all : List (List ℕ)) (count : ℕ) (library : List Tree) (kept : NotesView) : Type 0 where
   pub entries : List Tree
   pub listed : AreEntriesOf (take count all) entries
   pub of_entries : library ≡ from_entries entries
-  pub counted : counts ≡ all_counted (lines_passed_over (take count all)) []
+  pub told : all_kept (lines_told [] all) none_kept ≡ all_kept (lines_told library (drop count all)) kept
 
-pub none_taken : (all : List (List ℕ)) (library : List Tree) (counts : Counts) → library ≡ [] → counts ≡ [] → LinesTaken all 0 library counts
-none_taken all library counts no_library no_counts = record {
+pub none_taken : (all : List (List ℕ)) (library : List Tree) (kept : NotesView) → library ≡ [] → kept ≡ none_kept → LinesTaken all 0 library kept
+none_taken all library kept no_library no_notes = record {
   entries = [];
   listed = tt;
   of_entries = no_library;
-  counted = no_counts;
+  told = rw (no_library, no_notes) refl;
 }
 
-module _ (all : List (List ℕ)) (count : ℕ) (library : List Tree) (counts : Counts) (taken : LinesTaken all count library counts)
+module _ (all : List (List ℕ)) (count : ℕ) (library : List Tree) (kept : NotesView) (taken : LinesTaken all count library kept)
     (line : List ℕ) (is : line ≡ get_or all count line) (within : count < length all) where
   one_more : take (count + 1) all ≡ take count all ++ line ∷ []
   one_more = take_more all count line within ∙ ap (λ l. take count all ++ l ∷ []) (sym is)
 
-  pub line_taken : (next : List Tree) → PushesLine line library next
-      → (next_counts : Counts) → next_counts ≡ all_counted (lines_passed_over (line ∷ [])) counts → LinesTaken all (count + 1) next next_counts
-  line_taken next pushes next_counts counts_more =
+  pub line_taken : (next : List Tree) → PushesLine line library next → (next_kept : NotesView) → TellsLine line library next kept next_kept → LinesTaken all (count + 1) next next_kept
+  line_taken next pushes next_kept tells =
       let added = pushes_entries line library next pushes in
       record {
         entries = taken.entries ++ added.entries;
         listed = subst (λ ls. AreEntriesOf ls (taken.entries ++ added.entries)) (sym one_more)
             (AreEntriesOf-append (take count all) (line ∷ []) taken.entries added.entries taken.listed added.listed);
         of_entries = added.pushed ∙ ap (λ l. fold (λ done t. push t done) l added.entries) taken.of_entries ∙ sym (fold-append (λ done t. push t done) [] taken.entries added.entries);
-        counted =
-            counts_more ∙ ap (all_counted (lines_passed_over (line ∷ []))) taken.counted
-            ∙ sym (counted_together (lines_passed_over (take count all)) (lines_passed_over (line ∷ [])) [])
-            ∙ ap (λ names. all_counted names []) (sym (lines_passed_over-append (take count all) (line ∷ [])))
-            ∙ ap (λ ls. all_counted (lines_passed_over ls) []) (sym one_more);
+        told =
+            taken.told
+            ∙ ap (λ ls. all_kept (lines_told library ls) kept) (drop_more all count line within ∙ ap (λ l. l ∷ drop (count + 1) all) (sym is))
+            ∙ tells (drop (count + 1) all);
       }
 
   pub first_error : (text : List ℕ) → lines text ≡ all → (error : ReadError) → ErrorInLine line error → FirstError text (record { line = count + 1; error = error })
@@ -98,7 +92,7 @@ module _ (all : List (List ℕ)) (count : ℕ) (library : List Tree) (counts : C
 
 -- ---- all lines
 
-module _ (text : List ℕ) (count : ℕ) (library : List Tree) (counts : Counts) (taken : LinesTaken (lines text) count library counts) (whole : length (lines text) ≡ count) where
+module _ (text : List ℕ) (count : ℕ) (library : List Tree) (kept : NotesView) (taken : LinesTaken (lines text) count library kept) (whole : length (lines text) ≡ count) where
   all_lines : take count (lines text) ≡ lines text
   all_lines = take_all count (lines text) (omega (arith, whole))
 
@@ -109,6 +103,7 @@ module _ (text : List ℕ) (count : ℕ) (library : List Tree) (counts : Counts)
     of_entries = taken.of_entries;
   }
 
-  pub all_passed_over : counts ≡ tally (lines_passed_over (lines text))
-  all_passed_over =
-      taken.counted ∙ ap (λ ls. all_counted (lines_passed_over ls) []) all_lines ∙ counted_from_none (lines_passed_over (lines text))
+  pub all_told : kept ≡ kept_of (lines_told [] (lines text))
+  all_told =
+      sym (ap (λ ls. all_kept (lines_told library ls) kept) (drop_all count (lines text) (omega (arith, whole))))
+      ∙ sym taken.told ∙ kept_from_none (lines_told [] (lines text))

@@ -11,12 +11,11 @@ use Rattle.haya_elements.proofs.Documents.{document_of_members}
 use Rattle.haya_entry.specs.Tree.{Tree}
 use Rattle.hayagriva.specs.Library.{AreDistinct}
 use Rattle.haya_json.specs.Entries.{entry_of}
-use Rattle.haya_json.specs.Ignored.{IsPassedOver, counts_of, entries_passed_over}
 use Rattle.haya_json.specs.Libraries.{Describes, entries_of, library_of}
-use Rattle.haya_json.specs.MemberLines.{IsMemberLineOf, LinesList, Lists, line_passed_over}
+use Rattle.haya_json.specs.MemberLines.{IsMemberLineOf, LinesList, Lists, line_told}
+use Rattle.haya_json.specs.Notes.{NotesView, kept_of}
 use Rattle.haya_json.specs.Refusal.{to_member, within}
-use Rattle.haya_json.specs.Tally.{Counts, tally}
-use Rattle.haya_json.specs.declared.ignored.Ignored.{Ignored}
+use Rattle.haya_json.specs.Told.{Tells, entries_told}
 use Rattle.haya_json.proofs.InOrder.{distinct_keys, keys_of_entries}
 use Rattle.haya_json.proofs.OneMember.{member_of_line, one_member}
 use Rattle.haya_json.proofs.TextsRead.{both_ok, ok_same, within_ok}
@@ -60,14 +59,14 @@ lines_of_entries (l ∷ ls) (json.member k j ms) ts are unique read =
     let here : IsMemberLineOf l first.value = record { name = k; value = j; parsed = are.0; unique = unique.0; read = within_ok (to_member k) (entry_of k None j) first.value first.first } in
     subst (AllZip IsMemberLineOf (l ∷ ls)) (ok_same more.then) (here, lines_of_entries ls ms more.value are.1 unique.1 more.first)
 
--- what is passed over of lines is what is passed over of their members
-passed_over_of_lines : (ls : List (List ℕ)) (ms : Members) → AreMembers ls ms → flat_map line_passed_over ls ≡ entries_passed_over ms
-passed_over_of_lines [] json.no_members are = refl
-passed_over_of_lines [] (json.member k j ms) are = absurd are
-passed_over_of_lines (l ∷ ls) json.no_members are = absurd are
-passed_over_of_lines (l ∷ ls) (json.member k j ms) are =
+-- what is told of lines is what is told of their members
+told_of_lines : (ls : List (List ℕ)) (ms : Members) → AreMembers ls ms → flat_map line_told ls ≡ entries_told ms
+told_of_lines [] json.no_members are = refl
+told_of_lines [] (json.member k j ms) are = absurd are
+told_of_lines (l ∷ ls) json.no_members are = absurd are
+told_of_lines (l ∷ ls) (json.member k j ms) are =
     let first = member_of_line l k j are.0 in
-    rw (first, append-nil, passed_over_of_lines ls ms are.1) refl
+    rw (first, append-nil, told_of_lines ls ms are.1) refl
 
 -- ---- a text
 
@@ -76,32 +75,32 @@ record IsObjectOf (text : List ℕ) (ms : Members) : Type 0 where
   are : AreMembers (elements Curly text) ms
   parsed : document text ≡ Some (object ms)
 
-object_of_lines : (text : List ℕ) (entries : List Tree) (counts : Counts) → LinesList text entries counts → (ms : Members) × IsObjectOf text ms
-object_of_lines text entries counts lines =
+object_of_lines : (text : List ℕ) (entries : List Tree) (kept : NotesView) → LinesList text entries kept → (ms : Members) × IsObjectOf text ms
+object_of_lines text entries kept lines =
     let ms = members_of_lines (elements Curly text) entries lines.each in
     (ms.0, record { are = ms.1; parsed = document_of_members text ms.0 ms.1 })
 
 -- a text lists what its lines do
-pub list_of_lines : (text : List ℕ) (entries : List Tree) (counts : Counts) → LinesList text entries counts → Lists text entries
-list_of_lines text entries counts lines =
-    let whole = object_of_lines text entries counts lines in
+pub list_of_lines : (text : List ℕ) (entries : List Tree) (kept : NotesView) → LinesList text entries kept → Lists text entries
+list_of_lines text entries kept lines =
+    let whole = object_of_lines text entries kept lines in
     let said = entries_of_lines (elements Curly text) whole.0 entries whole.1.are lines.each in
     record { members = whole.0; parsed = whole.1.parsed; unique = said.0; read = said.1 }
 
--- what is passed over of the lines is what is passed over of the whole
-pub ignored_of_lines : (text : List ℕ) (entries : List Tree) (ignored : Ignored) → LinesList text entries (counts_of ignored) → IsPassedOver text ignored
-ignored_of_lines text entries ignored lines =
-    let whole = object_of_lines text entries (counts_of ignored) lines in
-    rw whole.1.parsed (lines.of_passed_over ∙ ap tally (passed_over_of_lines (elements Curly text) whole.0 whole.1.are))
+-- what is told of the lines is what is told of the whole
+pub told_of_list : (text : List ℕ) (entries : List Tree) (kept : NotesView) → LinesList text entries kept → Tells text kept
+told_of_list text entries kept lines =
+    let whole = object_of_lines text entries kept lines in
+    rw whole.1.parsed (lines.notes ∙ ap kept_of (told_of_lines (elements Curly text) whole.0 whole.1.are))
 
--- the other way, the lines of a text list what it does, and pass over what it does
-pub lines_of_list : (text : List ℕ) (entries : List Tree) (ignored : Ignored) → Lists text entries → IsPassedOver text ignored → LinesList text entries (counts_of ignored)
-lines_of_list text entries ignored list counted =
+-- the other way, the lines of a text list what it does, and what is told of them is what is told of it
+pub lines_of_list : (text : List ℕ) (entries : List Tree) (kept : NotesView) → Lists text entries → Tells text kept → LinesList text entries kept
+lines_of_list text entries kept list tells =
     let are = members-of-object text list.members list.parsed in
-    let of_members : counts_of ignored ≡ tally (entries_passed_over list.members) = rw list.parsed at counted in
+    let of_members : kept ≡ kept_of (entries_told list.members) = rw list.parsed at tells in
     record {
       each = lines_of_entries (elements Curly text) list.members entries are list.unique list.read;
-      of_passed_over = of_members ∙ ap tally (sym (passed_over_of_lines (elements Curly text) list.members are));
+      notes = of_members ∙ ap kept_of (sym (told_of_lines (elements Curly text) list.members are));
     }
 
 -- where no key comes twice, a text that lists entries describes the library of them

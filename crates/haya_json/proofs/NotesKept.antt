@@ -1,11 +1,11 @@
 -- One note more, and notes that come in turn.
 use Rattle.std.proofs.Common.{◌≡◌, ℕ, ◌+◌, ◌-◌, ◌<◌, ◌≤◌, Bool, true, false, not, List, [], ◌∷◌, ◌++◌, Option, None, Some, filter, length, take, refl, sym, ap, ◌∙◌, append_assoc, if◌then◌else◌, arith}
-use Rattle.std.specs.Prelude.{min, nat_lt}
+use Rattle.std.specs.Prelude.{min, nat_lt, slice_get}
 use Rattle.std.proofs.lemmas.Grind.{flat_map-append}
 use Rattle.std.proofs.lemmas.List.{append-nil, length-append, length-take, take-append-le, take_all}
 use Rattle.std.proofs.lemmas.Bool.{ltb-false, ltb-true}
 use Rattle.std.proofs.lemmas.List.Elements.{filter-append}
-use Rattle.haya_json.specs.Notes.{LossView, NoteView, NotesView, again, all_kept, first_after, first_named, is_named, kept_after, kept_by, kept_of, line_kept, lines_in, name_kept, named, names_in, names_of, none_kept, unread}
+use Rattle.haya_json.specs.Notes.{LossView, NoteView, NotesView, again, all_kept, first_after, first_named, first_note, is_named, kept_after, kept_by, kept_of, line_kept, lines_in, name_kept, named, names_in, names_of, none_kept, unread}
 use Rattle.haya_json.specs.Tally.{Counts, all_counted, as_count, counted, tally}
 use Rattle.haya_json.proofs.Tallies.{counted_in_turn}
 
@@ -119,3 +119,20 @@ kept_together (x ∷ xs) ys kept = kept_together xs ys (kept_after x kept)
 
 pub kept_from_none : (ns : List NoteView) → all_kept ns none_kept ≡ kept_of ns
 kept_from_none ns = kept_in_turn ns []
+
+-- ---- the first
+
+-- the first that is kept is the first of the notes
+pub first_of_kept : (ns : List NoteView) → first_note (kept_of ns) ≡ slice_get ns 0
+first_of_kept [] = refl
+first_of_kept (n ∷ ns) = by n.lost.loss refl
+  where
+    by : (l : LossView) → n.lost.loss ≡ l → first_note (kept_of (n ∷ ns)) ≡ Some n
+    by (named name) is = rw is refl
+    by (unread why) is = rw is refl
+    by again is = rw is refl
+
+-- without a first there are none
+pub none_of_first : (ns : List NoteView) → first_note (kept_of ns) ≡ None → ns ≡ []
+none_of_first [] none = refl
+none_of_first (n ∷ ns) none = let some = sym (first_of_kept (n ∷ ns)) ∙ none in absurd (cc)

@@ -1,5 +1,5 @@
 -- A library as lines of JSON: each line an object of an entry and its key.
-use Rattle.std.specs.Prelude.{◌≡◌, ◌≢◌, ◌⊎◌, ◌==◌, ℕ, ◌+◌, false, List, [], ◌∷◌, ◌++◌, length, flat_map, codes, None, Some, MatchBool, Result, Ok}
+use Rattle.std.specs.Prelude.{◌≡◌, ◌≢◌, ◌⊎◌, ◌==◌, ℕ, ◌+◌, false, List, [], ◌∷◌, ◌++◌, length, codes, None, Some, MatchBool, Result, Ok, if◌then◌else◌}
 use Rattle.std.specs.List.{AllZip}
 use Rattle.std.specs.Option.{option_map_or}
 use Rattle.std.specs.Str.Lines.{lines}
@@ -8,23 +8,29 @@ use Rattle.json.specs.Strict.{HasUniqueKeys}
 use Rattle.haya_elements.specs.Elements.{nonempty_lines}
 use Rattle.haya_entry.specs.Tree.{Tree}
 use Rattle.hayagriva.specs.Library.{from_entries, push}
-use Rattle.haya_json.specs.Entries.{entry_of}
-use Rattle.haya_json.specs.Ignored.{counts_of, passed_over_in}
+use Rattle.haya_json.specs.Entries.{entry_said}
+use Rattle.haya_json.specs.Fields.{EntryView}
 use Rattle.haya_json.specs.Libraries.{IsErrorOfReading}
 use Rattle.haya_json.specs.Parts.{member_of, needed, plain_of}
+use Rattle.haya_json.specs.Notes.{NoteView, NotesView, all_kept, kept_of}
 use Rattle.haya_json.specs.Refusal.{Refusal, and_then}
-use Rattle.haya_json.specs.Tally.{tally}
+use Rattle.haya_json.specs.Told.{told_alone, told_first}
 use Rattle.haya_json.specs.declared.error.ReadError.{ReadError}
 use Rattle.haya_json.specs.declared.error.ReadError.TheVariants.{OutOfMemory}
-use Rattle.haya_json.specs.declared.ignored.Ignored.{Ignored}
 use Rattle.haya_json.specs.declared.error.LineError.{LineError}
 
 -- ---- one line
 
--- the entry of an object: its member `entry`, under the key that its member `key` is
+-- The entry of an object, its member `entry`, under the key that its member `key` is, and what is
+-- lost of it.
+abbrev pub line_said : Json → Result EntryView Refusal
+line_said j =
+    and_then (needed (codes "key") plain_of j) (λ key.
+    needed (codes "entry") (entry_said key None) j)
+
+-- the entry alone
 abbrev pub entry_in : Json → Result Tree Refusal
-entry_in j =
-    and_then (needed (codes "key") plain_of j) (λ key. needed (codes "entry") (entry_of key None) j)
+entry_in j = and_then (line_said j) (λ v. Ok v.entry)
 
 -- the line is JSON in which no object has a name twice, and it says this entry
 pub record IsLineOf (line : List ℕ) (entry : Tree) : Type 0 where
@@ -33,17 +39,21 @@ pub record IsLineOf (line : List ℕ) (entry : Tree) : Type 0 where
   pub unique : HasUniqueKeys value
   pub read : entry_in value ≡ Ok entry
 
+-- the line is JSON in which no object has a name twice, and this is read of its entry
+pub record IsReadingOf (line : List ℕ) (said : EntryView) : Type 0 where
+  pub value : Json
+  pub parsed : document line ≡ Some value
+  pub unique : HasUniqueKeys value
+  pub read : line_said value ≡ Ok said
+
 -- what an error says of a line
 abbrev pub IsLineErrorOf : List ℕ → ReadError → Type 0
 IsLineErrorOf line error = IsErrorOfReading entry_in line error
 
--- The names of the members that are passed over of the entry of an object. Members beside the entry
--- aren't among them.
-abbrev pub value_passed_over : Json → List (List ℕ)
-value_passed_over j = option_map_or (passed_over_in false) (member_of (codes "entry") j) []
-
-abbrev pub line_passed_over : List ℕ → List (List ℕ)
-line_passed_over line = option_map_or value_passed_over (document line) []
+-- What is told of a line: what is lost of its entry. Members beside the entry aren't told, and a key
+-- that comes again isn't looked for.
+abbrev pub line_told : List ℕ → List NoteView
+line_told line = option_map_or (λ j. told_alone (line_said j)) (document line) []
 
 -- ---- lines
 
@@ -51,14 +61,25 @@ line_passed_over line = option_map_or value_passed_over (document line) []
 abbrev pub AreEntriesOf : List (List ℕ) → List Tree → Type 0
 AreEntriesOf ls entries = AllZip IsLineOf (nonempty_lines ls) entries
 
-abbrev pub lines_passed_over : List (List ℕ) → List (List ℕ)
-lines_passed_over ls = flat_map line_passed_over (nonempty_lines ls)
+-- what is told of lines whose entries are pushed to a library in turn
+abbrev pub lines_told : List Tree → List (List ℕ) → List NoteView
+lines_told library [] = []
+lines_told library (l ∷ ls) =
+    if length l == 0 then lines_told library ls
+    else
+    option_map_or (λ j. told_first library (line_said j) (λ more. lines_told more ls)) (document l) []
 
 -- the entry of a line is pushed to a library; an empty line has none
 abbrev pub PushesLine : List ℕ → List Tree → List Tree → Type 0
 PushesLine line old new =
     MatchBool (length line == 0) (new ≡ old)
     ((entry : Tree) × IsLineOf line entry × (new ≡ push entry old))
+
+-- what is told of a line, and then of those behind it, is kept as that is behind the line
+abbrev pub TellsLine : List ℕ → List Tree → List Tree → NotesView → NotesView → Type 0
+TellsLine line old new before after =
+    (rest : List (List ℕ)) →
+    all_kept (lines_told old (line ∷ rest)) before ≡ all_kept (lines_told new rest) after
 
 -- the error of a line that isn't empty, or out of memory
 abbrev pub ErrorInLine : List ℕ → ReadError → Type 0
@@ -75,9 +96,9 @@ pub record Describes (text : List ℕ) (library : List Tree) : Type 0 where
   pub listed : IsListOf text entries
   pub of_entries : library ≡ from_entries entries
 
--- what is passed over of the entries of a text
-abbrev pub IsPassedOver : List ℕ → Ignored → Type 0
-IsPassedOver text ignored = counts_of ignored ≡ tally (lines_passed_over (lines text))
+-- this is kept of what is told of a text
+abbrev pub Tells : List ℕ → NotesView → Type 0
+Tells text kept = kept ≡ kept_of (lines_told [] (lines text))
 
 -- the first line that says no entry, with its number, from 1 on
 pub record FirstError (text : List ℕ) (fault : LineError) : Type 0 where

@@ -1,13 +1,15 @@
 pub mod Refusal
 pub mod Whole
 pub mod Parts
+pub mod Tally
+pub mod Ignored
+pub mod Notes
+pub mod LostParts
 pub mod Values
 pub mod Fields
 pub mod Entries
 pub mod Libraries
-pub mod Tally
-pub mod Ignored
-pub mod Notes
+pub mod Told
 pub mod Position
 pub mod Messages
 pub mod Printed
@@ -17,3 +19,5 @@ pub mod ReadBack
 pub mod JsonLines
 pub mod Alone
 pub mod MemberLines
+pub mod Readings
+pub mod LostMembers

@@ -12,9 +12,9 @@ use Rattle.haya_elements.specs.declared.place.Brackets.TheVariants.{Curly}
 use Rattle.haya_entry.specs.Tree.{Tree}
 use Rattle.haya_json.specs.Alone.{value_alone}
 use Rattle.haya_json.specs.Entries.{entry_of}
-use Rattle.haya_json.specs.Ignored.{passed_over}
 use Rattle.haya_json.specs.Libraries.{IsErrorOfJson, entries_of, library_of}
-use Rattle.haya_json.specs.Tally.{Counts, tally}
+use Rattle.haya_json.specs.Notes.{NoteView, NotesView, kept_of}
+use Rattle.haya_json.specs.Told.{told}
 use Rattle.haya_json.specs.declared.error.ReadError.{ReadError}
 
 -- ---- one line
@@ -44,23 +44,23 @@ pub record IsMemberLineOf (line : List ℕ) (entry : Tree) : Type 0 where
 abbrev pub IsMemberLineErrorOf : List ℕ → ReadError → Type 0
 IsMemberLineErrorOf line error = IsErrorOfJson library_of (member_in line) error
 
--- the names of the members that are passed over of the entry of a line
-abbrev pub line_passed_over : List ℕ → List (List ℕ)
-line_passed_over line = option_map_or passed_over (member_in line) []
+-- what is told of a line: what is lost of its entry
+abbrev pub line_told : List ℕ → List NoteView
+line_told line = option_map_or told (member_in line) []
 
 -- ---- lines
 
--- the names of the members that are passed over of the entries of lines
-abbrev pub lines_passed_over : List (List ℕ) → List (List ℕ)
-lines_passed_over ls = flat_map line_passed_over (nonempty_lines ls)
+-- what is told of the entries of lines
+abbrev pub lines_told : List (List ℕ) → List NoteView
+lines_told ls = flat_map line_told (nonempty_lines ls)
 
 -- ---- a text
 
 -- The members of a text, each on a line of its own, say these entries, in order, repeated keys and
--- all. What is passed over of them comes to these counts.
-pub record LinesList (text : List ℕ) (entries : List Tree) (counts : Counts) : Type 0 where
+-- all. This is kept of what is told of them.
+pub record LinesList (text : List ℕ) (entries : List Tree) (kept : NotesView) : Type 0 where
   pub each : AllZip IsMemberLineOf (elements Curly text) entries
-  pub of_passed_over : counts ≡ tally (lines_passed_over (lines (element_lines Curly text)))
+  pub notes : kept ≡ kept_of (lines_told (lines (element_lines Curly text)))
 
 -- The text is an object in JSON. No object in a value of it has a name twice, and its members say
 -- these entries, in order, repeated keys and all.

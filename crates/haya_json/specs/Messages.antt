@@ -10,7 +10,7 @@ use Rattle.haya_json.specs.declared.error.ReadError.{ReadError}
 use Rattle.haya_json.specs.declared.error.ReadError.TheVariants.{NotJson, NameTwice, Refused, OutOfMemory}
 use Rattle.haya_json.specs.declared.fault.Why.{Why}
 use Rattle.haya_json.specs.declared.position.Position.{Position}
-use Rattle.haya_json.specs.declared.fault.Why.TheVariants.{NotObject, NotEntries, NotList, NotText, NotTruth, NotWhole, Missing, Twice, SameId, UnknownType, UnknownRole, NotChunks, NotPerson, NotDate, NotNumber, NotDuration}
+use Rattle.haya_json.specs.declared.fault.Why.TheVariants.{NotObject, NotEntries, NotList, NotText, NotTruth, NotWhole, Missing, Twice, UnknownType, UnknownRole, NotChunks, NotPerson, NotDate, NotNumber, NotDuration}
 
 -- a character of a name in a pointer: `~0` for a tilde, and `~1` for a slash
 abbrev pub pointer_char : ℕ → List ℕ
@@ -38,7 +38,6 @@ why_text NotTruth = codes "expected true or false"
 why_text NotWhole = codes "expected a whole number"
 why_text Missing = codes "missing"
 why_text Twice = codes "given twice"
-why_text SameId = codes "the same id twice"
 why_text UnknownType = codes "unknown type"
 why_text UnknownRole = codes "unknown role"
 why_text NotChunks = codes "a brace closes no group"
@@ -51,8 +50,8 @@ abbrev pub position_text : Position → List ℕ
 position_text p = codes "line " ++ (decimal p.line ++ (codes ", column " ++ decimal p.column))
 
 abbrev pub error_text : ReadError → List ℕ
-error_text (NotJson p) = position_text p ++ codes ": no JSON"
-error_text (NameTwice p) = position_text p ++ codes ": an object has a member twice"
+error_text (NotJson p) = position_text p ++ codes ": invalid JSON"
+error_text (NameTwice p) = position_text p ++ codes ": duplicate member"
 error_text (Refused path why) =
     pointer (map step_view path.items) ++ (codes ": " ++ why_text why)
 error_text OutOfMemory = codes "out of memory"

@@ -1,7 +1,7 @@
 -- What is told of an input: what is lost of its entries, in the order of the text.
-use Rattle.std.specs.Prelude.{◌≡◌, ℕ, Bool, true, false, ◌+◌, ◌-◌, List, [], ◌∷◌, ◌++◌, Option, None, Some, filter, flat_map, fold, length, map, nat_lt, not, option_map, slice_get, string_bytes, take, if◌then◌else◌}
+use Rattle.std.specs.Prelude.{◌≡◌, ℕ, Bool, true, false, ◌+◌, ◌-◌, List, [], ◌∷◌, ◌++◌, Option, None, Some, filter, flat_map, fold, length, map, nat_lt, not, option_map, slice_get, string_bytes, take, Result, Ok, Err, if◌then◌else◌}
 use Rattle.haya_json.specs.Ignored.{counts_of}
-use Rattle.haya_json.specs.Refusal.{StepView, step_view}
+use Rattle.haya_json.specs.Refusal.{Refusal, StepView, step_view}
 use Rattle.haya_json.specs.Tally.{Counts, as_count, counted, tally}
 use Rattle.haya_json.specs.declared.fault.Why.{Why}
 use Rattle.haya_json.specs.declared.notes.Loss.{Loss}
@@ -30,6 +30,15 @@ pub record NoteView : Type 0 where
 -- what is lost of a value itself
 abbrev pub lost_here : LossView → LostView
 lost_here loss = record { path = []; loss = loss }
+
+-- a value that is refused is lost: it isn't read
+abbrev pub lost_of : Refusal → LostView
+lost_of r = record { path = r.path; loss = unread r.why }
+
+-- what is lost of a value, by what it reads as
+abbrev pub refusal_lost : {V : Type 0} → Result V Refusal → List LostView
+refusal_lost (Ok v) = []
+refusal_lost (Err r) = lost_of r ∷ []
 
 -- the same seen from one step further out
 abbrev pub lost_behind : StepView → LostView → LostView

@@ -1,88 +1,68 @@
 //! Entries, with their parents.
-ghost use Rattle.std.specs.Prelude.{◌≡◌, [], Ok, map, option_map, OnOk, IfOk, IfErr};
+ghost use Rattle.std.specs.Prelude.{◌≡◌, Ok, Some, option_map, IfOk, IfErr, OnOk};
+ghost use Rattle.std.specs.Result.{result_ok};
 ghost use Rattle.json.specs.Value.{items_view, members_view, value_view};
 ghost use Rattle.haya_entry.specs.ParentTypes.{default_parent};
-ghost use Rattle.haya_entry.specs.Tree.{new_entry, view};
-ghost use Rattle.haya_json.specs.Refusal.{IsFaultOf};
-ghost use Rattle.haya_json.specs.Entries.{entry_of, members_set, own_key, parents_from};
-ghost use Rattle.haya_json.specs.Entries.{PassesText};
-ghost use Rattle.haya_json.specs.Entries.{parents_of, type_among, type_in, type_of, with_member};
+ghost use Rattle.haya_entry.specs.Tree.{view};
+ghost use Rattle.haya_json.specs.Entries.{entry_begun, entry_said, item_added, items_said};
+ghost use Rattle.haya_json.specs.Entries.{key_among, kind_of, members_said, own_key};
+ghost use Rattle.haya_json.specs.Entries.{parents_said, type_missing, type_of, with_member};
+ghost use Rattle.haya_json.specs.Notes.{losts_view, refusal_lost};
 ghost use Rattle.haya_json.specs.Parts.{plain_of};
+ghost use Rattle.haya_json.specs.Readings.{entry_view, parents_view, reading_view};
+ghost use Rattle.haya_json.specs.Refusal.{IsFaultOf};
 
 use crate::fault::{Fault, Why};
 use crate::fields::set_field;
-use crate::from_json::{member, read_text, text_in};
+use crate::from_json::{member, text_in};
+use crate::losts::{add_in_item, add_in_member, only, only_refused, only_unread};
+use crate::notes::Lost;
+use crate::told::Reading;
 use haya_entry::{Entry, EntryType};
+use haya_text::OutOfMemory;
 use json::Value;
 use std::alloc::Global;
 
-/// An entry under this key: an object, whose type is the one that it names, or else the default,
-/// if there is one. A parent has a default, and may have a key of its own.
+/// An entry under this key, and what is lost of it: an object, whose type is the one that it names,
+/// or else the default, if there is one. A parent has a default, and may have a key of its own.
 #[cycle(entries)]
 pub(crate) fn read_entry(
     alloc: Global,
     key: &str,
     default: Option<EntryType>,
     json: &Value<'_>,
-) -> Result<Entry, Fault>
-    ensures ok { IfOk result (λ entry.
-        entry_of key.now default (value_view json.now) ≡ Ok (view entry)) }
-    ensures fault { IfErr result (IsFaultOf (entry_of key.now default (value_view json.now))) }
+) -> Result<Reading, Fault>
+    ensures ok { IfOk result (λ read.
+        entry_said key.now default (value_view json.now) ≡ Ok (reading_view read)) }
+    ensures fault { IfErr result (IsFaultOf (entry_said key.now default (value_view json.now))) }
 {
     let Value::Object(members) = json else {
         return Err(Fault::refused(alloc, Why::NotObject));
     };
-    let kind = read_type(alloc, default, json)?;
-    match own_key(default, json) {
-        Some(own) => read_members(alloc, own, default, kind, members),
-        None => read_members(alloc, key, default, kind, members),
+    match read_object(alloc, key, default, json, members) {
+        Ok(read) => Ok(read),
+        Err(_) => Err(Fault::OutOfMemory),
     }
 }
 
-// The type that an object says its entry has, or the default.
-fn read_type(
+// The entry of an object under its own key, or else this one.
+#[cycle(entries)]
+fn read_object(
     alloc: Global,
+    key: &str,
     default: Option<EntryType>,
     json: &Value<'_>,
-) -> Result<EntryType, Fault>
-    ensures ok { IfOk result (λ kind. type_among default (value_view json.now) ≡ Ok kind) }
-    ensures fault { IfErr result (IsFaultOf (type_among default (value_view json.now))) }
+    members: &Vec<(&str, Value<'_>)>,
+) -> Result<Reading, OutOfMemory>
+    ensures { IfOk result (λ read.
+        let own = key_among key.now default (value_view json.now) in
+        members_said own default (kind_of default (value_view json.now))
+        (members_view members.now.items) (entry_begun own default (value_view json.now))
+        ≡ reading_view read) }
 {
-    match type_in(alloc, default, member(json, "type")) {
-        Ok(kind) => Ok(kind),
-        Err(fault) => Err(fault.in_member(alloc, "type")),
-    }
-}
-
-// The type of this name, or the default.
-fn type_in(
-    alloc: Global,
-    default: Option<EntryType>,
-    named: Option<&Value<'_>>,
-) -> Result<EntryType, Fault>
-    ensures ok { IfOk result (λ kind.
-        type_in default (option_map (λ j. value_view j.now) named.entry) ≡ Ok kind) }
-    ensures fault { IfErr result (IsFaultOf
-        (type_in default (option_map (λ j. value_view j.now) named.entry))) }
-{
-    match named {
-        Some(json) => type_named(alloc, json),
-        None => match default {
-            Some(kind) => Ok(kind),
-            None => Err(Fault::refused(alloc, Why::Missing)),
-        },
-    }
-}
-
-// The type of this name.
-fn type_named(alloc: Global, json: &Value<'_>) -> Result<EntryType, Fault>
-    ensures ok { IfOk result (λ kind. type_of (value_view json.now) ≡ Ok kind) }
-    ensures fault { IfErr result (IsFaultOf (type_of (value_view json.now))) }
-{
-    let text = read_text(alloc, json)?;
-    match text.parse::<EntryType>() {
-        Ok(kind) => Ok(kind),
-        Err(_) => Err(Fault::refused(alloc, Why::UnknownType)),
+    match own_key(default, json) {
+        Some(own) => read_members(alloc, own, default, json, members),
+        None => read_members(alloc, key, default, json, members),
     }
 }
 
@@ -96,53 +76,98 @@ fn own_key<'a>(default: Option<EntryType>, json: &Value<'a>) -> Option<&'a str>
     text_in(member(json, "key")?)
 }
 
-// An entry of this type, after its members are set in turn.
+// The type that an object says its entry has; otherwise the default, and `Misc` where there is none.
+fn kind_of(default: Option<EntryType>, json: &Value<'_>) -> EntryType
+    ensures { result ≡ kind_of default (value_view json.now) }
+{
+    if let Some(named) = member(json, "type") {
+        if let Some(kind) = type_named(named) {
+            return kind;
+        }
+    }
+    default.unwrap_or(EntryType::Misc)
+}
+
+// The type of this name.
+fn type_named(json: &Value<'_>) -> Option<EntryType>
+    ensures { result ≡ result_ok (type_of (value_view json.now)) }
+{
+    text_in(json)?.parse::<EntryType>().ok()
+}
+
+// What is lost of the type of an entry: a name of none, or what is no text.
+fn type_lost(alloc: Global, json: &Value<'_>) -> Result<Vec<Lost>, OutOfMemory>
+    ensures { IfOk result (λ lost.
+        losts_view lost.items ≡ refusal_lost (type_of (value_view json.now))) }
+{
+    let Some(text) = text_in(json) else {
+        return only_unread(alloc, Why::NotText, json);
+    };
+    match text.parse::<EntryType>() {
+        Ok(_) => Ok(Vec::new(alloc)),
+        Err(_) => only_unread(alloc, Why::UnknownType, json),
+    }
+}
+
+// What an entry of a library lacks that says no type.
+fn type_missing(
+    alloc: Global,
+    default: Option<EntryType>,
+    json: &Value<'_>,
+) -> Result<Vec<Lost>, OutOfMemory>
+    ensures { IfOk result (λ lost.
+        losts_view lost.items ≡ type_missing default (value_view json.now)) }
+{
+    if default.is_some() || member(json, "type").is_some() {
+        return Ok(Vec::new(alloc));
+    }
+    only(alloc, Lost::missing(alloc).in_member(alloc, "type")?)
+}
+
+// An entry of this type, after its members are set in turn, and what is lost of them.
 #[cycle(entries)]
 fn read_members(
     alloc: Global,
     key: &str,
     default: Option<EntryType>,
-    kind: EntryType,
+    json: &Value<'_>,
     members: &Vec<(&str, Value<'_>)>,
-) -> Result<Entry, Fault>
-    ensures ok { IfOk result (λ entry.
-        members_set key.now default kind (members_view members.now.items)
-        (new_entry key.now kind) ≡ Ok (view entry)) }
-    ensures fault { IfErr result (IsFaultOf
-        (members_set key.now default kind (members_view members.now.items)
-        (new_entry key.now kind))) }
+) -> Result<Reading, OutOfMemory>
+    ensures { IfOk result (λ read.
+        members_said key.now default (kind_of default (value_view json.now))
+        (members_view members.now.items) (entry_begun key.now default (value_view json.now))
+        ≡ reading_view read) }
 {
+    let kind = kind_of(default, json);
+    let mut lost = type_missing(alloc, default, json)?;
     let mut entry = Entry::new(alloc, key, kind)?;
-    set_members(alloc, &mut entry, key, default, kind, members)?;
-    Ok(entry)
+    set_members(alloc, &mut entry, &mut lost, key, default, kind, members)?;
+    Ok(Reading { entry, lost })
 }
 
-// Sets the members in turn.
+// Sets the members in turn, and puts what is lost of them behind what was lost before.
 #[cycle(entries)]
 fn set_members(
     alloc: Global,
     entry: &mut Entry,
+    lost: &mut Vec<Lost>,
     key: &str,
     default: Option<EntryType>,
     kind: EntryType,
     members: &Vec<(&str, Value<'_>)>,
-) -> Result<(), Fault>
-    ensures ok { OnOk result
-        (members_set key.now default kind (members_view members.now.items) (view entry.old)
-        ≡ Ok (view entry.new)) }
-    ensures fault { IfErr result (IsFaultOf
-        (members_set key.now default kind (members_view members.now.items) (view entry.old))) }
+) -> Result<(), OutOfMemory>
+    ensures { OnOk result
+        (members_said key.now default kind (members_view members.now.items)
+        (entry_view entry.old lost.old.items) ≡ entry_view entry.new lost.new.items) }
 {
     'members: for member in members {
-        match set_member(alloc, entry, key, default, kind, member.0, &member.1) {
-            Ok(()) => {}
-            Err(fault) => return Err(fault.in_member(alloc, member.0)),
-        }
+        let more = set_member(alloc, entry, key, default, kind, member.0, &member.1)?;
+        add_in_member(alloc, lost, more, member.0)?;
     }
     Ok(())
 }
 
-// Sets one member: the parents, or a field.
+// Sets one member, the parents or a field, and answers what is lost of it.
 #[cycle(entries)]
 fn set_member(
     alloc: Global,
@@ -152,35 +177,44 @@ fn set_member(
     kind: EntryType,
     name: &str,
     json: &Value<'_>,
-) -> Result<(), Fault>
-    ensures ok { OnOk result (with_member default name.now (value_view json.now)
-        (parents_of key.now (default_parent kind) (value_view json.now)) (view entry.old)
-        ≡ Ok (view entry.new)) }
-    ensures fault { IfErr result (IsFaultOf (with_member default name.now (value_view json.now)
-        (parents_of key.now (default_parent kind) (value_view json.now)) (view entry.old))) }
+) -> Result<Vec<Lost>, OutOfMemory>
+    ensures { IfOk result (λ lost. with_member default name.now (value_view json.now)
+        (parents_said key.now (default_parent kind) (value_view json.now)) (view entry.old)
+        ≡ entry_view entry.new lost.items) }
 {
-    if json.is_null() || name == "type" {
-        return Ok(());
+    if json.is_null() {
+        return Ok(Vec::new(alloc));
+    }
+    if name == "type" {
+        return type_lost(alloc, json);
     }
     if name == "parent" {
-        entry.set_parents(read_parents(alloc, key, kind.default_parent(), json)?);
-        return Ok(());
+        let Parents { entries, lost } = read_parents(alloc, key, kind.default_parent(), json)?;
+        entry.set_parents(entries);
+        return Ok(lost);
     }
     if name == "key" && default.is_some() {
-        return check_text(alloc, json);
+        return text_lost(alloc, json);
     }
     set_field(alloc, entry, name, json)
 }
 
-// Refuses what is no text.
-fn check_text(alloc: Global, json: &Value<'_>) -> Result<(), Fault>
-    ensures ok { OnOk result (PassesText (value_view json.now)) }
-    ensures fault { IfErr result (IsFaultOf (plain_of (value_view json.now))) }
+// What is lost of a value that has to be a text.
+fn text_lost(alloc: Global, json: &Value<'_>) -> Result<Vec<Lost>, OutOfMemory>
+    ensures { IfOk result (λ lost.
+        losts_view lost.items ≡ refusal_lost (plain_of (value_view json.now))) }
 {
-    match read_text(alloc, json) {
-        Ok(_) => Ok(()),
-        Err(fault) => Err(fault),
+    match text_in(json) {
+        Some(_) => Ok(Vec::new(alloc)),
+        None => only_unread(alloc, Why::NotText, json),
     }
+}
+
+// Parents, and what is lost of the JSON that they were read of.
+#[derive(Drop)]
+struct Parents {
+    entries: Vec<Entry>,
+    lost: Vec<Lost>,
 }
 
 // One parent alone, or an array of them.
@@ -190,46 +224,70 @@ fn read_parents(
     key: &str,
     default: EntryType,
     json: &Value<'_>,
-) -> Result<Vec<Entry>, Fault>
-    ensures ok { IfOk result (λ es.
-        parents_of key.now default (value_view json.now) ≡ Ok (map view es.items)) }
-    ensures fault { IfErr result (IsFaultOf (parents_of key.now default (value_view json.now))) }
+) -> Result<Parents, OutOfMemory>
+    ensures { IfOk result (λ ps.
+        parents_said key.now default (value_view json.now) ≡ parents_view ps) }
 {
     match json {
-        Value::Array(items) => {
-            let mut entries = Vec::with_capacity(alloc, items.len())?;
-            read_each(alloc, key, default, items, &mut entries)?;
-            Ok(entries)
+        Value::Array(items) => read_each(alloc, key, default, items),
+        Value::Object(members) => {
+            let Reading { entry, lost } = read_object(alloc, key, Some(default), json, members)?;
+            let mut entries = Vec::new(alloc);
+            entries.push(entry)?;
+            Ok(Parents { entries, lost })
         }
-        Value::Object(_) => {
-            let mut entries = Vec::with_capacity(alloc, 1)?;
-            entries.push_reserved(read_entry(alloc, key, Some(default), json)?);
-            Ok(entries)
+        _ => {
+            let lost = only_unread(alloc, Why::NotEntries, json)?;
+            let entries = Vec::new(alloc);
+            Ok(Parents { entries, lost })
         }
-        _ => Err(Fault::refused(alloc, Why::NotEntries)),
     }
 }
 
-// Each item as an entry, in order.
+// Each item as an entry, in order. One that says none is lost.
 #[cycle(entries)]
 fn read_each(
     alloc: Global,
     key: &str,
     default: EntryType,
     items: &Vec<Value<'_>>,
-    entries: &mut Vec<Entry>,
-) -> Result<(), Fault>
-    requires { entries.old.items ≡ [] }
-    ensures ok { OnOk result (parents_from key.now default 0 (items_view items.now.items)
-        ≡ Ok (map view entries.new.items)) }
-    ensures fault { IfErr result (IsFaultOf
-        (parents_from key.now default 0 (items_view items.now.items))) }
+) -> Result<Parents, OutOfMemory>
+    ensures { IfOk result (λ ps.
+        items_said key.now default 0 (items_view items.now.items) ≡ parents_view ps) }
 {
+    let mut parents = Parents {
+        entries: Vec::with_capacity(alloc, items.len())?,
+        lost: Vec::new(alloc),
+    };
     'entries: for place in 0..items.len() {
-        match read_entry(alloc, key, Some(default), &items[place]) {
-            Ok(entry) => entries.push(entry)?,
-            Err(fault) => return Err(fault.in_item(place)),
-        }
+        add_parent(alloc, &mut parents, key, default, place, &items[place])?;
     }
-    Ok(())
+    Ok(parents)
+}
+
+// Puts the parent that the item at this place says behind others. An item that says none is lost.
+#[cycle(entries)]
+fn add_parent(
+    alloc: Global,
+    parents: &mut Parents,
+    key: &str,
+    default: EntryType,
+    place: usize,
+    json: &Value<'_>,
+) -> Result<(), OutOfMemory>
+    ensures { OnOk result
+        (item_added place (entry_said key.now (Some default) (value_view json.now))
+        (parents_view parents.old) ≡ parents_view parents.new) }
+{
+    match read_entry(alloc, key, Some(default), json) {
+        Ok(Reading { entry, lost }) => {
+            parents.entries.push(entry)?;
+            add_in_item(alloc, &mut parents.lost, lost, place)
+        }
+        Err(Fault::Refused(path, why)) => {
+            let lost = only_refused(alloc, path, why, json)?;
+            add_in_item(alloc, &mut parents.lost, lost, place)
+        }
+        Err(Fault::OutOfMemory) => Err(OutOfMemory),
+    }
 }

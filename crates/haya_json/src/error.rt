@@ -26,15 +26,13 @@ pub enum ReadError {
 impl fmt::Display for ReadError {
     ghost output = { λ e. Some (error_text e) };
 
-    /// What is wrong, behind its place: a position in the text, `line 3, column 7: no JSON`, or
+    /// What is wrong, behind its place: a position in the text, `line 3, column 7: invalid JSON`, or
     /// that of a refused value as a JSON Pointer (RFC 6901),
     /// `/klein2009/parent/1/date: no date`.
     fn fmt<W: fmt::Write>(&self, f: &mut fmt::Formatter<W>) -> fmt::Result {
         match self {
-            ReadError::NotJson(position) => write!(f, "{position}: no JSON"),
-            ReadError::NameTwice(position) => {
-                write!(f, "{position}: an object has a member twice")
-            }
+            ReadError::NotJson(position) => write!(f, "{position}: invalid JSON"),
+            ReadError::NameTwice(position) => write!(f, "{position}: duplicate member"),
             ReadError::Refused(path, why) => write!(f, "{}: {why}", Pointer(path)),
             ReadError::OutOfMemory => f.write_str("out of memory"),
         }
@@ -55,18 +53,18 @@ pub struct LineError {
 impl fmt::Display for LineError {
     ghost output = { λ e. Some (line_error_text e) };
 
-    /// What is wrong, behind its place in the text: `line 3, column 7: no JSON`, or
+    /// What is wrong, behind its place in the text: `line 3, column 7: invalid JSON`, or
     /// `line 3: /entry/date: no date`.
     fn fmt<W: fmt::Write>(&self, f: &mut fmt::Formatter<W>) -> fmt::Result {
         let line = self.line;
         match &self.error {
             ReadError::NotJson(position) => {
                 let position = Position { line, ..*position };
-                write!(f, "{position}: no JSON")
+                write!(f, "{position}: invalid JSON")
             }
             ReadError::NameTwice(position) => {
                 let position = Position { line, ..*position };
-                write!(f, "{position}: an object has a member twice")
+                write!(f, "{position}: duplicate member")
             }
             error => write!(f, "line {line}: {error}"),
         }
@@ -87,8 +85,8 @@ pub struct ElementError {
 impl fmt::Display for ElementError {
     ghost output = { λ e. Some (element_error_text e) };
 
-    /// What is wrong, behind its place in the text: `element 3, line 1, column 7: no JSON`, or
-    /// `/klein2009/date: no date`.
+    /// What is wrong, behind its place in the text: `element 3, line 1, column 7: invalid JSON`, or
+    /// `/klein2009: expected an object`.
     fn fmt<W: fmt::Write>(&self, f: &mut fmt::Formatter<W>) -> fmt::Result {
         match &self.error {
             ReadError::NotJson(_) | ReadError::NameTwice(_) => {
@@ -115,7 +113,6 @@ impl fmt::Display for Why {
             Why::NotWhole => f.write_str("expected a whole number"),
             Why::Missing => f.write_str("missing"),
             Why::Twice => f.write_str("given twice"),
-            Why::SameId => f.write_str("the same id twice"),
             Why::UnknownType => f.write_str("unknown type"),
             Why::UnknownRole => f.write_str("unknown role"),
             Why::NotChunks => f.write_str("a brace closes no group"),

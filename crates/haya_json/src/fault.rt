@@ -15,7 +15,7 @@ pub enum Why {
     NotEntries,
     /// A list of values is no array.
     NotList,
-    /// Neither a text nor a number, which stands for the text that it is written as.
+    /// Neither a text nor a number, which is read as the text that it is written as.
     NotText,
     /// Neither true nor false.
     NotTruth,
@@ -25,8 +25,6 @@ pub enum Why {
     Missing,
     /// The same is said before, by another name.
     Twice,
-    /// The key of an entry that stands before.
-    SameId,
     /// A name of no type.
     UnknownType,
     /// A name of no role.

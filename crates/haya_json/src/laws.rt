@@ -1,8 +1,8 @@
 //! Laws of the definitions. A call of one, as `one_library();`, gives its statement to the caller's
 //! proof.
-ghost use Rattle.std.specs.Prelude.{◌≡◌, ◌≤◌, ℕ, All, List, Ok};
+ghost use Rattle.std.specs.Prelude.{◌≡◌, ◌≤◌, [], ℕ, All, Err, List, Ok};
 ghost use Rattle.std.specs.Str.{IsUtf8};
-ghost use Rattle.json.specs.Json.{Json, max_depth};
+ghost use Rattle.json.specs.Json.{Json, Members, max_depth, object};
 ghost use Rattle.json.specs.Print.{print};
 ghost use Rattle.json.specs.Tree.{HasNumbers, depth as nesting, json_tokens};
 ghost use Rattle.haya_text.specs.Chunks.{chunks};
@@ -12,17 +12,20 @@ ghost use Rattle.haya_people.specs.Person.{PersonView};
 ghost use Rattle.haya_time.specs.declared.date.Date.{Date};
 ghost use Rattle.haya_entry.specs.Tree.{Tree};
 ghost use Rattle.hayagriva.specs.Library.{AreDistinct};
-ghost use Rattle.haya_json.specs.Ignored.{IsPassedOver, counts_of};
+ghost use Rattle.haya_json.specs.Entries.{Default, entry_said};
+ghost use Rattle.haya_json.specs.Fields.{EntryView};
 ghost use Rattle.haya_json.specs.JsonLines as json_lines;
 ghost use Rattle.haya_json.specs.Libraries.{Describes, library_of};
+ghost use Rattle.haya_json.specs.LostMembers.{HasMember, LosesUnder, RefusesLibrary, member_said};
 ghost use Rattle.haya_json.specs.MemberLines.{LinesList, Lists};
+ghost use Rattle.haya_json.specs.Notes.{NotesView};
 ghost use Rattle.haya_json.specs.Printed.{date_json, library_json, person_json};
 ghost use Rattle.haya_json.specs.ReadBack.{EntriesAreBack, EntrySaysItself, ReadsBack, SaysItself};
 ghost use Rattle.haya_json.specs.Readable.{AreReadable, EntriesAreReadable, IsReadableDate};
 ghost use Rattle.haya_json.specs.Readable.{TreeIsReadable};
-ghost use Rattle.haya_json.specs.Tally.{Counts};
+ghost use Rattle.haya_json.specs.Refusal.{Refusal};
+ghost use Rattle.haya_json.specs.Told.{Tells, told};
 ghost use Rattle.haya_json.specs.Values.{date_of, person_of};
-ghost use Rattle.haya_json.specs.declared.ignored.Ignored.{Ignored};
 
 /// A text describes one library, if it describes any.
 pub fn one_library()
@@ -31,9 +34,12 @@ pub fn one_library()
 
 /// The JSON of a library says the library, with its order, its keys and those of all ancestors,
 /// where each value of each of its entries and their ancestors is read from what is printed of it.
+/// Nothing is told of it.
 pub fn entries_read_back()
-    ensures { (library : List Tree) → EntriesAreBack library
+    ensures library { (library : List Tree) → EntriesAreBack library
         → library_of (library_json library) ≡ Ok library }
+    ensures told { (library : List Tree) → EntriesAreBack library
+        → told (library_json library) ≡ [] }
 {}
 
 /// Where the JSON of a library says the library, and nests no deeper than 128, the bytes that
@@ -71,15 +77,14 @@ pub fn values_read_back()
 }
 
 /// The members of a text, each read on a line of its own, say entries exactly where the text is an
-/// object in JSON that lists them, and what is passed over of these lines is passed over of it.
+/// object in JSON that lists them, and what is told of these lines is told of it.
 pub fn member_lines_are_a_list()
-    ensures list { (text : List ℕ) (entries : List Tree) (counts : Counts) →
-        LinesList text entries counts → Lists text entries }
-    ensures ignored { (text : List ℕ) (entries : List Tree) (ignored : Ignored) →
-        LinesList text entries (counts_of ignored) → IsPassedOver text ignored }
-    ensures lines { (text : List ℕ) (entries : List Tree) (ignored : Ignored) →
-        Lists text entries → IsPassedOver text ignored →
-        LinesList text entries (counts_of ignored) }
+    ensures list { (text : List ℕ) (entries : List Tree) (kept : NotesView) →
+        LinesList text entries kept → Lists text entries }
+    ensures notes { (text : List ℕ) (entries : List Tree) (kept : NotesView) →
+        LinesList text entries kept → Tells text kept }
+    ensures lines { (text : List ℕ) (entries : List Tree) (kept : NotesView) →
+        Lists text entries → Tells text kept → LinesList text entries kept }
 {}
 
 /// Where no key comes twice, a text that lists entries describes the library of them.
@@ -123,4 +128,20 @@ pub fn readable_entries_say_themselves()
 /// What is printed of JSON whose numbers are numbers has no byte below 32, and so it is one line.
 pub fn printed_json_is_one_line()
     ensures { (j : Json) → HasNumbers j → All (λ b. 32 ≤ b) (print (json_tokens j)) }
+{}
+
+/// What is lost of a member of an entry is lost of the entry, under the name of the member: where it
+/// has no place, where its value isn't read, or what of the value has no place. What else is lost is
+/// a type that is missing.
+pub fn lost_members_are_told()
+    ensures { (key : List ℕ) (default : Default) (ms : Members) (said : EntryView)
+        (name : List ℕ) (j : Json) →
+        entry_said key default (object ms) ≡ Ok said → HasMember ms name j →
+        (t : Tree) × LosesUnder said name (member_said key default ms name j t).lost }
+{}
+
+/// No value of an entry refuses a library: one is refused that is no object, or has an entry that is
+/// none.
+pub fn refusals_are_few()
+    ensures { (j : Json) (r : Refusal) → library_of j ≡ Err r → RefusesLibrary r }
 {}

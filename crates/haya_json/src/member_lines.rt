@@ -1,49 +1,44 @@
 //! The entry that a member of a library says, on a line of its own.
-ghost use Rattle.std.specs.Prelude.{◌≡◌, ◌≢◌, None, Ok, Some, false, IfErr, IfOk, OnOk};
+ghost use Rattle.std.specs.Prelude.{◌≡◌, ◌≢◌, None, Ok, Some, IfErr, IfOk, OnOk};
 ghost use Rattle.json.specs.Strict.{HasUniqueKeys};
 ghost use Rattle.json.specs.Value.{value_view};
 ghost use Rattle.haya_entry.specs.Tree.{view};
-ghost use Rattle.haya_json.specs.Entries.{entry_of};
-ghost use Rattle.haya_json.specs.Ignored.{counts_of, passed_over_in};
+ghost use Rattle.haya_json.specs.Entries.{entry_of, entry_said};
 ghost use Rattle.haya_json.specs.Libraries.{IsErrorOfJson, library_of};
 ghost use Rattle.haya_json.specs.MemberLines.{IsMemberLineErrorOf, IsMemberLineOf};
-ghost use Rattle.haya_json.specs.MemberLines.{line_passed_over, member_in, single_object};
+ghost use Rattle.haya_json.specs.MemberLines.{line_told, member_in, single_object};
+ghost use Rattle.haya_json.specs.Notes.{all_kept, notes_view};
 ghost use Rattle.haya_json.specs.Refusal.{IsFaultOf, to_member, within};
-ghost use Rattle.haya_json.specs.Tally.{all_counted};
+ghost use Rattle.haya_json.specs.Told.{told_alone};
 
 use crate::alone::read_alone;
 use crate::entries::read_entry;
 use crate::error::ReadError;
 use crate::fault::Fault;
-use crate::ignored::Ignored;
+use crate::notes::Notes;
 use crate::parse_errors::{name_twice_in_line, no_member};
-use crate::passed_over::note_entry;
+use crate::told::take_entry;
 use haya_entry::Entry;
 use json::{Reader, Scratch, Token, Value};
 use std::alloc::Global;
 
 /// The entry that a line says: a member of the object that a text in hayagriva's file format is,
-/// without the commas round it. Its name is the key. What is passed over of the entry is counted in
-/// `ignored`.
+/// without the commas round it. Its name is the key. What is lost of the entry is told in `notes`.
 ///
 /// `NotJson`: the line is no member, or its value nests more than 127 deep. `NameTwice`: it is one,
-/// and an object in it has a member twice. `Refused`: a value is not what its place asks for; its
-/// path begins with the member. At each of these `ignored` is as before.
-pub fn read_member_line(
-    alloc: Global,
-    line: &str,
-    ignored: &mut Ignored,
-) -> Result<Entry, ReadError>
+/// and an object in it has a member twice. `Refused`: the entry is no object; the path is to the
+/// member. At each of these `notes` is as before.
+pub fn read_member_line(alloc: Global, line: &str, notes: &mut Notes) -> Result<Entry, ReadError>
     ensures entry { IfOk result (λ entry. IsMemberLineOf line.now (view entry)) }
-    ensures ignored { OnOk result (counts_of ignored.new
-        ≡ all_counted (line_passed_over line.now) (counts_of ignored.old)) }
+    ensures notes { OnOk result (notes_view notes.new
+        ≡ all_kept (line_told line.now) (notes_view notes.old)) }
     ensures error { IfErr result (IsMemberLineErrorOf line.now) }
     ensures unchanged { IfErr result
-        (λ e. e ≢ ReadError.OutOfMemory → counts_of ignored.new ≡ counts_of ignored.old) }
+        (λ e. e ≢ ReadError.OutOfMemory → notes_view notes.new ≡ notes_view notes.old) }
 {
     let mut scratch = Scratch::new(alloc);
     let (name, json) = member_in(alloc, line, &mut scratch)?;
-    match entry_and_ignored(alloc, name, &json, ignored) {
+    match read_named(alloc, name, &json, notes) {
         Ok(entry) => Ok(entry),
         Err(Fault::Refused(path, why)) => Err(ReadError::Refused(path, why)),
         Err(Fault::OutOfMemory) => Err(ReadError::OutOfMemory),
@@ -76,26 +71,28 @@ fn member_in<'a>(
     }
 }
 
-// The entry that a member says. What is passed over of it is counted.
-fn entry_and_ignored(
+// The entry that a member says. What is lost of it is told.
+fn read_named(
     alloc: Global,
     name: &str,
     json: &Value<'_>,
-    ignored: &mut Ignored,
+    notes: &mut Notes,
 ) -> Result<Entry, Fault>
     ensures entry { IfOk result
         (λ entry. entry_of name.now None (value_view json.now) ≡ Ok (view entry)) }
-    ensures ignored { OnOk result (counts_of ignored.new
-        ≡ all_counted (passed_over_in false (value_view json.now)) (counts_of ignored.old)) }
+    ensures notes { OnOk result (notes_view notes.new
+        ≡ all_kept (told_alone (entry_said name.now None (value_view json.now)))
+        (notes_view notes.old)) }
     ensures fault { IfErr result (IsFaultOf
         (within (to_member name.now) (entry_of name.now None (value_view json.now)))) }
     ensures unchanged { IfErr result
-        (λ e. e ≢ Fault.OutOfMemory → counts_of ignored.new ≡ counts_of ignored.old) }
+        (λ e. e ≢ Fault.OutOfMemory → notes_view notes.new ≡ notes_view notes.old) }
 {
-    let entry = match read_entry(alloc, name, None, json) {
-        Ok(entry) => entry,
-        Err(fault) => return Err(fault.in_member(alloc, name)),
-    };
-    note_entry(ignored, false, json)?;
-    Ok(entry)
+    match read_entry(alloc, name, None, json) {
+        Ok(read) => match take_entry(alloc, notes, read) {
+            Ok(entry) => Ok(entry),
+            Err(_) => Err(Fault::OutOfMemory),
+        },
+        Err(fault) => Err(fault.in_member(alloc, name)),
+    }
 }

@@ -1,19 +1,21 @@
 //! What is told of an input: what is lost of its entries, and keys that come again.
-ghost use Rattle.std.specs.Prelude.{◌≡◌, ◌↔◌, [], ◌∷◌, None, map, option_map, IfErr, IfOk};
+ghost use Rattle.std.specs.Prelude.{◌≡◌, ◌↔◌, [], None, Some, map, option_map, IfErr, IfOk};
 ghost use Rattle.std.specs.Prelude.{IsTrue, OnOk, string_bytes};
 ghost use Rattle.haya_json.specs.Ignored.{counts_of};
-ghost use Rattle.haya_json.specs.Notes.{IsNone, all_behind, all_kept, again, first_note, kept_after, line_kept, lost_behind};
-ghost use Rattle.haya_json.specs.Notes.{lost_here, lost_view, losts_view, named, none_kept};
-ghost use Rattle.haya_json.specs.Notes.{note_of, note_view, notes_under, notes_view, unread};
-ghost use Rattle.haya_json.specs.Refusal.{step_view, to_item, to_member};
+ghost use Rattle.haya_json.specs.Notes.{IsNone, all_kept, again, first_note, kept_after, line_kept};
+ghost use Rattle.haya_json.specs.Notes.{lost_behind, lost_here, lost_of, lost_view, losts_view};
+ghost use Rattle.haya_json.specs.Notes.{named, none_kept, note_of, note_view, notes_under};
+ghost use Rattle.haya_json.specs.Notes.{notes_view, unread};
+ghost use Rattle.haya_json.specs.Refusal.{refusal_at, step_view, to_item, to_member};
 
 use crate::fault::{Step, Why};
 use crate::ignored::Ignored;
-use crate::shown::shown;
+use crate::shown::{shown, shown_at};
 use haya_text::OutOfMemory;
 use hayagriva::HashKeys;
 use json::Value;
 use std::alloc::Global;
+use std::fmt;
 
 /// How many notes are kept that are told one by one. The others are counted.
 pub const LINES: usize = 10;
@@ -47,6 +49,44 @@ pub struct Note {
     pub lost: Lost,
 }
 
+impl fmt::Display for Note {
+    /// The entry's key, and what is lost of it, behind its place in the entry: `` `key` comes again ``,
+    /// or `` `key`: number-of-pages: no number: "399, [1]" ``.
+    fn fmt<W: fmt::Write>(&self, f: &mut fmt::Formatter<W>) -> fmt::Result {
+        write!(f, "`{}`", self.key)?;
+        match &self.lost.loss {
+            Loss::Again => return f.write_str(" comes again"),
+            _ => f.write_str(": ")?,
+        }
+        write!(f, "{}", Place(&self.lost.path))?;
+        match &self.lost.loss {
+            Loss::Named(name) => write!(f, ": passed over: {name}"),
+            Loss::Unread(why, value) if value.is_empty() => write!(f, ": {why}"),
+            Loss::Unread(why, value) => write!(f, ": {why}: {value}"),
+            Loss::Again => Ok(()),
+        }
+    }
+}
+
+// The steps into an entry, separated by slashes.
+#[derive(Drop)]
+struct Place<'a>(&'a Vec<Step>);
+
+impl fmt::Display for Place<'_> {
+    fn fmt<W: fmt::Write>(&self, f: &mut fmt::Formatter<W>) -> fmt::Result {
+        for (at, step) in self.0.iter().enumerate() {
+            if at > 0 {
+                f.write_str("/")?;
+            }
+            match step {
+                Step::Name(name) => f.write_str(name.as_str())?,
+                Step::Place(place) => write!(f, "{place}")?,
+            }
+        }
+        Ok(())
+    }
+}
+
 impl Lost {
     /// A value that is counted under this name.
     pub fn named(alloc: Global, name: &str) -> Result<Lost, OutOfMemory>
@@ -68,6 +108,32 @@ impl Lost {
             path: Vec::new(alloc),
             loss: Loss::Unread(why, text),
         })
+    }
+
+    /// A value in this one, at the end of these steps, that isn't read for this reason.
+    pub fn refused(
+        alloc: Global,
+        path: Vec<Step>,
+        why: Why,
+        json: &Value<'_>,
+    ) -> Result<Lost, OutOfMemory>
+        ensures { IfOk result (λ lost. lost_view lost ≡ lost_of (refusal_at path.items why)) }
+    {
+        let text = shown_at(alloc, &path, json)?;
+        Ok(Lost {
+            path,
+            loss: Loss::Unread(why, text),
+        })
+    }
+
+    /// A value that has to be there, and isn't.
+    pub fn missing(alloc: Global) -> Lost
+        ensures { lost_view result ≡ lost_here (unread Why.Missing) }
+    {
+        Lost {
+            path: Vec::new(alloc),
+            loss: Loss::Unread(Why::Missing, String::new(alloc)),
+        }
     }
 
     /// An entry whose key comes again.
@@ -113,30 +179,6 @@ impl Lost {
     }
 }
 
-/// What is lost of a value, seen from the object that has it under this name.
-pub fn all_in_member(alloc: Global, losts: Vec<Lost>, name: &str) -> Result<Vec<Lost>, OutOfMemory>
-    ensures { IfOk result (λ all.
-        losts_view all.items ≡ all_behind (to_member name.now) (losts_view losts.items)) }
-{
-    let mut all = Vec::with_capacity(alloc, losts.len())?;
-    'losts: for lost in losts {
-        all.push(lost.in_member(alloc, name)?)?;
-    }
-    Ok(all)
-}
-
-/// What is lost of a value, seen from the array that has it at this place.
-pub fn all_in_item(alloc: Global, losts: Vec<Lost>, place: usize) -> Result<Vec<Lost>, OutOfMemory>
-    ensures { IfOk result (λ all.
-        losts_view all.items ≡ all_behind (to_item place) (losts_view losts.items)) }
-{
-    let mut all = Vec::with_capacity(alloc, losts.len())?;
-    'losts: for lost in losts {
-        all.push(lost.in_item(place)?)?;
-    }
-    Ok(all)
-}
-
 /// What is told of an input, in the order of its text: names that are counted, and the first
 /// `LINES` of the other notes.
 #[derive(Debug, Drop)]
@@ -152,15 +194,8 @@ impl Notes {
     pub fn with_hash_keys(alloc: Global, keys: HashKeys) -> Notes
         ensures { notes_view result ≡ none_kept }
     {
-        Notes::of_names(alloc, Ignored::with_hash_keys(alloc, keys))
-    }
-
-    /// Of names that are counted, and nothing else. The first isn't known.
-    pub fn of_names(alloc: Global, ignored: Ignored) -> Notes
-        ensures { notes_view result ≡ record none_kept { counts = counts_of ignored } }
-    {
         Notes {
-            ignored,
+            ignored: Ignored::with_hash_keys(alloc, keys),
             first_named: None,
             lines: Vec::new(alloc),
             more: 0,
@@ -246,5 +281,31 @@ impl Notes {
             Some(note) => Some(note),
             None => self.lines.first(),
         }
+    }
+
+    /// The first note of all; the notes themselves where there is none.
+    pub fn into_first(self) -> Result<Note, Notes>
+        ensures first { IfOk result (λ n. first_note (notes_view self) ≡ Some (note_view n)) }
+        ensures none { IfErr result (λ notes. (notes_view notes ≡ notes_view self)
+            × (first_note (notes_view self) ≡ None)) }
+    {
+        let Notes {
+            ignored,
+            first_named,
+            mut lines,
+            more,
+        } = self;
+        if let Some(note) = first_named {
+            return Ok(note);
+        }
+        if lines.is_empty() {
+            return Err(Notes {
+                ignored,
+                first_named: None,
+                lines,
+                more,
+            });
+        }
+        Ok(lines.remove(0))
     }
 }

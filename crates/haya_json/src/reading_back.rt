@@ -34,7 +34,7 @@ fn describes(alloc: Global, text: &str, library: &Library) -> Result<bool, OutOf
     ensures { IfOk result (λ says. IsTrue says ↔ Describes text.now library.now) }
 {
     match read_library(alloc, text) {
-        Ok((read, _ignored)) => Ok(is_same(&read, library)),
+        Ok((read, _notes)) => Ok(is_same(&read, library)),
         Err(ReadError::OutOfMemory) => Err(OutOfMemory),
         Err(_) => Ok(false),
     }

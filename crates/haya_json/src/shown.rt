@@ -1,4 +1,5 @@
 //! Values as messages show them.
+use crate::fault::Step;
 use haya_text::OutOfMemory;
 use json::{Value, Writer, is_number};
 use std::alloc::Global;
@@ -14,6 +15,35 @@ pub(crate) fn shown(alloc: Global, json: &Value<'_>) -> Result<String, OutOfMemo
         return Err(OutOfMemory);
     };
     cut(alloc, text)
+}
+
+/// The value at the end of these steps, or nothing where there is none.
+pub(crate) fn shown_at(
+    alloc: Global,
+    path: &Vec<Step>,
+    json: &Value<'_>,
+) -> Result<String, OutOfMemory> {
+    match value_at(json, path.as_slice()) {
+        Some(value) => shown(alloc, value),
+        None => Ok(String::new(alloc)),
+    }
+}
+
+// The value at the end of these steps, if there is one.
+fn value_at<'v, 'a>(json: &'v Value<'a>, path: &[Step]) -> Option<&'v Value<'a>> {
+    match path {
+        [] => Some(json),
+        [Step::Name(name), rest @ ..] => value_at(json.get(name.as_str())?, rest),
+        [Step::Place(place), rest @ ..] => value_at(item_at(json, *place)?, rest),
+    }
+}
+
+// The item of an array at this place.
+fn item_at<'v, 'a>(json: &'v Value<'a>, place: usize) -> Option<&'v Value<'a>> {
+    match json {
+        Value::Array(items) => items.get(place),
+        _ => None,
+    }
 }
 
 // A text, or its first characters and a sign for the rest.

@@ -1,14 +1,12 @@
 //! Values past each size from which on a call might go another way.
-use crate::calls::{Change, asks, changes, copies};
-use crate::entries::{adds_parent, below, entry, is_copied, try_line};
-use crate::marks::Memory::{Often, Optional, Taken};
+use crate::calls::{Change, asks, changes};
+use crate::entries::{adds_parent, below, entry, is_copied};
+use crate::marks::Memory::{Often, Taken};
 use crate::marks::Row;
-use crate::readers::is_read;
-use crate::texts::{string, text_of};
+use crate::texts::text_of;
 use haya_entry::Entry;
 use haya_text::ChunkKind::Normal;
 use haya_text::{ChunkedString, OutOfMemory};
-use std::alloc::Global;
 use std::process::Abort;
 
 // More than 1 MiB of this piece.
@@ -24,30 +22,9 @@ fn repeated(rt: &(impl Abort + AllocGlobal), piece: &str, count: usize) -> Strin
     text
 }
 
-fn is_serialized(alloc: Global, read: &ChunkedString, wanted: &str) -> Result<bool, OutOfMemory> {
-    Ok(read.to_serialized(alloc)?.as_str() == wanted)
-}
-
 fn pushes(read: &mut ChunkedString, text: &str) -> Result<bool, OutOfMemory> {
     read.push_str(text, Normal)?;
     Ok(true)
-}
-
-#[test]
-fn a_long_text(rt: HostRuntime) {
-    let long = repeated(&rt, PIECE, PIECES);
-    let text = long.as_str();
-    let row = Row("ChunkedString::from_str", "a long text", Often);
-    asks!(&rt, row, is_read::<ChunkedString>(rt.alloc(), text, text));
-    let read = text_of(&rt, text);
-    let row = Row("ChunkedString::to_serialized", "a long text", Taken);
-    asks!(&rt, row, is_serialized(rt.alloc(), &read, text));
-    copies(
-        &rt,
-        Row("ChunkedString::try_clone", "a long text", Taken),
-        read,
-    );
-    drop(long);
 }
 
 #[test]
@@ -69,17 +46,6 @@ fn a_long_text_pushed(rt: HostRuntime) {
         pushes(&mut given.value, text),
         pushes(&mut given.value, text)
     );
-    drop(long);
-}
-
-#[test]
-fn many_chunks(rt: HostRuntime) {
-    let long = repeated(&rt, "a{b}", 70_000);
-    let text = long.as_str();
-    let row = Row("ChunkedString::from_str", "140,000 chunks", Often);
-    asks!(&rt, row, is_read::<ChunkedString>(rt.alloc(), text, text));
-    let row = Row("ChunkedString::try_clone", "140,000 chunks", Often);
-    copies(&rt, row, text_of(&rt, text));
     drop(long);
 }
 
@@ -173,16 +139,4 @@ fn one_parent_more(rt: HostRuntime) {
         adds_parent(&mut given.value, second, &last)
     );
     drop(last);
-}
-
-#[test]
-fn long_lines(rt: HostRuntime) {
-    let mut authors = string(&rt, "0\tk\tbook");
-    let more = repeated(&rt, "\tauthor=van Dissmer, Jr., Courtney", 40);
-    authors.push_str(more.as_str()).expect(&rt, "memory");
-    try_line(&rt, "40 names", Optional, authors.as_str());
-    let mut title = string(&rt, "0\tk\tbook\ttitle=");
-    let more = repeated(&rt, "t", 70_000);
-    title.push_str(more.as_str()).expect(&rt, "memory");
-    try_line(&rt, "70,000 bytes", Taken, title.as_str());
 }

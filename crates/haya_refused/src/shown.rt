@@ -1,9 +1,7 @@
 //! How a value is told from another, without memory.
-use haya_numbers::{Numeric, PageRanges, PageRangesPart};
-use haya_people::Person;
+use haya_numbers::Numeric;
 use haya_text::{ChunkedString, FormatString};
-use haya_time::{Duration, DurationRange};
-use haya_values::{MaybeTyped, Publisher, QualifiedUrl};
+use haya_values::MaybeTyped;
 use std::fmt;
 use std::fmt::Write;
 
@@ -59,74 +57,9 @@ impl Told for FormatString {
     }
 }
 
-impl Told for Publisher {
-    fn is_told(&self, wanted: &str) -> bool {
-        match self.name() {
-            Some(name) => self.location().is_none() && name.is_told(wanted),
-            None => false,
-        }
-    }
-}
-
-impl Told for QualifiedUrl {
-    fn is_told(&self, wanted: &str) -> bool {
-        self.visit_date.is_none() && self.value.as_str() == wanted
-    }
-}
-
 impl Told for Numeric {
     fn is_told(&self, wanted: &str) -> bool {
         is_shown(self, wanted)
-    }
-}
-
-impl Told for PageRangesPart {
-    fn is_told(&self, wanted: &str) -> bool {
-        is_shown(self, wanted)
-    }
-}
-
-impl Told for PageRanges {
-    fn is_told(&self, wanted: &str) -> bool {
-        is_shown(self, wanted)
-    }
-}
-
-impl Told for Duration {
-    fn is_told(&self, wanted: &str) -> bool {
-        is_shown(self, wanted)
-    }
-}
-
-impl Told for DurationRange {
-    fn is_told(&self, wanted: &str) -> bool {
-        is_shown(self, wanted)
-    }
-}
-
-// A person's parts, each behind a sign of its own.
-#[derive(Drop)]
-struct Parts<'a>(&'a Person);
-
-impl fmt::Display for Parts<'_> {
-    fn fmt<W: fmt::Write>(&self, f: &mut fmt::Formatter<W>) -> fmt::Result {
-        write!(f, "{}", self.0.name)?;
-        if let Some(given_name) = &self.0.given_name {
-            write!(f, ", {given_name}")?;
-        }
-        if let Some(prefix) = &self.0.prefix {
-            write!(f, " < {prefix}")?;
-        }
-        if let Some(suffix) = &self.0.suffix {
-            write!(f, " > {suffix}")?;
-        }
-        Ok(())
-    }
-}
-
-impl Told for Person {
-    fn is_told(&self, wanted: &str) -> bool {
-        is_shown(&Parts(self), wanted)
     }
 }
 

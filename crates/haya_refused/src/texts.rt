@@ -1,7 +1,7 @@
-//! Chunked and format strings: what is made, copied, changed and handed back.
-use crate::calls::{Change, asks, changes, copies, handed_back, makes};
+//! Chunked and format strings: what is made, changed and handed back.
+use crate::calls::{Change, changes, handed_back, makes};
 use crate::marks::Memory::{NotTaken, Taken};
-use crate::marks::{Memory, Row};
+use crate::marks::Row;
 use crate::shown::Told;
 use haya_text::ChunkKind::{Math, Normal, Verbatim};
 use haya_text::*;
@@ -97,30 +97,6 @@ fn push_char(rt: HostRuntime) {
     }
 }
 
-// What a text is before `$x$` is pushed, and after it.
-const PUSHED_CHUNKS: &[(&str, &str)] = &[("", "$x$"), ("a{b}c{d}", "a{b}c{d}$x$")];
-
-fn pushes_chunk(text: &mut ChunkedString, chunk: StringChunk) -> Result<bool, OutOfMemory> {
-    text.push_chunk(chunk)?;
-    Ok(true)
-}
-
-#[test]
-fn push_chunk(rt: HostRuntime) {
-    for (from, to) in PUSHED_CHUNKS {
-        let row = Row("ChunkedString::push_chunk", *to, Taken);
-        let (first, second) = (math(&rt, "x"), math(&rt, "x"));
-        let mut given = to_become(&rt, *from, *to);
-        changes!(
-            &rt,
-            row,
-            given,
-            pushes_chunk(&mut given.value, first),
-            pushes_chunk(&mut given.value, second)
-        );
-    }
-}
-
 // What a text is before it is extended by `{b}$x$c`, and after it.
 const EXTENDED: &[(&str, &str)] = &[
     ("", "{b}$x$c"),
@@ -192,92 +168,8 @@ fn row(call: &str) -> Row<'_> {
     Row(call, "a{b", Taken)
 }
 
-#[test]
-fn chunks_copied(rt: HostRuntime) {
-    copies(&rt, row("StringChunk::try_clone"), math(&rt, LONG));
-    copies(
-        &rt,
-        row("ChunkedString::try_clone"),
-        text_of(&rt, "a{b}c{d}e$x$"),
-    );
-    let mut text = folded(&rt, "a{b}c{d}e");
-    let chunk = text.0.pop().expect(&rt, "a chunk");
-    copies(&rt, row("FoldableChunkedString::try_clone"), text);
-    copies(&rt, row("FoldableStringChunk::try_clone"), chunk);
-}
-
-#[test]
-fn copied(rt: HostRuntime) {
-    let both = FormatString::with_short(rt.alloc(), string(&rt, LONG), string(&rt, "S"));
-    copies(
-        &rt,
-        row("FormatString::try_clone"),
-        both.expect(&rt, "memory"),
-    );
-    copies(&rt, row("String::try_clone"), string(&rt, LONG));
-}
-
-#[test]
-fn copied_of_texts(rt: HostRuntime) {
-    copies(&rt, row("Option::try_clone"), Some(string(&rt, LONG)));
-    let boxed = Box::new(rt.alloc(), string(&rt, LONG)).expect(&rt, "memory");
-    copies(&rt, row("Box::try_clone"), boxed);
-    let list = vec![in rt.alloc(); string(&rt, LONG), string(&rt, "b")].expect(&rt, "memory");
-    copies(&rt, row("Vec::try_clone"), list);
-}
-
-fn is_str(alloc: Global, text: &ChunkedString, wanted: &str) -> Result<bool, OutOfMemory> {
-    Ok(text.to_str(alloc)?.as_str() == wanted)
-}
-
-fn is_serialized(alloc: Global, text: &ChunkedString, wanted: &str) -> Result<bool, OutOfMemory> {
-    Ok(text.to_serialized(alloc)?.as_str() == wanted)
-}
-
-// A text as it is serialized, as it is shown, and what memory each of the two takes.
-const SHOWN: &[(&str, &str, Memory, Memory)] = &[
-    ("", "", NotTaken, NotTaken),
-    ("$x$", "x", Taken, NotTaken),
-    ("a$x$", "a$x$", Taken, Taken),
-    (
-        "a long enough text$and some math${ and more }",
-        "a long enough text$and some math$ and more ",
-        Taken,
-        Taken,
-    ),
-];
-
-#[test]
-fn shown(rt: HostRuntime) {
-    for (serialized, wanted, to_serialize, to_show) in SHOWN {
-        let text = text_of(&rt, *serialized);
-        let row = Row("ChunkedString::to_str", *serialized, *to_show);
-        asks!(&rt, row, is_str(rt.alloc(), &text, *wanted));
-        let row = Row("ChunkedString::to_serialized", *serialized, *to_serialize);
-        asks!(&rt, row, is_serialized(rt.alloc(), &text, *serialized));
-        drop(text);
-    }
-}
-
 fn from_string(alloc: Global, text: String) -> Result<bool, OutOfMemory> {
     Ok(ChunkedString::from_string(alloc, text)?.is_told("a\\{b"))
-}
-
-fn format_from_string(alloc: Global, text: String) -> Result<bool, OutOfMemory> {
-    Ok(FormatString::from_string(alloc, text)?.is_told("a\\{b"))
-}
-
-fn with_value(alloc: Global, text: String) -> Result<bool, OutOfMemory> {
-    Ok(FormatString::with_value(alloc, text)?.is_told("a\\{b"))
-}
-
-fn with_short(alloc: Global, long: String, short: String) -> Result<bool, OutOfMemory> {
-    let made = FormatString::with_short(alloc, long, short)?;
-    Ok(made.value.is_told("a\\{b") && made.select(LongShortForm::Short).is_told("S"))
-}
-
-fn from_chunk(alloc: Global, chunk: StringChunk) -> Result<bool, OutOfMemory> {
-    Ok(ChunkedString::from_chunk(alloc, chunk)?.is_told("$a\\{b$"))
 }
 
 fn format_from_chunk(alloc: Global, chunk: StringChunk) -> Result<bool, OutOfMemory> {
@@ -294,42 +186,10 @@ fn made_from_texts(rt: HostRuntime) {
         from_string(rt.alloc(), texts.0),
         from_string(rt.alloc(), texts.1)
     );
-    let texts = (string(&rt, "a{b"), string(&rt, "a{b"));
-    let called = row("FormatString::from_string");
-    makes!(
-        &rt,
-        called,
-        format_from_string(rt.alloc(), texts.0),
-        format_from_string(rt.alloc(), texts.1)
-    );
-    let texts = (string(&rt, "a{b"), string(&rt, "a{b"));
-    let called = row("FormatString::with_value");
-    makes!(
-        &rt,
-        called,
-        with_value(rt.alloc(), texts.0),
-        with_value(rt.alloc(), texts.1)
-    );
-    let (long, short) = (string(&rt, "a{b"), string(&rt, "S"));
-    let called = row("FormatString::with_short");
-    makes!(
-        &rt,
-        called,
-        with_short(rt.alloc(), long, short),
-        with_short(rt.alloc(), string(&rt, "a{b"), string(&rt, "S"))
-    );
 }
 
 #[test]
 fn made_from_chunks(rt: HostRuntime) {
-    let (first, second) = (math(&rt, "a{b"), math(&rt, "a{b"));
-    let called = row("ChunkedString::from_chunk");
-    makes!(
-        &rt,
-        called,
-        from_chunk(rt.alloc(), first),
-        from_chunk(rt.alloc(), second)
-    );
     let (first, second) = (math(&rt, "a{b"), math(&rt, "a{b"));
     let called = row("FormatString::from_chunk");
     makes!(

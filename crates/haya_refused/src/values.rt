@@ -1,75 +1,13 @@
-//! Typed or text values, one value or many, publishers and addresses.
-use crate::calls::{asks, copies, handed_back, makes};
+//! One value or many, and values that are made.
+use crate::calls::{copies, handed_back, makes, takes_none};
 use crate::marks::Memory::{NotTaken, Taken};
 use crate::marks::Row;
 use crate::texts::string;
-use haya_numbers::{Numeric, PageRanges};
-use haya_text::{FormatString, OutOfMemory, ReadText};
+use haya_text::{FoldableChunkedString, FormatString, OutOfMemory, ReadText};
 use haya_time::Date;
-use haya_values::{MaybeTyped, OneOrMany, Publisher, QualifiedUrl};
+use haya_values::{OneOrMany, Publisher, QualifiedUrl};
 use std::alloc::Global;
 use std::process::Abort;
-
-fn number(rt: &(impl Abort + AllocGlobal), text: &str) -> MaybeTyped<Numeric> {
-    MaybeTyped::from_str(rt.alloc(), text).expect(rt, "memory")
-}
-
-fn row(call: &str) -> Row<'_> {
-    Row(call, "typed and text", Taken)
-}
-
-fn text(rt: &(impl Abort + AllocGlobal)) -> FormatString {
-    FormatString::from_str(rt.alloc(), "a{b}$x$").expect(rt, "a text")
-}
-
-#[test]
-fn copied(rt: HostRuntime) {
-    copies(&rt, row("MaybeTyped::try_clone"), number(&rt, "A1, 2x"));
-    copies(&rt, row("MaybeTyped::try_clone"), number(&rt, "a few"));
-    let pages = MaybeTyped::<PageRanges>::from_str(rt.alloc(), "A1-2x, 3 & B5");
-    copies(
-        &rt,
-        row("MaybeTyped::try_clone"),
-        pages.expect(&rt, "memory"),
-    );
-    let publisher = Publisher::new(Some(text(&rt)), Some(text(&rt)));
-    copies(&rt, row("Publisher::try_clone"), publisher);
-    let url = QualifiedUrl::new(string(&rt, "https://aeon.co"), Some(Date::from_year(1961)));
-    copies(&rt, row("QualifiedUrl::try_clone"), url);
-}
-
-fn is_typed(alloc: Global, value: &MaybeTyped<Numeric>) -> Result<bool, OutOfMemory> {
-    Ok(!matches!(value.to_cow(alloc)?, MaybeTyped::String(_)))
-}
-
-fn is_text(alloc: Global, value: &MaybeTyped<Numeric>) -> Result<bool, OutOfMemory> {
-    Ok(matches!(value.to_cow(alloc)?, MaybeTyped::String(_)))
-}
-
-fn is_str(alloc: Global, value: &MaybeTyped<Numeric>, wanted: &str) -> Result<bool, OutOfMemory> {
-    Ok(value.to_str(alloc)?.as_str() == wanted)
-}
-
-#[test]
-fn borrowed(rt: HostRuntime) {
-    let (typed, text) = (number(&rt, "34,37--39"), number(&rt, "a few"));
-    asks!(
-        &rt,
-        Row("MaybeTyped::to_cow", "a typed value", NotTaken),
-        is_typed(rt.alloc(), &typed)
-    );
-    asks!(
-        &rt,
-        Row("MaybeTyped::to_cow", "a text", Taken),
-        is_text(rt.alloc(), &text)
-    );
-    let row = Row("MaybeTyped::to_str", "a typed value", Taken);
-    asks!(&rt, row, is_str(rt.alloc(), &typed, "34, 37–39"));
-    let row = Row("MaybeTyped::to_str", "a text", NotTaken);
-    asks!(&rt, row, is_str(rt.alloc(), &text, "a few"));
-    drop(typed);
-    drop(text);
-}
 
 fn one(rt: &(impl Abort + AllocGlobal)) -> OneOrMany<String> {
     OneOrMany::One(Box::new(rt.alloc(), string(rt, "a")).expect(rt, "memory"))
@@ -96,6 +34,34 @@ fn lists_many(alloc: Global, values: OneOrMany<u32>) -> Result<bool, OutOfMemory
         Ok(items) => Ok(items.as_slice() == [1, 2].as_slice()),
         Err(_) => Err(OutOfMemory),
     }
+}
+
+fn text(rt: &(impl Abort + AllocGlobal)) -> FormatString {
+    FormatString::from_str(rt.alloc(), "a{b}$x$").expect(rt, "a text")
+}
+
+#[test]
+fn copied(rt: HostRuntime) {
+    let publisher = Publisher::new(Some(text(&rt)), Some(text(&rt)));
+    copies(
+        &rt,
+        Row("Publisher::try_clone", "a name and a place", Taken),
+        publisher,
+    );
+    let url = QualifiedUrl::new(string(&rt, "https://aeon.co"), Some(Date::from_year(1961)));
+    copies(&rt, Row("QualifiedUrl::try_clone", "visited", Taken), url);
+}
+
+fn are_empty(alloc: Global) -> bool {
+    FormatString::new(alloc).value.is_empty()
+        && FoldableChunkedString::new(alloc).0.is_empty()
+        && OneOrMany::<u32>::new(alloc) == OneOrMany::Vec(Vec::new(alloc))
+}
+
+#[test]
+fn empty(rt: HostRuntime) {
+    let calls = "FormatString::new FoldableChunkedString::new OneOrMany::new";
+    takes_none!(&rt, calls, are_empty(rt.alloc()));
 }
 
 #[test]

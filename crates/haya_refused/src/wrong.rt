@@ -7,7 +7,6 @@ use haya_numbers::Numeric;
 use haya_text::{OutOfMemory, ReadText};
 use haya_values::MaybeTyped;
 use std::alloc::Global;
-use std::process::Abort;
 
 // Tells how a call was answered. Where it was wrong, that is no answer.
 fn tell(rt: &impl AllocGlobal, heard: bool, answer: Result<bool, OutOfMemory>) {

@@ -4,4 +4,3 @@ mod calls;
 mod lists;
 mod lookups;
 mod steps;
-mod types;

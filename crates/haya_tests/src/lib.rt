@@ -7,8 +7,6 @@ mod copies;
 #[cfg(test)]
 mod entry;
 #[cfg(test)]
-mod lines;
-#[cfg(test)]
 mod numbers;
 #[cfg(test)]
 mod people;

@@ -1,3 +1,4 @@
 //! The calls of `haya_text`.
 mod cursor;
+mod long;
 mod strings;

@@ -50,8 +50,8 @@ message_of code =
     if code == 12 then codes "unknown entry type" else
     if code == 13 then codes "no library" else
     if code == 14 then codes "out of memory" else
-    if code == 15 then codes "no JSON" else
-    if code == 16 then codes "an object has a member twice" else
+    if code == 15 then codes "invalid JSON" else
+    if code == 16 then codes "duplicate member" else
     if code == 17 then codes "a value is refused" else
     if code == 18 then codes "no such entry" else
     if code == 19 then codes "no such field" else

@@ -42,8 +42,8 @@ pub fn read_json(alloc: Global, bytes: &[u8]) -> Handle
         return Handle::refused(alloc, codes::NOT_TEXT, 0);
     };
     match haya_json::read_library(alloc, text) {
-        Ok((library, ignored)) => {
-            drop(ignored);
+        Ok((library, notes)) => {
+            drop(notes);
             Handle::of(alloc, codes::DONE, Content::Library(library))
         }
         Err(error) => shown(alloc, error),

@@ -64,25 +64,6 @@ fn deep_selectors_at_deep_entries(rt: HostRuntime) {
     assert!(rt; !asked(&rt, above, 499).0);
 }
 
-// Whether the text reads as `wanted`.
-fn reads_as(rt: &(impl Abort + AllocGlobal), text: String, wanted: &str) -> bool {
-    let read = Selector::parse(rt.alloc(), text.as_str());
-    let shown = format!(in rt.alloc(); "{read:?}").expect(rt, "memory");
-    drop(read);
-    drop(text);
-    shown.as_str() == wanted
-}
-
-#[test]
-fn deep_texts_and_texts_past_ascii(rt: HostRuntime) {
-    let nested = nested(&rt, "(", "*", ")", DEPTH);
-    assert!(rt; reads_as(&rt, nested, "Ok(Wildcard)"));
-    let spaced = string(&rt, "book\u{a0}>\u{a0}*");
-    assert!(rt; reads_as(&rt, spaced, "Ok(Ancestrage(Entry(Book), Wildcard))"));
-    let accented = string(&rt, "b\u{fa}k");
-    assert!(rt; reads_as(&rt, accented, "Err(UnknownEntryType(\"b\"))"));
-}
-
 // How often a text is repeated in a long one. Not optimized, as `./test` runs it, a longer one
 // takes minutes; `tests/long` asks the program itself for as many as an argument holds.
 const LONG: usize = 20_000;

@@ -13,10 +13,6 @@ mod deep;
 #[cfg(test)]
 mod library;
 #[cfg(test)]
-mod members;
-#[cfg(test)]
-mod parse;
-#[cfg(test)]
 mod query;
 #[cfg(test)]
 mod running;

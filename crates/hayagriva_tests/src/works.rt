@@ -17,13 +17,6 @@ pub(crate) fn entry(rt: &(impl Abort + AllocGlobal), key: &str, kind: EntryType)
     Entry::new(rt.alloc(), key, kind).expect(rt, "memory")
 }
 
-// The same, in English.
-pub(crate) fn english(rt: &(impl Abort + AllocGlobal), key: &str, kind: EntryType) -> Entry {
-    let mut made = entry(rt, key, kind);
-    made.set_language(string(rt, "en"));
-    made
-}
-
 // The same with a URL.
 pub(crate) fn with_url(rt: &(impl Abort + AllocGlobal), key: &str, kind: EntryType) -> Entry {
     let mut made = entry(rt, key, kind);

@@ -5,7 +5,8 @@ ghost use Rattle.haya_csl.specs.Dates.{date_view, dated, followed_by, keeps, kee
 ghost use Rattle.haya_csl.specs.Dates.{range_end, ranged, unknown_name};
 
 use crate::said::Said;
-use haya_json::{Lost, Why, all_in_member};
+use haya_json::reading::add_in_member;
+use haya_json::{Lost, Why};
 use haya_text::OutOfMemory;
 use haya_time::Date;
 use json::Value;
@@ -117,19 +118,6 @@ pub(crate) fn with_one(lost: Vec<Lost>, more: Lost) -> Result<Vec<Lost>, OutOfMe
     }
 }
 
-/// These losses, and then the others.
-pub(crate) fn with_all(lost: Vec<Lost>, more: Vec<Lost>) -> Result<Vec<Lost>, OutOfMemory>
-    ensures { IfOk result (λ all.
-        losts_view all.items ≡ losts_view lost.items ++ losts_view more.items) }
-{
-    let mut all = lost;
-    let mut rest = more;
-    match all.append(&mut rest) {
-        Ok(()) => Ok(all),
-        Err(_) => Err(OutOfMemory),
-    }
-}
-
 /// What a member says behind what is said so far.
 pub(crate) fn followed_by(
     alloc: Global,
@@ -141,7 +129,7 @@ pub(crate) fn followed_by(
         date_view all ≡ followed_by key.now (date_view so_far) (date_view said)) }
 {
     let Said { value, lost } = said;
-    let more = all_in_member(alloc, lost, key)?;
-    let lost = with_all(so_far.lost, more)?;
-    Ok(Said { value, lost })
+    let mut all = so_far.lost;
+    add_in_member(alloc, &mut all, lost, key)?;
+    Ok(Said { value, lost: all })
 }

@@ -1,5 +1,5 @@
 //! The items of a list, each on a line of its own.
-use super::shown::notes_shown;
+use crate::notes::notes_shown;
 use haya_csl::{ItemKey, read_item_line};
 use haya_json::{Notes, to_json};
 use hayagriva::{HashKeys, Library};
@@ -25,27 +25,30 @@ const ENTRIES: &[(&str, &str)] = &[
 
 // A line, and what its error shows.
 const REFUSED: &[(&str, &str)] = &[
-    ("", "line 1, column 1: no JSON"),
-    (r#"{"id":"a""#, "line 1, column 10: no JSON"),
+    ("", "line 1, column 1: invalid JSON"),
+    (r#"{"id":"a""#, "line 1, column 10: invalid JSON"),
     // nothing may stand behind the item, and a comma at the end marks the place of a fault
-    (r#"{"id":"a"},"#, "line 1, column 11: no JSON"),
-    (",", "line 1, column 1: no JSON"),
-    (r#"{"id":"a"}]"#, "line 1, column 11: no JSON"),
-    (r#"{"id":"a"},{"id":"b"}"#, "line 1, column 12: no JSON"),
-    (r#""a":{"id":"a"}"#, "line 1, column 1: no JSON"),
+    (r#"{"id":"a"},"#, "line 1, column 11: invalid JSON"),
+    (",", "line 1, column 1: invalid JSON"),
+    (r#"{"id":"a"}]"#, "line 1, column 11: invalid JSON"),
+    (
+        r#"{"id":"a"},{"id":"b"}"#,
+        "line 1, column 12: invalid JSON",
+    ),
+    (r#""a":{"id":"a"}"#, "line 1, column 1: invalid JSON"),
     (
         r#"{"id":"a","id":"b"}"#,
-        "line 1, column 11: an object has a member twice",
+        "line 1, column 11: duplicate member",
     ),
     // a tab in a line takes the place of a line feed in the text
     (
         "{\"id\":\"a\",\t\t \"id\":\"b\"}",
-        "line 3, column 2: an object has a member twice",
+        "line 3, column 2: duplicate member",
     ),
-    ("{\"id\":\t\"a\"", "line 2, column 4: no JSON"),
+    ("{\"id\":\t\"a\"", "line 2, column 4: invalid JSON"),
     (
         r#"{"é":"a","x":{"y":1,"\u0079":2}}"#,
-        "line 1, column 21: an object has a member twice",
+        "line 1, column 21: duplicate member",
     ),
     (r#"["a"]"#, "/2: expected an object"),
     ("{}", "/2/id: missing"),
@@ -116,5 +119,5 @@ fn an_item_nests_127_deep(rt: HostRuntime) {
     let shown = message(&rt, nested(&rt, 127).as_str());
     assert!(rt; shown.as_str() == "/2: expected an object");
     let shown = message(&rt, nested(&rt, 128).as_str());
-    assert!(rt; shown.as_str() == "line 1, column 128: no JSON");
+    assert!(rt; shown.as_str() == "line 1, column 128: invalid JSON");
 }

@@ -1,5 +1,5 @@
 //! What is told of a library.
-use super::shown::{first_shown, notes_shown};
+use crate::notes::{first_shown, notes_shown};
 use haya_csl::{ItemKey, read_csl_json};
 
 // A library, what is told of it, and the first note of all.

@@ -66,11 +66,11 @@ fn reads_many_members(rt: HostRuntime) {
         write!(text, ", \"n{place}\": 0").expect(&rt, "memory");
     }
     text.push_str("}}").expect(&rt, "memory");
-    let (library, ignored) = read_library(rt.alloc(), text.as_str()).expect(&rt, "a library");
+    let (library, notes) = read_library(rt.alloc(), text.as_str()).expect(&rt, "a library");
     assert!(rt; library.len() == 1);
     drop(library);
     let mut names = 0_usize;
-    for (_, count) in &ignored {
+    for (_, count) in notes.ignored() {
         assert!(rt; count == 1);
         names = names.saturating_add(1);
     }
@@ -85,7 +85,7 @@ fn reads_a_key_of_a_megabyte(rt: HostRuntime) {
     }
     let text = format!(in rt.alloc(); "{{\"{key}\": {{\"type\": \"misc\"}}}}");
     let text = text.expect(&rt, "memory");
-    let (library, _ignored) = read_library(rt.alloc(), text.as_str()).expect(&rt, "a library");
+    let (library, _notes) = read_library(rt.alloc(), text.as_str()).expect(&rt, "a library");
     let found = library.get(key.as_str()).is_some();
     drop(library);
     assert!(rt; found);

@@ -1,10 +1,11 @@
 //! Libraries as lines of JSON.
 use super::shown::put_library;
-use haya_json::{Ignored, read_entry_line, read_json_lines};
+use crate::notes::notes_shown;
+use haya_json::{Notes, read_entry_line, read_json_lines};
 use hayagriva::HashKeys;
 use std::process::Abort;
 
-// A text, what its library shows as, and the names that are passed over in it.
+// A text, what its library shows as, and what is told of it.
 const LIBRARIES: &[(&str, &str, &str)] = &[
     ("", "", ""),
     ("\n\r\n\n", "", ""),
@@ -40,7 +41,7 @@ const LIBRARIES: &[(&str, &str, &str)] = &[
         "{\"key\": \"a\", \"entry\": {\"type\": \"misc\", \"title\": \"T\"}}\n{\"key\": \"b\", \
         \"entry\": {\"type\": \"misc\"}}\n{\"key\": \"a\", \"entry\": {\"type\": \"book\"}}",
         "a Book \nb Misc \n",
-        "",
+        "a again, ",
     ),
     // other members of a line are passed over, and only those of its entry are counted
     (
@@ -71,62 +72,52 @@ const REFUSED: &[(&str, &str)] = &[
         r#"{"key": "a", "entry": []}"#,
         "line 1: /entry: expected an object",
     ),
-    (
-        r#"{"key": "a", "entry": {}}"#,
-        "line 1: /entry/type: missing",
-    ),
     // a library in the file format is no line
     (r#"{"a": {"type": "misc"}}"#, "line 1: /key: missing"),
     // empty lines are counted
     (
-        "\n{\"key\": \"a\", \"entry\": {\"type\": \"misc\"}}\n{\"key\": \"b\", \"entry\": {\"type\"\
-        : \"misc\", \"date\": \"x\"}}\n",
-        "line 3: /entry/date: no date",
-    ),
-    (
-        r#"{"key": "a", "entry": {"type": "misc", "parent": [{}, {"title": []}]}}"#,
-        "line 1: /entry/parent/1/title: expected a text",
+        "\n{\"key\": \"a\", \"entry\": {\"type\": \"misc\"}}\n{\"key\": \"b\", \"entry\": 1}\n",
+        "line 3: /entry: expected an object",
     ),
     // the first fault of two
     (
-        "{\"key\": \"a\", \"entry\": {\"type\": \"king\"}}\n{",
-        "line 1: /entry/type: unknown type",
+        "{\"key\": \"a\", \"entry\": \"king\"}\n{",
+        "line 1: /entry: expected an object",
     ),
     // a place in a line that is no JSON: of a token, of its end
     (
         "{\"key\": \"a\", \"entry\": {\"type\": \"misc\"}}\n\n{\"key\": \"b\",}",
-        "line 3, column 13: no JSON",
+        "line 3, column 13: invalid JSON",
     ),
     (
         "\r\n{\r\n\"key\": \"a\", \"entry\": {\"type\": \"misc\"}}",
-        "line 2, column 2: no JSON",
+        "line 2, column 2: invalid JSON",
     ),
     (
         "{\"key\":\"a\",\"entry\":{\"type\":\"misc\"}} {\"key\":\"b\",\"entry\":{\"type\":\"misc\"}}",
-        "line 1, column 37: no JSON",
+        "line 1, column 37: invalid JSON",
     ),
     // a name twice
     (
         "{\"key\": \"a\", \"entry\": {\"type\": \"misc\"}}\r\n{\"key\": \"b\", \"key\": \"b\", \
         \"entry\": {\"type\": \"misc\"}}",
-        "line 2, column 14: an object has a member twice",
+        "line 2, column 14: duplicate member",
     ),
     (
         r#"{"é": {"x": 1, "y": 2, "\u0078": 3}}"#,
-        "line 1, column 24: an object has a member twice",
+        "line 1, column 24: duplicate member",
     ),
 ];
 
-// The library, and behind it each name that is passed over, with how often it came.
+// The library, and behind it what is told.
 fn shown(rt: &(impl Abort + AllocGlobal), text: &str) -> String {
     let keys = HashKeys::new(1, 2);
-    let (library, ignored) = read_json_lines(rt.alloc(), keys, text).expect(rt, "a library");
+    let (library, notes) = read_json_lines(rt.alloc(), keys, text).expect(rt, "a library");
     let mut shown = String::new(rt.alloc());
     put_library(&mut shown, &library).expect(rt, "memory");
     drop(library);
-    for (name, count) in &ignored {
-        write!(shown, "{name} {count}, ").expect(rt, "memory");
-    }
+    let told = notes_shown(rt, &notes);
+    shown.push_str(told.as_str()).expect(rt, "memory");
     shown
 }
 
@@ -143,9 +134,9 @@ fn message(rt: &(impl Abort + AllocGlobal), text: &str) -> String {
 
 #[test]
 fn reads_lines_of_json(rt: HostRuntime) {
-    for (text, library, ignored) in LIBRARIES {
+    for (text, library, told) in LIBRARIES {
         let shown = shown(&rt, *text);
-        let wanted = format!(in rt.alloc(); "{library}{ignored}").expect(&rt, "memory");
+        let wanted = format!(in rt.alloc(); "{library}{told}").expect(&rt, "memory");
         assert!(rt; shown == wanted, "{text}: {shown}");
     }
 }
@@ -160,13 +151,13 @@ fn refuses_what_is_no_line_of_an_entry(rt: HostRuntime) {
 
 #[test]
 fn reads_one_line(rt: HostRuntime) {
-    let mut ignored = Ignored::new(rt.alloc());
+    let mut notes = Notes::with_hash_keys(rt.alloc(), HashKeys::new(1, 2));
     let line = r#"{"key": "a", "entry": {"type": "misc", "x": 1}}"#;
-    let entry = read_entry_line(rt.alloc(), line, &mut ignored).expect(&rt, "an entry");
+    let entry = read_entry_line(rt.alloc(), line, &mut notes).expect(&rt, "an entry");
     assert!(rt; entry.key() == "a");
     drop(entry);
-    // at a fault nothing is counted
-    let faulty = r#"{"key": "b", "entry": {"type": "misc", "x": 1, "date": []}}"#;
-    let is_refused = read_entry_line(rt.alloc(), faulty, &mut ignored).is_err();
-    assert!(rt; is_refused && ignored.count("x") == 1);
+    // at a fault nothing is told
+    let faulty = r#"{"key": [], "entry": {"type": "misc", "x": 1}}"#;
+    let is_refused = read_entry_line(rt.alloc(), faulty, &mut notes).is_err();
+    assert!(rt; is_refused && notes.ignored().count("x") == 1);
 }

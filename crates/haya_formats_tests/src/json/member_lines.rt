@@ -1,10 +1,11 @@
 //! The members of a library, each on a line of its own.
 use super::shown::put_library;
-use haya_json::{Ignored, read_member_line};
-use hayagriva::Library;
+use crate::notes::notes_shown;
+use haya_json::{Notes, read_member_line};
+use hayagriva::{HashKeys, Library};
 use std::process::Abort;
 
-// A line, and the entry that it says, with the names that are passed over of it.
+// A line, and the entry that it says, with what is told of it.
 const ENTRIES: &[(&str, &str)] = &[
     (r#""a":{"type":"misc"}"#, "a Misc \n"),
     // white space round tokens, and an escape in the name
@@ -17,51 +18,57 @@ const ENTRIES: &[(&str, &str)] = &[
         r#""b":{"type":"article","x":1,"parent":{"key":"c","x":[]}}"#,
         "b Article (c Periodical )\nx 2, ",
     ),
+    (
+        r#""a":{"title":"T"}"#,
+        "a Misc title=T;\na/type missing: , ",
+    ),
+    (
+        r#""a/b":{"type":"x","date":"y"}"#,
+        "a/b Misc \na/b/type unknown type: \"x\", a/b/date no date: \"y\", ",
+    ),
 ];
 
 // A line, and what its error shows.
 const REFUSED: &[(&str, &str)] = &[
-    ("", "line 1, column 1: no JSON"),
-    (r#""a""#, "line 1, column 1: no JSON"),
-    (r#""a":"#, "line 1, column 5: no JSON"),
-    (r#"{"a":{"type":"misc"}}"#, "line 1, column 1: no JSON"),
-    (r#"{"type":"misc"}"#, "line 1, column 1: no JSON"),
+    ("", "line 1, column 1: invalid JSON"),
+    (r#""a""#, "line 1, column 1: invalid JSON"),
+    (r#""a":"#, "line 1, column 5: invalid JSON"),
+    (r#"{"a":{"type":"misc"}}"#, "line 1, column 1: invalid JSON"),
+    (r#"{"type":"misc"}"#, "line 1, column 1: invalid JSON"),
     // nothing may stand behind the member, and a comma at the end marks the place of a fault
-    (r#""a":{"type":"misc"},"#, "line 1, column 20: no JSON"),
-    (",", "line 1, column 1: no JSON"),
-    (r#""a":{"type":"misc"}}"#, "line 1, column 20: no JSON"),
+    (r#""a":{"type":"misc"},"#, "line 1, column 20: invalid JSON"),
+    (",", "line 1, column 1: invalid JSON"),
+    (r#""a":{"type":"misc"}}"#, "line 1, column 20: invalid JSON"),
     (
         r#""a":{"type":"misc"},"b":{"type":"misc"}"#,
-        "line 1, column 21: no JSON",
+        "line 1, column 21: invalid JSON",
     ),
     (
         r#""a":{"é":1,"x":[{"y":1,"\u0079":2}]}"#,
-        "line 1, column 24: an object has a member twice",
+        "line 1, column 24: duplicate member",
     ),
     (r#""a":1"#, "/a: expected an object"),
-    (r#""a/b":{"type":"x"}"#, "/a~1b/type: unknown type"),
-    (r#""a":{"title":"T"}"#, "/a/type: missing"),
+    (r#""a/b":[{"type":"x"}]"#, "/a~1b: expected an object"),
 ];
 
-// The entry of a line, and behind it each name that is passed over, with how often it came.
+// The entry of a line, and behind it what is told.
 fn shown(rt: &(impl Abort + AllocGlobal), line: &str) -> String {
-    let mut ignored = Ignored::new(rt.alloc());
-    let entry = read_member_line(rt.alloc(), line, &mut ignored).expect(rt, "an entry");
+    let mut notes = Notes::with_hash_keys(rt.alloc(), HashKeys::new(1, 2));
+    let entry = read_member_line(rt.alloc(), line, &mut notes).expect(rt, "an entry");
     let mut library = Library::new(rt.alloc());
     library.insert(entry).expect(rt, "memory");
     let mut shown = String::new(rt.alloc());
     put_library(&mut shown, &library).expect(rt, "memory");
     drop(library);
-    for (name, count) in &ignored {
-        write!(shown, "{name} {count}, ").expect(rt, "memory");
-    }
+    let told = notes_shown(rt, &notes);
+    shown.push_str(told.as_str()).expect(rt, "memory");
     shown
 }
 
 // What the error of a line shows, or nothing where it has none.
 fn message(rt: &(impl Abort + AllocGlobal), line: &str) -> String {
-    let mut ignored = Ignored::new(rt.alloc());
-    match read_member_line(rt.alloc(), line, &mut ignored) {
+    let mut notes = Notes::with_hash_keys(rt.alloc(), HashKeys::new(1, 2));
+    match read_member_line(rt.alloc(), line, &mut notes) {
         Ok(entry) => {
             drop(entry);
             String::new(rt.alloc())
@@ -105,5 +112,5 @@ fn a_member_nests_127_deep(rt: HostRuntime) {
     let shown = message(&rt, nested(&rt, 127).as_str());
     assert!(rt; shown.as_str() == "/a: expected an object");
     let shown = message(&rt, nested(&rt, 128).as_str());
-    assert!(rt; shown.as_str() == "line 1, column 132: no JSON");
+    assert!(rt; shown.as_str() == "line 1, column 132: invalid JSON");
 }

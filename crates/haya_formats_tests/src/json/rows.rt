@@ -161,7 +161,7 @@ const FIELDS: &[(&str, &str)] = &[
 
 // Whether the text reads as the library that shows so.
 fn shows(rt: &(impl Abort + AllocGlobal), text: &str, wanted: &str) -> bool {
-    let (library, _ignored) = read_library(rt.alloc(), text).expect(rt, "a library");
+    let (library, _notes) = read_library(rt.alloc(), text).expect(rt, "a library");
     let mut shown = String::new(rt.alloc());
     put_library(&mut shown, &library).expect(rt, "memory");
     drop(library);

@@ -1,14 +1,12 @@
-//! Worked rows, and what each call gives back where there is memory.
+//! What numbers tell of themselves, and those that are made.
 ghost use Rattle.std.specs.Prelude.{◌≡◌, Some, None, codes, pos, if◌then◌else◌};
 ghost use Rattle.std.specs.Ordering.{int_eq};
 
-use crate::copies;
 use crate::shown::{ends_at_a_fault, is_shown};
 use haya_numbers::{
     GrammarGender, NumberForm, Numeric, NumericDelimiter, NumericError, NumericValue, Ordinals,
 };
 use haya_text::{ReadFault, ReadText};
-use std::cmp::Ordering;
 use std::fmt;
 use std::process::Abort;
 
@@ -36,79 +34,6 @@ fn is_written(
     text.as_str() == wanted
 }
 
-// A text, what is shown of it, what is shown of its numbers, and what a machine reads of these.
-type Row = (&'static str, &'static str, &'static str, &'static str);
-
-const READ: &[Row] = &[
-    ("34,37--39", "34, 37–39", "34, 37–39", "34,37-39"),
-    ("1 - 4", "1–4", "1–4", "1-4"),
-    ("-5", "-5", "-5", "-5"),
-    ("1st", "1st", "1", "1"),
-    ("1, 2", "1, 2", "1, 2", "1,2"),
-    ("2 , 3", "2, 3", "2, 3", "2,3"),
-    ("2 & 3 & 4", "2 & 3 & 4", "2 & 3 & 4", "2&3&4"),
-    ("1,2,,", "1, 2", "1, 2", "1,2"),
-    ("1,-2", "1, 2", "1, 2", "1,2"),
-    ("1, -2", "1, -2", "1, -2", "1,-2"),
-    ("1 , 2x", "1, 2 x", "1, 2", "1,2"),
-    ("1, 2 x", "1, 2x", "1, 2", "1,2"),
-    ("00", "00", "0", "0"),
-    ("0", "0", "0", "0"),
-    ("01", "01", "1", "1"),
-    ("-05", "-5", "-5", "-5"),
-    ("A16y", "A16y", "16", "16"),
-    ("\u{2003}7\u{2003}", "7", "7", "7"),
-    ("2147483647", "2147483647", "2147483647", "2147483647"),
-];
-
-// Whether the text is read, shown and written so.
-fn is_read(rt: &(impl Abort + AllocGlobal), row: &Row) -> bool {
-    let (text, shown, value, machine) = *row;
-    let read = number(rt, text);
-    let same = is_shown(rt, &read, shown)
-        && is_written(rt, &read, false, value)
-        && is_written(rt, &read, true, machine);
-    drop(read);
-    same
-}
-
-#[test]
-fn reads_and_prints(rt: HostRuntime) {
-    for row in READ {
-        assert!(rt; is_read(&rt, row), "{}", row.0);
-    }
-}
-
-const REFUSED: &[(&str, NumericError)] = &[
-    ("-2147483648", NumericError::NoNumber),
-    ("", NumericError::NoNumber),
-    ("second", NumericError::NoNumber),
-    (
-        "2nd edition",
-        NumericError::UnexpectedCharactersAfterPostfix,
-    ),
-    ("1,2,", NumericError::NoNumber),
-    ("2147483648", NumericError::NoNumber),
-    ("٣", NumericError::NoNumber),
-    ("\u{661}", NumericError::NoNumber),
-    ("1\u{bd}", NumericError::NoNumber),
-    ("1 x ", NumericError::UnexpectedCharactersAfterPostfix),
-    ("1,2–-3", NumericError::UnexpectedCharactersAfterPostfix),
-];
-
-#[test]
-fn refuses(rt: HostRuntime) {
-    for (text, fault) in REFUSED {
-        match Numeric::from_str(rt.alloc(), *text) {
-            Ok(read) => {
-                drop(read);
-                assert!(rt; false, "{text}");
-            }
-            Err(told) => assert!(rt; told == *fault && !told.is_out_of_memory(), "{text}"),
-        }
-    }
-}
-
 // Whether these are the first numbers, with none behind them.
 fn begins_with(read: &Numeric, first: i32, second: Option<i32>) -> bool {
     (read.nth(0), read.nth(1), read.nth(2)) == (Some(first), second, None)
@@ -131,48 +56,16 @@ fn is_plain(read: &Numeric, number: i32) -> bool {
         && read.single_number() == Some(number)
 }
 
-// Whether a copy is equal.
-fn has_copy(rt: &(impl Abort + AllocGlobal), read: &Numeric) -> bool {
-    let copy = read.try_clone(rt.alloc()).expect(rt, "memory");
-    let same = copy == *read;
-    drop(copy);
-    same
-}
-
 #[test]
 fn keeps_affixes(rt: HostRuntime) {
     let read = number(&rt, "Vol. 02 , 3x");
     let is_kept = is_pair_between(&read, "Vol. 0", " x") && begins_with(&read, 2, Some(3));
-    let is_copied = has_copy(&rt, &read);
     drop(read);
     assert!(rt; is_kept);
-    assert!(rt; is_copied);
     let plain = Numeric::from(12);
     let is_kept = is_plain(&plain, 12) && begins_with(&plain, 12, None);
     drop(plain);
     assert!(rt; is_kept);
-}
-
-// A set of 501 numbers, as it is shown.
-fn long_set(rt: &(impl Abort + AllocGlobal)) -> String {
-    let mut text = String::new(rt.alloc());
-    for _ in 0..500 {
-        text.push_str("2147483647 & ").expect(rt, "memory");
-    }
-    text.push('1').expect(rt, "memory");
-    text
-}
-
-#[test]
-fn reads_a_long_set(rt: HostRuntime) {
-    let text = long_set(&rt);
-    let read = number(&rt, text.as_str());
-    let is_read = read.value.len() == 501 && is_shown(&rt, &read, text.as_str());
-    drop(text);
-    let is_copied = copies::has_copy(&rt, &read);
-    drop(read);
-    assert!(rt; is_read);
-    assert!(rt; is_copied);
 }
 
 fn range(rt: &(impl Abort + AllocGlobal), start: i32, end: i32) -> Numeric {
@@ -229,26 +122,6 @@ fn makes_ranges_and_sets(rt: HostRuntime) {
     assert!(rt; is_refused && made_of(&rt, 2147483647) == Some(2147483647));
 }
 
-// Whether the first is before the second in order, and the third, another number, is beside it.
-fn are_in_order(first: &Numeric, second: &Numeric, third: &Numeric) -> bool {
-    first.csl_cmp(second) == Ordering::Less
-        && second.csl_cmp(first) == Ordering::Greater
-        && second.csl_cmp(third) == Ordering::Equal
-        && second != third
-}
-
-#[test]
-fn orders_by_numbers(rt: HostRuntime) {
-    let five = Numeric::new(5);
-    let both = number(&rt, "5, 6");
-    let other = number(&rt, "x5 & 6");
-    let same = are_in_order(&five, &both, &other);
-    drop(five);
-    drop(both);
-    drop(other);
-    assert!(rt; same);
-}
-
 // Whether so many numbers are left, as the length and the hint tell.
 fn has_left<I: ExactSizeIterator>(numbers: &I, count: usize) -> bool {
     numbers.len() == count && numbers.size_hint() == (count, Some(count))
@@ -279,39 +152,8 @@ fn goes_through_the_numbers(rt: HostRuntime) {
     let sum = sum_of(&set.value);
     drop(set);
     assert!(rt; sum == 12);
-}
-
-const DELIMITERS: &[(&str, Result<NumericDelimiter, NumericError>)] = &[
-    ("--", Ok(NumericDelimiter::Hyphen)),
-    ("-, 4", Ok(NumericDelimiter::Hyphen)),
-    (",,", Err(NumericError::NotADelimiter)),
-    ("", Err(NumericError::MissingDelimiter)),
-    ("–-", Err(NumericError::NotADelimiter)),
-    ("–", Ok(NumericDelimiter::Hyphen)),
-    ("&", Ok(NumericDelimiter::Ampersand)),
-    (",", Ok(NumericDelimiter::Comma)),
-    (";", Err(NumericError::NotADelimiter)),
-];
-
-// A delimiter, its character, and how it is shown.
-const SIGNS: &[(NumericDelimiter, char, &str)] = &[
-    (NumericDelimiter::Hyphen, '-', "–"),
-    (NumericDelimiter::Comma, ',', ", "),
-    (NumericDelimiter::Ampersand, '&', " & "),
-];
-
-#[test]
-fn reads_delimiters(rt: HostRuntime) {
-    for (text, wanted) in DELIMITERS {
-        assert!(rt; text.parse::<NumericDelimiter>() == *wanted, "{text}");
-    }
     assert!(rt; NumericDelimiter::try_from('–') == Ok(NumericDelimiter::Hyphen));
-    for (delimiter, sign, shown) in SIGNS {
-        assert!(rt;
-            delimiter.as_char() == *sign && is_shown(&rt, delimiter, *shown),
-            "{sign}"
-        );
-    }
+    assert!(rt; !NumericError::NoNumber.is_out_of_memory());
 }
 
 // English, but for the ends of ordinals.
@@ -328,33 +170,6 @@ impl Ordinals for English {
 
     fn lookup_long(&self, n: i32) -> Option<&str> {
         if n == 1 { Some("first") } else { None }
-    }
-}
-
-const FORMS: &[(&str, NumberForm, &str)] = &[
-    ("1-4", NumberForm::Ordinal, "1th–4th"),
-    ("1-4", NumberForm::LongOrdinal, "first–4th"),
-    ("1-4", NumberForm::Numeric, "1–4"),
-    ("1987", NumberForm::Roman, "mcmlxxxvii"),
-    ("3999", NumberForm::Roman, "mmmcmxcix"),
-    ("4000", NumberForm::Roman, "4000"),
-    ("0", NumberForm::Roman, "0"),
-    ("-1 & 4", NumberForm::Roman, "-1 & iv"),
-    ("x9y", NumberForm::Roman, "ix"),
-    ("1, 2-9", NumberForm::Roman, "i, ii–ix"),
-];
-
-#[test]
-fn writes_forms(rt: HostRuntime) {
-    for (text, form, wanted) in FORMS {
-        let read = number(&rt, *text);
-        let mut written = String::new(rt.alloc());
-        read.with_form(&mut written, *form, Some(GrammarGender::Neuter), &English)
-            .expect(&rt, "memory");
-        let same = written.as_str() == *wanted;
-        drop(written);
-        drop(read);
-        assert!(rt; same, "{text}");
     }
 }
 

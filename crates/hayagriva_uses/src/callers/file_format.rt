@@ -14,8 +14,8 @@ pub fn in_one_form(alloc: Global, text: &str) -> Result<Vec<u8>, ReadError>
     ensures { IfOk result (λ bytes. (library : List Tree) × Describes text.now library
         × (bytes.items ≡ pretty (json_tokens (library_json library)))) }
 {
-    let (library, ignored) = read_library(alloc, text)?;
-    drop(ignored);
+    let (library, notes) = read_library(alloc, text)?;
+    drop(notes);
     match to_json_pretty(alloc, &library) {
         Ok(bytes) => Ok(bytes),
         Err(_) => Err(ReadError::OutOfMemory),

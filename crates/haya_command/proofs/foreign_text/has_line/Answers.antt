@@ -1,7 +1,7 @@
 use Rattle.std.proofs.Common.{rules, tests}
 use Rattle.std.proofs.lemmas.Iterator.Search.{any_from_yields_List}
 use Rattle.std.proofs.lemmas.Iterator.Splits.{YieldsList-from_lines}
-use Rattle.haya_command.specs.Likeness.{begins}
+use Rattle.haya_command.specs.FirstLine.{begins}
 use Rattle.haya_command.proofs.foreign_text.has_line.Goals as goal
 
 pub returns : goal.returns

@@ -1,7 +1,7 @@
 use Rattle.std.proofs.Common.{◌≡◌, ℕ, ◌+◌, ◌-◌, ◌<◌, suc, true, false, arith, rules, length, ap, sym, ◌∙◌}
 use Rattle.std.specs.Str.{bytes_eq}
 use Rattle.haya_command.specs.Formats.{list_named, members_in}
-use Rattle.haya_command.proofs.Members.{named_here, named_in_none, named_later, named_nowhere}
+use Rattle.haya_command.proofs.Members.{named_here, named_later, named_nowhere}
 use Rattle.haya_command.proofs.format.has_list.Goals as goal
 
 one_less : (k n : ℕ) → k < n → n - k ≡ suc (n - (k + 1))

@@ -1,4 +1,4 @@
-use Rattle.std.proofs.Common.{◌≡◌, ◌-◌, ◌≤◌}
+use Rattle.std.proofs.Common.{◌≡◌, ◌-◌}
 use Rattle.haya_command.specs.Formats.{has_list, list_named, members_in}
 use Rattle.haya_command.proofs.format.has_list.Given as goal
 

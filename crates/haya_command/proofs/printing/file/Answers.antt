@@ -1,4 +1,4 @@
-use Rattle.std.proofs.Common.{◌≡◌, ◌∙◌, ◌++◌, ◌∷◌, [], map, ap, arith, rules}
+use Rattle.std.proofs.Common.{◌≡◌, ◌∙◌, ◌++◌, ◌∷◌, [], map, ap, arith}
 use Rattle.std.specs.Prelude.{string_bytes}
 use Rattle.json.specs.Lex.{tokens}
 use Rattle.json.specs.Tree.{json_tokens}
@@ -9,9 +9,7 @@ use Rattle.haya_command.proofs.printing.file.Goals as goal
 pub returns : goal.returns
 returns c =
     let library = map hit_entry c.args.hits.now in
-    let written : c.end_object.new.self.tokens ≡ json_tokens (library_json library) = search rules in
-    let read : tokens c.in-Ok.text.now ≡ json_tokens (library_json library) =
-    ap tokens (c.in-Ok.ensures.cases.0 ∙ c.as_slice.ensures.value ∙ c.into_inner-bytes.ensures.items) ∙ search rules in
+    let read : tokens c.as_str.result.now ≡ json_tokens (library_json library) = ap tokens c.as_str.ensures.value ∙ c.in_ok-json.ensures.json in
     c.in_ok-push.ensures.bytes
     ∙ ap (λ l. string_bytes c.text_of-text.result ++ l) (c.in_ok-push.ensures.ascii (omega arith))
-    ∙ ap (λ l. l ++ 10 ∷ []) (c.text_of-text.ensures ∙ c.in_ok-lay_out-in-Ok.ensures.layout (library_json library) read)
+    ∙ ap (λ l. l ++ 10 ∷ []) (c.text_of-text.ensures ∙ c.in_ok-lay_out.ensures.layout (library_json library) read)

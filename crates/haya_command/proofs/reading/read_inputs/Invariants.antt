@@ -1,10 +1,11 @@
-use Rattle.std.proofs.Common.{drop}
-use Rattle.hayagriva.specs.Library.{push}
-use Rattle.haya_command.specs.Reading.{IsReadAs, texts}
-use Rattle.haya_command.proofs.Together.{Goes}
+use Rattle.std.proofs.Common.{◌≡◌, take}
+use Rattle.haya_command.specs.Reading.{AreCollected, input_names, texts}
+use Rattle.haya_command.specs.Told.{told_names, told_views}
 use Rattle.haya_command.proofs.reading.read_inputs.Given as goal
 
--- the library so far, and then what the texts left are read as, is the library of all
+-- the inputs so far are read as the library so far, and this is told of them
 abbrev pub invariant-inputs : goal.invariant-inputs
-invariant-inputs l =
-    Goes (IsReadAs l.options) (λ done t. push t done) (texts l.inputs) (texts (drop l.input-index l.inputs)) l.library
+invariant-inputs l = record {
+  collected : AreCollected l.options (texts (take l.input-index l.inputs)) l.library (told_views l.told.items);
+  names : told_names l.told.items ≡ input_names (take l.input-index l.inputs);
+}

@@ -1,14 +1,17 @@
-use Rattle.std.proofs.Common.{inl, inr, refl, ◌&&◌}
+use Rattle.std.proofs.Common.{inl, inr, refl, sym, ap, ◌&&◌}
 use Rattle.std.specs.Prelude.{nat_lt}
+use Rattle.std.specs.Str.Lines.{lines}
+use Rattle.haya_json.specs.Notes.{kept_of, none_kept}
 use Rattle.haya_list.specs.Lines.{BeginsList, IsFaultOf, IsListOf}
 use Rattle.haya_command.specs.declared.format.Format.TheVariants.{Lines}
+use Rattle.haya_command.proofs.EntryLists.{none_told}
 use Rattle.haya_command.proofs.Streams.{asks_enough, asks_input, asks_part, options_kept, selector_kept, stream_why}
 use Rattle.haya_command.proofs.streaming.ask_lines.Goals as goal
 
 pub returns-in-Ok-clause-asks : goal.returns-in-Ok-clause-asks
 returns-in-Ok-clause-asks g c =
     elim c.in-Ok.ensures.all [
-      | inl a ↦ inl (asks_input (λ s. s.options.now) (λ s. s.selector) (λ s. s.hits) (λ s. s.options.now.quiet && nat_lt 0 s.hits) _ _ c.args.asker.streams _ _ _ _ Lines IsListOf (λ text entries listed. (listed, (λ _. tt))) a)
+      | inl a ↦ inl (asks_input (λ s. s.options.now) (λ s. s.selector) (λ s. s.hits) (λ s. s.options.now.quiet && nat_lt 0 s.hits) _ _ c.args.asker.streams _ _ _ _ Lines none_kept IsListOf (λ text entries listed. (listed, ap kept_of (sym (none_told (lines text))))) (λ _. refl) a)
       | inr a ↦ inr (asks_enough (λ s. s.options.now) (λ s. s.selector) (λ s. s.hits) (λ s. s.options.now.quiet && nat_lt 0 s.hits) _ _ c.args.asker.streams _ _ _ _ Lines BeginsList (λ text entries begins. begins) refl a)
     ]
 

@@ -1,5 +1,5 @@
-use Rattle.haya_json.proofs.EntriesBack.{library_back}
+use Rattle.haya_json.proofs.EntriesBack.{library_back, none_told}
 use Rattle.haya_json.proofs.laws.entries_read_back.Goals as goal
 
 pub returns : goal.returns
-returns c = library_back
+returns c = record { library = library_back; told = none_told }

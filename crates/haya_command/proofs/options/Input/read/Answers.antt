@@ -1,4 +1,4 @@
-use Rattle.std.proofs.Common.{◌≡◌, ℕ, ◌+◌, ◌<◌, ◌≤◌, ◌^◌, length, rules, arith}
+use Rattle.std.proofs.Common.{◌≡◌, rules, arith}
 use Rattle.std.specs.Str.Lossy.{utf8_valid_len}
 use Rattle.std.proofs.lemmas.Str.{utf8_valid_len_le}
 use Rattle.haya_command.proofs.options.Input.read.Goals as goal

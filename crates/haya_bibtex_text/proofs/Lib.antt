@@ -1,0 +1,13 @@
+pub mod Ends
+pub mod Lists
+pub mod PieceByPiece
+pub mod FieldByField
+pub mod ItemByItem
+pub mod Stopping
+pub mod Characters
+pub mod Lookups
+pub mod Keeping
+pub mod Shorter
+pub mod Reading
+pub mod SomeOutcome
+pub mod Outcome

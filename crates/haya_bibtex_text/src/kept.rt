@@ -1,0 +1,38 @@
+//! The fields of an entry that stay.
+ghost use Rattle.std.specs.Prelude.{◌≡◌, ◌++◌, IfOk, OnOk, map};
+ghost use Rattle.haya_bibtex_text.specs.Bibliography.{field_again, last_fields, other_names};
+ghost use Rattle.haya_bibtex_text.specs.BibliographyViews.{field_texts, note_view};
+
+use crate::entry::{Field, PassedOver};
+use crate::names::{add_name, no_names};
+use std::alloc::{AllocError, Global};
+
+/// Of several fields with one name the last. The others go to what is passed over. The error: there
+/// was no memory for them.
+pub(crate) fn keep_last(
+    alloc: Global,
+    mut fields: Vec<Field>,
+    passed_over: &mut Vec<PassedOver>,
+) -> Result<Vec<Field>, AllocError>
+    ensures last { IfOk result (λ v.
+        map field_texts v.items ≡ last_fields (map field_texts fields.items)) }
+    ensures others { OnOk result (map note_view passed_over.new.items
+        ≡ map note_view passed_over.old.items
+        ++ map field_again (other_names (map field_texts fields.items))) }
+{
+    let mut names = no_names(alloc);
+    let mut kept = Vec::new(alloc);
+    let mut others = Vec::new(alloc);
+    'fields: while let Some(field) = fields.pop() {
+        let is_last = add_name(alloc, &mut names, field.name.as_str())?;
+        if !is_last {
+            others.push(PassedOver::Field(field.name))?;
+            continue 'fields;
+        }
+        kept.push(field)?;
+    }
+    kept.reverse();
+    others.reverse();
+    passed_over.append(&mut others)?;
+    Ok(kept)
+}

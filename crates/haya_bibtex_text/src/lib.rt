@@ -1,0 +1,27 @@
+//! The grammar of `.bib` files: the entries of a text, with their fields as texts.
+#![tactic(auto)]
+
+mod blanks;
+mod classes;
+mod collected;
+mod definitions;
+mod entry;
+mod fault;
+mod fields;
+mod groups;
+mod items;
+mod kept;
+pub mod laws;
+mod names;
+mod opening;
+mod pieces;
+mod position;
+mod predefined;
+mod reader;
+mod resolved;
+mod texts;
+mod values;
+
+pub use entry::{Bibliography, Entry, Field, PassedOver};
+pub use fault::{Fault, FaultKind, ReadError};
+pub use reader::read_bibliography;

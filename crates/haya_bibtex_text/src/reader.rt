@@ -1,0 +1,52 @@
+//! The reader of a text.
+ghost use Rattle.std.specs.Prelude.{◌≡◌, IfOk, IfErr};
+ghost use Rattle.std.specs.Str.{chars};
+ghost use Rattle.haya_bibtex_text.specs.Bibliography.{BibliographyTexts};
+ghost use Rattle.haya_bibtex_text.specs.BibliographyViews.{bibliography_view};
+ghost use Rattle.haya_bibtex_text.specs.Outcomes.{ErrsBy, HasFault, Reads};
+
+use crate::collected::collect;
+use crate::entry::Bibliography;
+use crate::fault::{ReadError, Stop};
+use crate::items::read_items;
+use crate::position::fault_of;
+use std::alloc::{AllocError, Global};
+
+// What the characters of a text say.
+fn read_characters(alloc: Global, text: &[char]) -> Result<Bibliography, ReadError>
+    ensures ok { IfOk result (λ b. Reads text.now (bibliography_view b)) }
+    ensures fault { IfErr result (ErrsBy (HasFault text.now)) }
+{
+    let items = match read_items(alloc, text) {
+        Ok(items) => items,
+        Err(Stop::Refused(refusal)) => return Err(ReadError::Refused(fault_of(text, refusal))),
+        Err(Stop::OutOfMemory) => return Err(ReadError::OutOfMemory),
+    };
+    let bibliography = collect(alloc, items.as_slice())?;
+    Ok(bibliography)
+}
+
+// The characters of a text.
+fn characters_of(alloc: Global, text: &str) -> Result<Vec<char>, AllocError>
+    ensures { IfOk result (λ v. v.items ≡ chars text.now) }
+{
+    text.chars().collect(alloc)
+}
+
+/// The entries of a text in the format of `.bib` files, and what is passed over in it: exactly what
+/// it says. A text that isn't by the grammar is refused with its first fault, and then it says
+/// nothing; the only other error is out of memory.
+pub fn read_bibliography(alloc: Global, text: &str) -> Result<Bibliography, ReadError>
+    ensures ok { IfOk result (λ b. Reads (chars text.now) (bibliography_view b)) }
+    ensures only { IfOk result (λ b. (c : BibliographyTexts) → Reads (chars text.now) c →
+        c ≡ bibliography_view b) }
+    ensures fault { IfErr result (ErrsBy (HasFault (chars text.now))) }
+    ensures none { IfErr result (ErrsBy (λ _. (c : BibliographyTexts) →
+        Reads (chars text.now) c → ⊥)) }
+{
+    let characters = characters_of(alloc, text)?;
+    match read_characters(alloc, characters.as_slice()) {
+        Ok(bibliography) => Ok(bibliography),
+        Err(error) => Err(error),
+    }
+}

@@ -1,0 +1,136 @@
+//! The texts of values and fields.
+ghost use Rattle.std.specs.Prelude.{◌≡◌, ◌++◌, IfOk, OnOk, map, string_bytes};
+ghost use Rattle.std.specs.List.{list_all};
+ghost use Rattle.std.specs.Str.{chars};
+ghost use Rattle.haya_bibtex_text.specs.Bibliography.{filled_fields, field_if_filled};
+ghost use Rattle.haya_bibtex_text.specs.Bibliography.{unknown_names, unknown_string};
+ghost use Rattle.haya_bibtex_text.specs.BibliographyViews.{field_texts, note_view};
+ghost use Rattle.haya_bibtex_text.specs.Classes.{is_white};
+ghost use Rattle.haya_bibtex_text.specs.Definitions.{strings_view};
+ghost use Rattle.haya_bibtex_text.specs.FieldViews.{field_view};
+ghost use Rattle.haya_bibtex_text.specs.PieceViews.{piece_view};
+ghost use Rattle.haya_bibtex_text.specs.Strings.{piece_text, piece_unknown_names};
+ghost use Rattle.haya_bibtex_text.specs.Strings.{value_text, value_unknown_names};
+
+use crate::classes::is_white;
+use crate::definitions::{Definitions, defined_text};
+use crate::entry::{Field, PassedOver};
+use crate::fields::WrittenField;
+use crate::pieces::Piece;
+use crate::texts::{lowercase, push_characters};
+use std::alloc::{AllocError, Global};
+
+// Adds a text to another.
+fn push_text(text: &mut String, more: &str) -> Result<(), AllocError>
+    ensures { OnOk result
+        (chars (string_bytes text.new) ≡ chars (string_bytes text.old) ++ chars more.now) }
+{
+    text.push_str(more)?;
+    Ok(())
+}
+
+// Adds the text of a piece to the text, and the name of no string to what is passed over.
+fn push_piece(
+    alloc: Global,
+    strings: &Definitions,
+    piece: &Piece<'_>,
+    text: &mut String,
+    passed_over: &mut Vec<PassedOver>,
+) -> Result<(), AllocError>
+    ensures text { OnOk result (chars (string_bytes text.new)
+        ≡ chars (string_bytes text.old)
+        ++ piece_text (strings_view strings.now) (piece_view piece.now)) }
+    ensures unknown { OnOk result (map note_view passed_over.new.items
+        ≡ map note_view passed_over.old.items
+        ++ map unknown_string
+        (piece_unknown_names (strings_view strings.now) (piece_view piece.now))) }
+{
+    let written = match piece {
+        Piece::Text(characters) => return push_characters(text, characters),
+        Piece::Name(characters) => characters,
+    };
+    let name = lowercase(alloc, written)?;
+    match defined_text(strings, name.as_str()) {
+        Some(defined) => push_text(text, defined),
+        None => {
+            passed_over.push(PassedOver::Name(name))?;
+            push_characters(text, written)
+        }
+    }
+}
+
+/// The text of a value. Names of no string go to what is passed over. The error: there was no
+/// memory for them.
+pub(crate) fn value_text(
+    alloc: Global,
+    strings: &Definitions,
+    value: &[Piece<'_>],
+    passed_over: &mut Vec<PassedOver>,
+) -> Result<String, AllocError>
+    ensures text { IfOk result (λ t. chars (string_bytes t)
+        ≡ value_text (strings_view strings.now) (map piece_view value.now)) }
+    ensures unknown { OnOk result (map note_view passed_over.new.items
+        ≡ map note_view passed_over.old.items
+        ++ map unknown_string
+        (value_unknown_names (strings_view strings.now) (map piece_view value.now))) }
+{
+    let mut text = String::new(alloc);
+    'pieces: for piece in value {
+        push_piece(alloc, strings, piece, &mut text, passed_over)?;
+    }
+    Ok(text)
+}
+
+// Whether a text is white.
+fn is_blank(text: &str) -> bool
+    ensures { result ≡ list_all is_white (chars text.now) }
+{
+    text.chars().all(|c| is_white(c))
+}
+
+// Adds a field, unless its text is white.
+fn push_filled(
+    alloc: Global,
+    strings: &Definitions,
+    written: &WrittenField<'_>,
+    fields: &mut Vec<Field>,
+    passed_over: &mut Vec<PassedOver>,
+) -> Result<(), AllocError>
+    ensures fields { OnOk result (map field_texts fields.new.items
+        ≡ map field_texts fields.old.items
+        ++ field_if_filled (strings_view strings.now) (field_view written.now)) }
+    ensures unknown { OnOk result (map note_view passed_over.new.items
+        ≡ map note_view passed_over.old.items
+        ++ map unknown_string
+        (value_unknown_names (strings_view strings.now) (field_view written.now).value)) }
+{
+    let text = value_text(alloc, strings, written.value.as_slice(), passed_over)?;
+    if is_blank(text.as_str()) {
+        return Ok(());
+    }
+    let name = lowercase(alloc, written.name)?;
+    fields.push(Field { name, text })?;
+    Ok(())
+}
+
+/// The fields whose text isn't white. Names of no string go to what is passed over. The error:
+/// there was no memory for them.
+pub(crate) fn filled_fields(
+    alloc: Global,
+    strings: &Definitions,
+    written: &[WrittenField<'_>],
+    passed_over: &mut Vec<PassedOver>,
+) -> Result<Vec<Field>, AllocError>
+    ensures fields { IfOk result (λ v. map field_texts v.items
+        ≡ filled_fields (strings_view strings.now) (map field_view written.now)) }
+    ensures unknown { OnOk result (map note_view passed_over.new.items
+        ≡ map note_view passed_over.old.items
+        ++ map unknown_string
+        (unknown_names (strings_view strings.now) (map field_view written.now))) }
+{
+    let mut fields = Vec::new(alloc);
+    'fields: for field in written {
+        push_filled(alloc, strings, field, &mut fields, passed_over)?;
+    }
+    Ok(fields)
+}

@@ -1,0 +1,16 @@
+//! The text of a value in LaTeX: its characters, each of a kind, and the commands that aren't
+//! known.
+#![tactic(auto)]
+
+mod commands;
+mod formulas;
+mod kinds;
+mod readers;
+mod runs;
+mod scans;
+mod text;
+mod tokens;
+
+pub use kinds::Kind;
+pub use runs::Run;
+pub use text::{Names, Text, read_names, read_text};

@@ -1,0 +1,147 @@
+//! The text of a value, and names.
+ghost use Rattle.std.specs.Prelude.{◌≡◌, ◌<◌, ◌^◌, true, flat_map, length, map, reverse};
+ghost use Rattle.std.specs.Prelude.{string_bytes, All, IfOk};
+ghost use Rattle.std.specs.Str.{chars};
+ghost use Rattle.haya_latex.specs.Reading.{read_all};
+ghost use Rattle.haya_latex.specs.ReadingViews.{reader_view};
+ghost use Rattle.haya_latex.specs.RunViews.{HasText, run_bytes, run_kind};
+ghost use Rattle.haya_latex.specs.Texts.{alternates, char_bytes, name_chars, name_unknown};
+ghost use Rattle.haya_latex.specs.Texts.{text_chars, text_unknown, trimmed};
+
+use crate::kinds::Kind;
+use crate::readers::{Reader, is_inside, put_output, settle, start, take_turn};
+use crate::runs::{Run, drop_last_blank, runs_of, single_blanks};
+use crate::tokens::token_at;
+use std::alloc::{AllocError, Global};
+
+/// What the text of a value says.
+#[derive(Debug, Drop)]
+pub struct Text {
+    /// Its characters, in runs of a kind: none is empty, and none is of the kind of the next one.
+    pub runs: Vec<Run>,
+    /// The commands that aren't known, in order, without their backslashes.
+    pub unknown: Vec<String>,
+}
+
+/// What names say.
+#[derive(Debug, Drop)]
+pub struct Names {
+    /// Their characters.
+    pub chars: Vec<(char, Kind)>,
+    /// The commands that aren't known, in order, without their backslashes.
+    pub unknown: Vec<String>,
+}
+
+/// What the text of a value says: its characters, without blanks at both ends and without each
+/// behind another one, and the commands that aren't known.
+///
+/// `The {DNA} of {\em a} $x^2$ \foo{b}` is `The ` and ` of a `, Normal, with `DNA` between them,
+/// Verbatim, then `x^2`, Math, and ` b`, Normal; `foo` isn't known.
+///
+/// | Text | What it says |
+/// |---|---|
+/// | `a\cite{x} b` | `a b`: white behind an argument that is left out stays |
+/// | `\foo {A}` | `A`, Normal: white between a command and its group is dropped |
+/// | `$a {b $ c }` | `a {b`, Math, then ` c`: braces don't keep math open; their partners are dropped |
+/// | `\(a` | `a`, Math: math that nothing closes ends with its group, or the text |
+/// | `{a\}` | `a\`, Verbatim: a backslash changes nothing about a brace that ends a group |
+/// | `\'{ e}`, `\'{$x$}` | an accent is written alone in front of white and math |
+/// | `\'{\"{}}` | of two accents that no letter carries the inner one carries the outer one |
+/// | `\ensuremath a` | `a`, Normal: without a group `ensuremath` isn't known |
+pub fn read_text(alloc: Global, text: &str) -> Result<Text, AllocError>
+    ensures bytes { IfOk result (λ t. flat_map run_bytes t.runs.items
+        ≡ flat_map char_bytes (text_chars (chars text.now))) }
+    ensures runs { IfOk result (λ t. alternates (reverse (map run_kind t.runs.items)) ≡ true) }
+    ensures texts { IfOk result (λ t. All HasText t.runs.items) }
+    ensures unknown { IfOk result (λ t. map string_bytes t.unknown.items
+        ≡ text_unknown (chars text.now)) }
+{
+    let reader = read(alloc, Kind::Normal, text)?;
+    let Reader {
+        chars,
+        counted,
+        inner: _,
+        outer: _,
+        waiting: _,
+    } = reader;
+    let trimmed = trim(alloc, chars.as_slice())?;
+    let runs = runs_of(alloc, trimmed.as_slice())?;
+    Ok(Text {
+        runs,
+        unknown: counted,
+    })
+}
+
+/// What names say: their characters, with all their blanks, and the commands that aren't known.
+///
+/// Each group protects what is in it, the group of a command too, and so does a character that a
+/// command stands for protect itself, unless it is white. All blanks stay, since those that are Free
+/// separate words: one behind a Verbatim blank isn't dropped.
+///
+/// `{\'E}tienne \o x {and} Co` is `É`, Special, `tienne `, Free, `ø`, Special, `x `, Free, `and`,
+/// Verbatim, and ` Co`, Free.
+pub fn read_names(alloc: Global, text: &str) -> Result<Names, AllocError>
+    ensures chars { IfOk result (λ n. n.chars.items ≡ name_chars (chars text.now)) }
+    ensures unknown { IfOk result (λ n. map string_bytes n.unknown.items
+        ≡ name_unknown (chars text.now)) }
+{
+    let reader = read(alloc, Kind::Free, text)?;
+    let Reader {
+        chars,
+        counted,
+        inner: _,
+        outer: _,
+        waiting: _,
+    } = reader;
+    Ok(Names {
+        chars,
+        unknown: counted,
+    })
+}
+
+// The characters without blanks at both ends, and without each behind another one.
+fn trim(alloc: Global, chars: &[(char, Kind)]) -> Result<Vec<(char, Kind)>, AllocError>
+    ensures { IfOk result (λ v. v.items ≡ trimmed chars.now) }
+{
+    let mut singles = single_blanks(alloc, chars)?;
+    drop_last_blank(&mut singles)?;
+    Ok(singles)
+}
+
+// What a text says that is of a kind.
+fn read(alloc: Global, kind: Kind, text: &str) -> Result<Reader, AllocError>
+    ensures { IfOk result (λ r. reader_view r ≡ read_all kind (chars text.now)) }
+{
+    let chars = chars_of(alloc, text)?;
+    read_all(alloc, kind, chars.as_slice())
+}
+
+// The characters of a text.
+fn chars_of(alloc: Global, text: &str) -> Result<Vec<char>, AllocError>
+    ensures { IfOk result (λ v. v.items ≡ chars text.now) }
+{
+    let mut list = Vec::new(alloc);
+    'chars: for c in text.chars() {
+        list.push(c)?;
+    }
+    Ok(list)
+}
+
+// What characters say that are text of a kind.
+fn read_all(alloc: Global, kind: Kind, text: &[char]) -> Result<Reader, AllocError>
+    requires { length text.now < 2 ^ 63 }
+    ensures { IfOk result (λ r. reader_view r ≡ read_all kind text.now) }
+{
+    let mut reader = start(alloc, kind);
+    let mut left = text;
+    'tokens: while let Some((first, behind)) = left.split_first() {
+        let inner = reader.inner;
+        let token = token_at(inner.kind, inner.depth, is_inside(&reader), *first, behind);
+        put_output(&mut reader, alloc, token.output)?;
+        take_turn(&mut reader, alloc, token.turn)?;
+        let (_, rest) = behind.split_at(token.length);
+        left = rest;
+    }
+    settle(&mut reader, alloc, 0)?;
+    Ok(reader)
+}

@@ -1,0 +1,3 @@
+pub mod Accents
+pub mod Commands
+pub mod CommandViews

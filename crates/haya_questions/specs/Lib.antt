@@ -1,0 +1,12 @@
+pub mod Place
+pub mod Value
+pub mod Fields
+pub mod Orders
+pub mod CaseAside
+pub mod Whole
+pub mod Test
+pub mod TestText
+pub mod Columns
+pub mod Order
+pub mod SortText
+pub mod Ranked

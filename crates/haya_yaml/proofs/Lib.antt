@@ -1,0 +1,9 @@
+pub mod Bodies
+pub mod Contents
+pub mod Cuts
+pub mod Letters
+pub mod Marks
+pub mod Nodes
+pub mod Options
+pub mod Printed
+pub mod Rests

@@ -1,0 +1,7 @@
+pub mod Block
+pub mod Documents
+pub mod Line
+pub mod Literal
+pub mod Saying
+pub mod Says
+pub mod Values

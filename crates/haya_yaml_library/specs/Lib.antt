@@ -1,0 +1,3 @@
+pub mod Libraries
+pub mod Messages
+pub mod Writing

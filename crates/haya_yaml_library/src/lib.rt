@@ -1,0 +1,15 @@
+//! Libraries in YAML: hayagriva's own file format, as people write it.
+#![tactic(auto)]
+
+mod block_style;
+mod error;
+pub mod laws;
+mod libraries;
+mod scalars;
+mod steps;
+mod words;
+mod writing;
+
+pub use error::YamlReadError;
+pub use libraries::{read_yaml, read_yaml_with_hash_keys};
+pub use writing::to_yaml;

@@ -1,0 +1,10 @@
+pub mod Escapes
+pub mod Faults
+pub mod Flow
+pub mod FlowTurns
+pub mod Keys
+pub mod Resolved
+pub mod Scalars
+pub mod Signs
+pub mod Turns
+pub mod Writing
