@@ -1,0 +1,9 @@
+use Rattle.std.proofs.Common.{◌≡◌, drop, map, string_bytes}
+use Rattle.haya_bibtex_dates.specs.Months.{months, named_in}
+use Rattle.haya_bibtex_dates.specs.Years.{first_told}
+use Rattle.haya_bibtex_dates.proofs.months.first_month.Given as goal
+
+-- no word so far tells one
+abbrev pub invariant-words : goal.invariant-words
+invariant-words l =
+    first_told (named_in months) (map string_bytes l.words) ≡ first_told (named_in months) (map string_bytes (drop l.word-index l.words))

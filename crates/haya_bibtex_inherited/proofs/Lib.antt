@@ -1,0 +1,12 @@
+pub mod Cutting
+pub mod Leaving
+pub mod Sound
+pub mod Left
+pub mod Working
+pub mod Ordering
+pub mod Referring
+pub mod NewNames
+pub mod Giving
+pub mod Positions
+pub mod Filling
+pub mod Making

@@ -1,0 +1,10 @@
+pub mod Entries
+pub mod Changes
+pub mod References
+pub mod Graphs
+pub mod Inherited
+pub mod Search
+pub mod Views
+pub mod FieldNames
+pub mod Sources
+pub mod Lists

@@ -1,0 +1,167 @@
+//! The persons of a list of names.
+ghost use Rattle.std.specs.Prelude.{◌≡◌, ◌++◌, IfOk, OnOk, map, option_map};
+ghost use Rattle.std.specs.Prelude.{string_bytes};
+ghost use Rattle.std.specs.List.{slice_split};
+ghost use Rattle.std.specs.Str.{chars};
+ghost use Rattle.haya_bibtex_names.specs.Lists.{is_only_others, odd_words, odd_words_in, person_of};
+ghost use Rattle.haya_bibtex_names.specs.Lists.{persons, persons_in, with_blanks};
+ghost use Rattle.haya_bibtex_names.specs.NameViews.{name_view, names_view};
+ghost use Rattle.haya_bibtex_names.specs.Words.{is_and, texts};
+ghost use Rattle.haya_latex.specs.Texts.{name_unknown};
+ghost use Rattle.haya_people.specs.Person.{person_view};
+ghost use Rattle.haya_people.specs.Reading.{text_if_any};
+
+use crate::extended::{extended_texts, is_extended, parts, push_odd};
+use crate::parts::without_gap;
+use crate::plain::{NameTexts, plain_texts};
+use crate::words::{is_and, is_others, words_of};
+use haya_latex::{Kind, Names, read_names};
+use haya_people::Person;
+use std::alloc::{AllocError, Global};
+
+/// What a list of names says.
+#[derive(Debug, Drop)]
+pub struct Persons {
+    /// The persons, in order.
+    pub persons: Vec<Person>,
+    /// The words in front of a sign `=` that say no part of a name, in order.
+    pub odd_words: Vec<String>,
+    /// The commands of LaTeX that aren't known, in order, without their backslashes.
+    pub unknown: Vec<String>,
+}
+
+/// What a list of names in LaTeX says, with the word `and` between two of them.
+///
+/// A name has the parts that its commas separate, or otherwise its words: a word in lower case
+/// begins the family part, whose prefix ends with the last such word. What braces protect separates
+/// nothing. `others` is no person, nor is a name without a word.
+///
+/// | Name | Its parts |
+/// |---|---|
+/// | `Ludwig van Beethoven`, `van Beethoven, Ludwig` | `van`, `Beethoven`; given `Ludwig` |
+/// | `Ford, Jr., Henry` | `Ford`; given `Henry`, suffix `Jr.` |
+/// | `{Barnes and Noble}` | `Barnes and Noble` |
+/// | `Smith, J., Jones, K.` | `Smith`; given `Jones, K.`, suffix `J.` |
+/// | `family=Gogh, prefix=van` | `van`, `Gogh` |
+/// | `given=Cher` | `Cher` |
+pub fn read_persons(alloc: Global, text: &str) -> Result<Persons, AllocError>
+    ensures persons { IfOk result (λ p. map person_view p.persons.items
+        ≡ persons (chars text.now)) }
+    ensures odd { IfOk result (λ p. map string_bytes p.odd_words.items
+        ≡ odd_words (chars text.now)) }
+    ensures unknown { IfOk result (λ p. map string_bytes p.unknown.items
+        ≡ name_unknown (chars text.now)) }
+{
+    let Names { chars, unknown } = read_names(alloc, text)?;
+    let words = words_of(alloc, chars.as_slice())?;
+    let mut persons = Vec::new(alloc);
+    let mut odd_words = Vec::new(alloc);
+    let names = names_of(alloc, words.as_slice())?;
+    'names: for name in &names {
+        push_name(alloc, name, &mut persons, &mut odd_words)?;
+    }
+    Ok(Persons {
+        persons,
+        odd_words,
+        unknown,
+    })
+}
+
+// The names that words say, each as its words.
+fn names_of<'a, 'b>(
+    alloc: Global,
+    words: &'a [&'b [(char, Kind)]],
+) -> Result<Vec<&'a [&'b [(char, Kind)]]>, AllocError>
+    ensures { IfOk result (λ v. names_view v.items ≡ slice_split is_and (texts words.now)) }
+{
+    let names = words.split(|word| is_and(word)).collect(alloc)?;
+    Ok(names)
+}
+
+// Puts what a name of these words says behind what others say.
+fn push_name(
+    alloc: Global,
+    words: &[&[(char, Kind)]],
+    persons: &mut Vec<Person>,
+    odd_words: &mut Vec<String>,
+) -> Result<(), AllocError>
+    ensures persons { OnOk result (map person_view persons.new.items
+        ≡ map person_view persons.old.items ++ persons_in (texts words.now)) }
+    ensures odd { OnOk result (map string_bytes odd_words.new.items
+        ≡ map string_bytes odd_words.old.items ++ odd_words_in (texts words.now)) }
+{
+    if is_only_others(words) {
+        return Ok(());
+    }
+    let text = with_blanks(alloc, words)?;
+    let text = without_gap(text.as_slice());
+    let parts = parts(alloc, text)?;
+    let name = if is_extended(alloc, parts.as_slice())? {
+        push_odd(alloc, parts.as_slice(), odd_words)?;
+        extended_texts(alloc, parts.as_slice())?
+    } else {
+        plain_texts(alloc, text)?
+    };
+    if let Some(person) = person_of(name) {
+        persons.push(person)?;
+    }
+    Ok(())
+}
+
+// Whether `others` is the only word.
+fn is_only_others(words: &[&[(char, Kind)]]) -> bool
+    ensures { result ≡ is_only_others (texts words.now) }
+{
+    match words {
+        [word] => is_others(word),
+        _ => false,
+    }
+}
+
+// Words as a text, with a blank in front of each.
+fn with_blanks(alloc: Global, words: &[&[(char, Kind)]]) -> Result<Vec<(char, Kind)>, AllocError>
+    ensures { IfOk result (λ v. v.items ≡ with_blanks (texts words.now)) }
+{
+    let mut text = Vec::new(alloc);
+    'words: for word in words {
+        text.push((' ', Kind::Free))?;
+        text.extend_from_slice(word)?;
+    }
+    Ok(text)
+}
+
+// A text, if it isn't empty.
+fn text_if_any(text: String) -> Option<String>
+    ensures { option_map string_bytes result ≡ text_if_any (string_bytes text) }
+{
+    if text.is_empty() { None } else { Some(text) }
+}
+
+// The person of the texts of a name's parts.
+fn person_of(texts: NameTexts) -> Option<Person>
+    ensures { option_map person_view result ≡ person_of (name_view texts) }
+{
+    let NameTexts {
+        family,
+        prefix,
+        given,
+        suffix,
+    } = texts;
+    let (name, given, suffix) = if !family.is_empty() {
+        (family, text_if_any(given), text_if_any(suffix))
+    } else if !given.is_empty() {
+        (given, None, text_if_any(suffix))
+    } else if !suffix.is_empty() {
+        (suffix, None, None)
+    } else {
+        return None;
+    };
+    Some(Person {
+        name,
+        given_name: given,
+        prefix: text_if_any(prefix),
+        suffix,
+        comma_suffix: false,
+        alias: None,
+    })
+}

@@ -1,0 +1,4 @@
+pub mod Fronts
+pub mod Standing
+pub mod Addresses
+pub mod PageTexts
