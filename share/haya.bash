@@ -5,7 +5,10 @@ _haya_values() {
     case $1 in
         -f | --from) echo hayagriva yaml csl-json json-lines lines ;;
         --key) echo citation-key id ;;
-        -t | --to) echo keys lines hayagriva yaml json-lines ;;
+        -t | --to) echo keys lines hayagriva yaml json-lines csv tsv ;;
+        -w | --where | --sort | --unique | --duplicates | --columns)
+            echo key type date title author editor doi volume issue page-range publisher language ;;
+        -n | --max) echo 10 100 ;;
         --list) echo types fields formats ;;
         *) return 1 ;;
     esac
@@ -24,7 +27,7 @@ _haya() {
         return
     fi
     if [[ $word = -* ]]; then
-        values='--from --key --to --count --quiet --no-notes --invert --stream --strict --list --help --version'
+        values='--where --sort --unique --duplicates --max --from --key --to --columns --no-header --count --quiet --no-notes --invert --stream --strict --list --help --version'
         mapfile -t COMPREPLY < <(compgen -W "$values" -- "$word")
         return
     fi

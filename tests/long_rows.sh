@@ -37,13 +37,13 @@ large_rows() {
     printf 'apply\t* > (n0:*%s)\t0\\tarticle\\tarticle\\n%s\n' "$(printf ' & n%s:*' $(seq 16))" "$(times '1\\tb\\tbook\\n' 20)"
 }
 
-# Prints rows of values as large as the largest that users have, some 2 MB each, one for each kind whose values have no bound.
+# Prints rows of values as large as the largest that users have, up to 2 MB, one for each kind whose values have no bound.
 largest_rows() {
     local text names
     text="$(times '2147483647 & ' 160000)1"
     printf 'number\t%s\t=>\t?\t%s\t?\t?\t?\n' "$text" "$text"
-    text="$(times '10-12, ' 300000)13"
-    printf 'pages\t%s\t=>\t?\t%s\t600001\tyes\t?\t?\n' "$text" "$text"
+    text="$(times '10-12, ' 100000)13"
+    printf 'pages\t%s\t=>\t?\t%s\t200001\tyes\t?\t?\n' "$text" "$text"
     text=$(times S 2000000)
     printf 'part\t%s10-15x\t=>\t?\t%s10-15x\n' "$text" "$text"
     printf 'typed-number\t%s\t=>\ttext\t%s\tborrowed\t%s\t%s\n' "$(times 'so on ' 350000)" "$(times 'so on ' 350000)" \

@@ -1,9 +1,13 @@
 //! The words of the process, as what is asked.
+use crate::asking::Words;
 use crate::help::{ABOUT, AFTER};
 use crate::lists::List;
+use clap::parser::ValueSource;
 use clap::{Arg, ArgAction, ArgMatches, Command, Error};
+use haya_asked::Questions;
 use haya_command::{Form, Format, Options};
 use haya_csl::ItemKey;
+use haya_questions::Table;
 use std::alloc::{AllocError, Global};
 
 /// What the process is asked for.
@@ -18,8 +22,10 @@ pub enum Request {
 /// What is asked, and how the input is read.
 #[derive(Drop)]
 pub struct Arguments {
-    /// What is asked, and how it is answered.
+    /// What is asked, and how it is answered, but for what the words ask of the hits.
     pub options: Options,
+    /// What the words ask of the hits.
+    pub words: Words,
     /// Whether each entry is asked as soon as it is read, and let go.
     pub stream: bool,
 }
@@ -34,6 +40,7 @@ pub fn request_of(alloc: Global, words: &[String]) -> Result<Request, Error> {
     }
     Ok(Request::Ask(Arguments {
         options: options_in(alloc, &matches)?,
+        words: words_in(alloc, &matches)?,
         stream: matches.get_flag("stream"),
     }))
 }
@@ -43,7 +50,15 @@ const FORMATS: [&str; 5] = ["hayagriva", "yaml", "csl-json", "json-lines", "line
 
 const KEYS: [&str; 2] = ["citation-key", "id"];
 
-const FORMS: [&str; 5] = ["keys", "lines", "hayagriva", "yaml", "json-lines"];
+const FORMS: [&str; 7] = [
+    "keys",
+    "lines",
+    "hayagriva",
+    "yaml",
+    "json-lines",
+    "csv",
+    "tsv",
+];
 
 const LISTS: [&str; 3] = ["types", "fields", "formats"];
 
@@ -55,9 +70,37 @@ fn command<'a>(alloc: Global) -> Result<Command<'a>, AllocError> {
         .after_help(AFTER)
         .arg(selector(alloc))?
         .arg(files(alloc))?
+        .arg(tests(alloc))?
+        .arg(listed(
+            alloc,
+            "sort",
+            "KEY[,KEY..]",
+            "Sort the entries by these places; with - in front of one, the other way round",
+        ))?
+        .arg(listed(
+            alloc,
+            "unique",
+            "PLACE[,PLACE..]",
+            "Of entries that have the same values there, print the first alone",
+        )
+        .conflicts_with("duplicates")?)?
+        .arg(listed(
+            alloc,
+            "duplicates",
+            "PLACE[,PLACE..]",
+            "Print the entries alone that share their values there with others",
+        ))?
+        .arg(max(alloc))?
         .arg(from(alloc))?
         .arg(key(alloc))?
         .arg(to(alloc))?
+        .arg(listed(
+            alloc,
+            "columns",
+            "PLACE[,PLACE..]",
+            "The columns of csv and tsv; without --to, of tsv [default: key,type,author,date,title]",
+        ))?
+        .arg(no_header(alloc))?
         .arg(flag(alloc, "count", 'c', "Print the number of entries alone"))?
         .arg(flag(
             alloc,
@@ -103,6 +146,42 @@ fn files<'a>(alloc: Global) -> Arg<'a> {
         .action(ArgAction::Append)
         .num_args(0..)
         .help("The library's files, in order; standard input for '-' or without a file")
+}
+
+// The tests.
+fn tests<'a>(alloc: Global) -> Arg<'a> {
+    Arg::new(alloc, "where")
+        .short('w')
+        .long("where")
+        .value_name("TEST")
+        .action(ArgAction::Append)
+        .help("Print the entries alone that pass: 'date >= 2010', 'p.title ~ nature'; repeatable")
+}
+
+// An option that takes a list.
+fn listed<'a>(alloc: Global, name: &'a str, value: &'a str, help: &'a str) -> Arg<'a> {
+    Arg::new(alloc, name)
+        .long(name)
+        .value_name(value)
+        .allow_hyphen_values(true)
+        .help(help)
+}
+
+// How many entries are printed at most.
+fn max<'a>(alloc: Global) -> Arg<'a> {
+    Arg::new(alloc, "max")
+        .short('n')
+        .long("max")
+        .value_name("N")
+        .help("Print the first N entries at most")
+}
+
+// Whether a table has no names of columns.
+fn no_header<'a>(alloc: Global) -> Arg<'a> {
+    Arg::new(alloc, "no-header")
+        .long("no-header")
+        .action(ArgAction::SetTrue)
+        .help("Leave the line of names out of csv and tsv")
 }
 
 // The format of the input.
@@ -165,7 +244,9 @@ fn options_in(alloc: Global, matches: &ArgMatches<'_>) -> Result<Options, AllocE
         selector: String::from_str(alloc, matches.get_str("selector").unwrap_or(""))?,
         from: format_in(matches),
         key: key_in(matches),
+        questions: Questions::none(alloc),
         to: form_in(matches),
+        columns: None,
         count: matches.get_flag("count"),
         quiet: matches.get_flag("quiet"),
         invert: matches.get_flag("invert"),
@@ -175,16 +256,65 @@ fn options_in(alloc: Global, matches: &ArgMatches<'_>) -> Result<Options, AllocE
     })
 }
 
+// What the words ask of the hits.
+fn words_in(alloc: Global, matches: &ArgMatches<'_>) -> Result<Words, AllocError> {
+    Ok(Words {
+        tests: texts_in(alloc, matches, "where")?,
+        sort: text_in(alloc, matches, "sort")?,
+        unique: text_in(alloc, matches, "unique")?,
+        duplicates: text_in(alloc, matches, "duplicates")?,
+        max: text_in(alloc, matches, "max")?,
+        columns: text_in(alloc, matches, "columns")?,
+        table: table_in(matches),
+        has_header: !matches.get_flag("no-header"),
+    })
+}
+
+// The text of an option, where it is given.
+fn text_in(
+    alloc: Global,
+    matches: &ArgMatches<'_>,
+    name: &str,
+) -> Result<Option<String>, AllocError> {
+    match matches.get_str(name) {
+        Some(text) => Ok(Some(String::from_str(alloc, text)?)),
+        None => Ok(None),
+    }
+}
+
+// The table that is asked for by name, or that columns are asked for and no form.
+fn table_in(matches: &ArgMatches<'_>) -> Option<Table> {
+    match matches.get_str("to") {
+        Some("csv") => Some(Table::Csv),
+        Some("tsv") => Some(Table::Tsv),
+        _
+            if matches.contains_id("columns")
+                && matches.value_source("to") != Some(ValueSource::CommandLine) => {
+            Some(Table::Tsv)
+        }
+        _ => None,
+    }
+}
+
 // The files that are given.
 fn files_in(alloc: Global, matches: &ArgMatches<'_>) -> Result<Vec<String>, AllocError> {
-    let mut files = Vec::new(alloc);
-    let Some(given) = matches.get_strs("files") else {
-        return Ok(files);
+    texts_in(alloc, matches, "files")
+}
+
+// The texts of an argument that may be given again.
+fn texts_in(
+    alloc: Global,
+    matches: &ArgMatches<'_>,
+    name: &str,
+) -> Result<Vec<String>, AllocError> {
+    let mut texts = Vec::new(alloc);
+    let Some(given) = matches.get_strs(name) else {
+        return Ok(texts);
     };
-    for file in given {
-        files.push(String::from_str(alloc, file)?)?;
+    for text in given {
+        texts.push(String::from_str(alloc, text)?)?;
     }
-    Ok(files)
+    Ok(texts)
 }
 
 // The format that is given.

@@ -25,6 +25,12 @@ Examples:
   haya -c '*[doi]' refs.json more.json     how many entries of both files have a DOI
   haya -t lines '!(*[date])' refs.json     what has no date, with all its fields
   haya -s -f lines 'article' works.tsv     the articles of a library larger than memory
+  haya '*' -w 'date >= 1986' --sort -date refs.json    what came out since 1986, newest first
+  haya 'article' --columns key,date,title refs.json    the articles as a table
+  haya '*' --unique doi refs.json more.json            the entries of both files, each DOI once
+
+Tests (-w) are a place, one of = != ~ !~ < <= > >=, and a text, which is compared case aside. A
+place is a name of --list fields, a role such as translator, key or type; behind p. it is of p.
 
 Without --from a format is guessed from the first 4096 bytes: with --stream, too, which waits for
 them. There entries are asked as they come: a key that comes again isn't replaced, and at a fault

@@ -86,8 +86,23 @@ fn formats_text(alloc: Global) -> Result<String, AllocError> {
             text.push('\n')?;
         }
     }
+    for (name, words) in TABLES {
+        push_name(&mut text, name, 12)?;
+        text.push_str("printed: ")?;
+        text.push_str(words)?;
+        text.push('\n')?;
+    }
     Ok(text)
 }
+
+// The tables that are printed.
+const TABLES: &[(&str, &str)] = &[
+    (
+        "csv",
+        "a table with commas, a line a hit: --columns says of which places",
+    ),
+    ("tsv", "the same with tabs"),
+];
 
 // Puts a line of a name and of words behind a text.
 fn push_row(text: &mut String, name: &str, width: usize, words: &str) -> Result<(), AllocError> {

@@ -2,6 +2,7 @@
 #![tactic(auto)]
 
 mod arguments;
+mod asking;
 mod fault;
 mod files;
 mod help;
@@ -10,6 +11,7 @@ mod progress;
 mod streaming;
 
 use arguments::{Arguments, Request, request_of};
+use asking::read_words;
 use fault::StartFault;
 use files::read_files;
 use haya_command::{Fault, Options, complain, run};
@@ -32,7 +34,8 @@ fn main(rt: HostRuntime) -> ExitCode {
         Err(fault) => return ended(tell(&fault, &mut err)),
     };
     let Arguments {
-        options,
+        mut options,
+        words: asked,
         stream: streams,
     } = match request_of(alloc, words.as_slice()) {
         Ok(Request::Ask(arguments)) => arguments,
@@ -42,9 +45,12 @@ fn main(rt: HostRuntime) -> ExitCode {
             return ended(if error.use_stderr() { 2 } else { 0 });
         }
     };
-    // A fault of the selector is told before any input is waited for.
+    // A fault of the selector or of the words is told before any input is waited for.
     if let Err(error) = Selector::parse(alloc, options.selector.as_str()) {
         return ended(complain(alloc, &options, &Fault::Selector(error), &mut err));
+    }
+    if let Err(fault) = read_words(alloc, &asked, &mut options) {
+        return ended(complain(alloc, &options, &fault, &mut err));
     }
     let Ok(keys) = HashKeys::random(&rt) else {
         return ended(tell_of(&options, &StartFault::NoKeys, &mut err));

@@ -7,6 +7,7 @@ pub mod Form
 pub mod Formats
 pub mod Likeness
 pub mod Picks
+pub mod Plain
 pub mod Printed
 pub mod Reading
 pub mod Run

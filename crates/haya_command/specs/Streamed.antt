@@ -1,5 +1,5 @@
 -- Entries asked one after another, as they are read.
-use Rattle.std.specs.Prelude.{◌≡◌, ◌⊎◌, ◌<◌, ◌+◌, ℕ, Any, IfSome, IsTrue, MatchBool, List, [], ◌∷◌, ◌++◌, Option, Some, String, decimal, length, string_bytes, true, if◌then◌else◌}
+use Rattle.std.specs.Prelude.{◌≡◌, ◌⊎◌, ◌<◌, ◌+◌, ℕ, Any, IfSome, IsFalse, IsTrue, MatchBool, List, [], ◌∷◌, ◌++◌, Option, Some, String, decimal, length, string_bytes, true, if◌then◌else◌}
 use Rattle.std.specs.Io.KnownBytes.{Appends, Consumes, IsAtEnd}
 use Rattle.std.specs.Str.{IsUtf8, chars}
 use Rattle.std.specs.Str.Lines.{lines}
@@ -20,6 +20,7 @@ use Rattle.haya_stream.specs.declared.fault.StreamFault.{StreamFault}
 use Rattle.haya_stream.specs.declared.fault.StreamFault.TheVariants as stream
 use Rattle.haya_command.specs.Form.{is_library}
 use Rattle.haya_command.specs.AskedLines.{BeginsListIn, IsAccepted, IsErrorIn, IsListIn, TellsFirst, asked_lines, lines_told}
+use Rattle.haya_command.specs.Plain.{is_plain}
 use Rattle.haya_command.specs.Printed.{IsTextOf}
 use Rattle.haya_command.specs.declared.fault.Fault.{Fault}
 use Rattle.haya_command.specs.declared.fault.Fault.TheVariants as fault
@@ -34,6 +35,7 @@ abbrev pub IsAskerFault : Options → Fault → Type 0
 IsAskerFault options (fault.Selector e) =
     IfSome (selector.fault e) (TextFails (chars (string_bytes options.selector)))
 IsAskerFault options fault.CannotStream = IsTrue (is_library options.to)
+IsAskerFault options fault.StreamAsks = IsFalse (is_plain options)
 IsAskerFault options fault.OutOfMemory = Unit {0}
 IsAskerFault options _ = ⊥
 

@@ -8,6 +8,7 @@ ghost use Rattle.hayagriva.specs.Reading.{TextReads};
 ghost use Rattle.hayagriva.specs.Syntax.{Syntax};
 ghost use Rattle.haya_command.specs.Form.{is_library};
 ghost use Rattle.haya_command.specs.Picks.{wanted};
+ghost use Rattle.haya_command.specs.Plain.{is_plain};
 ghost use Rattle.haya_command.specs.Printed.{IsLinesFault};
 ghost use Rattle.haya_command.specs.Streamed.{IsAskerFault, IsTold, end_text};
 
@@ -42,17 +43,22 @@ pub struct Asker<'o> {
 impl<'o> Asker<'o> {
     /// What is asked under these options. A map of what is passed over hashes with the keys.
     /// `Selector`: the selector's text is none. `CannotStream`: hits are to be printed in a form
-    /// that is none of each alone.
+    /// that is none of each alone. `StreamAsks`: more is asked
+    /// of the hits, or they are to be printed as a table.
     pub fn new(alloc: Global, keys: HashKeys, options: &'o Options) -> Result<Asker<'o>, Fault>
         ensures selector { IfOk result (λ asker. (s : Syntax)
             × TextReads (chars (string_bytes options.now.selector)) s
             × (asker.selector ≡ wanted options.now.invert s)) }
         ensures options { IfOk result (λ asker. asker.options.now ≡ options.now) }
+        ensures plain { OnOk result (IsTrue (is_plain options.now)) }
         ensures none { IfOk result (λ asker. asker.hits ≡ 0) }
         ensures error { IfErr result (IsAskerFault options.now) }
     {
         if options.to.is_library() {
             return Err(Fault::CannotStream);
+        }
+        if !options.is_plain() {
+            return Err(Fault::StreamAsks);
         }
         let read = match Selector::parse(alloc, options.selector.as_str()) {
             Ok(read) => read,

@@ -4,6 +4,7 @@ use haya_input::InputFault;
 use haya_json::{ElementError, LineError, Note, ReadError};
 use haya_list::EntryFault;
 use haya_printing::LinesError;
+use haya_questions::{PlaceError, TestError};
 use haya_stream::WriteFault;
 use haya_text::OutOfMemory;
 use haya_yaml_library::YamlReadError;
@@ -108,6 +109,22 @@ pub enum Fault {
     /// Hits are to be printed as a library, of which nothing can be said before the last is there.
     #[error("--stream prints no library: --to keys, lines or json-lines")]
     CannotStream,
+    /// What is asked of all hits can't be said of each as it comes, nor are they printed as a table.
+    #[error("--stream takes no --where, --sort, --unique, --duplicates, --max, --columns, csv \
+         or tsv")]
+    StreamAsks,
+    /// The text of a test is none.
+    #[error("{1}")]
+    Test(String, TestError),
+    /// A text isn't a list of places, or of keys of a sort.
+    #[error("{1}")]
+    Places(String, PlaceError),
+    /// The selector binds nothing to the name of a place of this text.
+    #[error("the selector binds no `{1}`")]
+    Unbound(String, String),
+    /// A text is no number.
+    #[error("`{0}` is no number")]
+    NotANumber(String),
     /// The selector's text is none.
     #[error("{0}")]
     Selector(SelectorError),

@@ -24,6 +24,7 @@ ghost use Rattle.haya_command.specs.Answer.{IsAnswer};
 ghost use Rattle.haya_command.specs.Formats.{format_for};
 ghost use Rattle.haya_command.specs.Likeness.{foreign_for};
 ghost use Rattle.haya_command.specs.Picks.{wanted};
+ghost use Rattle.haya_command.specs.Plain.{is_plain};
 ghost use Rattle.haya_command.specs.Printed.{FitsLine, IsJsonLineOf};
 ghost use Rattle.haya_command.specs.Reading.{IsWhole, format_in};
 ghost use Rattle.haya_command.specs.Run.{Prints};
@@ -34,11 +35,11 @@ ghost use Rattle.haya_command.specs.declared.format.Format.{Format as FormatData
 ghost use Rattle.haya_command.specs.declared.options.Options.{Options as OptionsData};
 
 /// What is printed of the hits of a list as they come, and their number at the end, is the answer
-/// of the list.
+/// of the list, where no more is asked of them.
 pub fn told_hits_answer()
     ensures { (options : OptionsData) (s : Syntax) (entries : List Tree) (hits : List HitData)
         (printed : List ℕ) (found : Bool) →
-        TextReads (chars (string_bytes options.selector)) s →
+        IsTrue (is_plain options) → TextReads (chars (string_bytes options.selector)) s →
         AreHits (wanted options.invert s) entries hits → IsTold options hits printed →
         (IsTrue found ↔ (0 < length hits)) →
         IsAnswer options entries (printed ++ end_text options (length hits)) found }

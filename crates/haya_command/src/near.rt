@@ -9,6 +9,30 @@ use strsim::osa_distance;
 // Longer words are like none of these.
 const LONGEST: usize = 40;
 
+// The roles that a place can name.
+const ROLES: &[&str] = &[
+    "translator",
+    "afterword",
+    "foreword",
+    "introduction",
+    "annotator",
+    "commentator",
+    "holder",
+    "compiler",
+    "founder",
+    "collaborator",
+    "organizer",
+    "cast-member",
+    "composer",
+    "producer",
+    "executive-producer",
+    "writer",
+    "cinematography",
+    "director",
+    "illustrator",
+    "narrator",
+];
+
 /// A question that begins with a semicolon: which type is meant by the word. It is empty where none
 /// is near: where nobody writes so, and more than a third of the word's characters has to change.
 pub(crate) fn type_question(alloc: Global, word: &str) -> Result<String, OutOfMemory> {
@@ -31,6 +55,22 @@ pub(crate) fn field_question(alloc: Global, word: &str) -> Result<String, OutOfM
     let mut names = Vec::new(alloc);
     for field in fields {
         names.push(field.as_str())?;
+    }
+    let meant = meant(alloc, word, names.as_slice(), FIELDS)?;
+    question(alloc, meant.as_slice())
+}
+
+/// The same of the fields and the roles that a place can have.
+pub(crate) fn place_question(alloc: Global, word: &str) -> Result<String, OutOfMemory> {
+    let fields: &[FieldName] = &FieldName::ALL;
+    let mut names = Vec::new(alloc);
+    names.push("key")?;
+    names.push("type")?;
+    for field in fields {
+        names.push(field.as_str())?;
+    }
+    for role in ROLES {
+        names.push(*role)?;
     }
     let meant = meant(alloc, word, names.as_slice(), FIELDS)?;
     question(alloc, meant.as_slice())

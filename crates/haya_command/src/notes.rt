@@ -1,5 +1,6 @@
 //! Messages: what is passed over, what is asked for in vain, and faults.
 use crate::fault::Fault;
+use crate::marks::{mark, places_text, test_text};
 use crate::near::type_question;
 use haya_json::{Ignored, Notes};
 use haya_text::OutOfMemory;
@@ -62,6 +63,12 @@ pub(crate) fn fault_text(
             let mark = mark(alloc, column_of(selector, *place), 1)?;
             Ok(format!(in alloc; "haya: {selector}\n      {mark}{fault}\n")?)
         }
+        Fault::Test(text, error) => test_text(alloc, text.as_str(), error),
+        Fault::Places(text, error) => places_text(alloc, text.as_str(), error),
+        Fault::Unbound(text, name) => {
+            let mark = mark(alloc, 0, name.chars().count().max(1))?;
+            Ok(format!(in alloc; "haya: {text}\n      {mark}{fault}\n")?)
+        }
         _ => Ok(format!(in alloc; "haya: {fault}\n")?),
     }
 }
@@ -93,17 +100,4 @@ fn column_of(selector: &str, place: usize) -> usize {
         column = column.saturating_add(1);
     }
     column
-}
-
-// A mark of this length behind so many blanks, and a blank behind it.
-fn mark(alloc: Global, blanks: usize, length: usize) -> Result<String, OutOfMemory> {
-    let mut text = String::new(alloc);
-    for _ in 0..blanks {
-        text.push(' ')?;
-    }
-    for _ in 0..length {
-        text.push('^')?;
-    }
-    text.push(' ')?;
-    Ok(text)
 }

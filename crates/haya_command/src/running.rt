@@ -90,7 +90,7 @@ fn print_answer<W: Write, E: Write>(
 {
     check_selector(alloc, options.selector.as_str())?;
     let Collected { library, told } = read_inputs(alloc, keys, options, inputs)?;
-    let asked = ask(alloc, &library, options);
+    let asked = ask(alloc, keys, &library, options);
     let hint = hint_for(alloc, options, &library, &asked);
     // The process ends with this answer, and gives all memory back at once: entry by entry that
     // takes longer than any selector.

@@ -13,6 +13,9 @@ pub mod Fields
 pub mod Members
 pub mod Items
 pub mod LostMembers
+pub mod ReadOrTold
+pub mod NamesReadOrTold
+pub mod DatesReadOrTold
 pub mod Draft
 pub mod Libraries
 pub mod Told

@@ -4,8 +4,9 @@ use Rattle.json.specs.Json.{Json, Items, no_items, item, array, document}
 use Rattle.json.specs.Strict.{ItemsHaveUniqueKeys}
 use Rattle.json.specs.Token.{Token}
 use Rattle.hayagriva.specs.Library.{push}
+use Rattle.haya_entry.specs.Tree.{Tree}
 use Rattle.haya_json.specs.Fields.{EntryView}
-use Rattle.haya_json.specs.Notes.{all_kept, kept_of, notes_view}
+use Rattle.haya_json.specs.Notes.{NotesView, all_kept, kept_of, notes_view}
 use Rattle.haya_json.specs.Refusal.{IsFaultOf, within, to_item}
 use Rattle.haya_json.specs.Told.{told_of}
 use Rattle.haya_json.specs.declared.error.ReadError.{ReadError}
@@ -54,12 +55,16 @@ TakesItem by j place old new =
     IsMadeBut by (item j left) list place old → IsMadeBut by left list (place + 1) new
 
 -- the entry of an item is pushed, and what is lost of the item is told
-pub record MakesOne (by : ItemKey) (j : Json) (old new : Made) : Type 0 where
+pub record PushesItem (by : ItemKey) (j : Json) (old new : List Tree) (noted notes : NotesView)
+    : Type 0 where
   pub view : EntryView
   pub said : item_said by j ≡ Ok view
-  pub pushed : new.library ≡ push view.entry old.library
-  pub told : notes_view new.notes
-      ≡ all_kept (told_of old.library view) (notes_view old.notes)
+  pub pushed : new ≡ push view.entry old
+  pub told : notes ≡ all_kept (told_of old view) noted
+
+abbrev pub MakesOne : ItemKey → Json → Made → Made → Type 0
+MakesOne by j old new =
+    PushesItem by j old.library new.library (notes_view old.notes) (notes_view new.notes)
 
 -- One more item is taken: its entry is made, or why it is refused is kept. After that nothing is
 -- made.

@@ -151,16 +151,21 @@ abbrev pub beside : List ℕ → List ℕ → Option (List ℕ) → List LostVie
 beside of name None = []
 beside of name (Some part) = part_beside of name ∷ []
 
+-- the same of a part that is true
+abbrev pub true_beside : List ℕ → List ℕ → Bool → List LostView
+true_beside of name is_true = if is_true then part_beside of name ∷ [] else []
+
 -- the institution of a whole name, beside which other parts are lost
 abbrev pub institution : List ℕ → PartsView → SaidView PersonView
 institution of p = record {
   value = option_map whole_name p.parts.literal;
   lost =
-      ((((p.lost ++ beside of (codes "family") p.parts.family)
+      (((((p.lost ++ beside of (codes "family") p.parts.family)
       ++ beside of (codes "given") p.parts.given)
       ++ beside of (codes "suffix") p.parts.suffix)
       ++ beside of (codes "non-dropping-particle") p.parts.non_dropping)
-      ++ beside of (codes "dropping-particle") p.parts.dropping;
+      ++ beside of (codes "dropping-particle") p.parts.dropping)
+      ++ true_beside of (codes "comma-suffix") p.parts.comma_suffix;
 }
 
 -- the family name and the given one, which is the name itself where it is alone
@@ -169,10 +174,10 @@ name_by (Some family) given = Some (family, given)
 name_by None (Some given) = Some (given, None)
 name_by None None = None
 
--- a suffix or a particle without a name is lost
+-- a suffix, its comma or a particle without a name is lost
 abbrev pub nameless : NameView → List LostView
 nameless n =
-    if is_some n.suffix || is_some (particles n.dropping n.non_dropping) then
+    if (is_some n.suffix || is_some (particles n.dropping n.non_dropping)) || n.comma_suffix then
     lost_here (unread Missing) ∷ []
     else []
 

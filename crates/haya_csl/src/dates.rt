@@ -1,5 +1,5 @@
 //! Dates, and what is lost of them.
-ghost use Rattle.std.specs.Prelude.{◌≡◌, ◌++◌, IfOk};
+ghost use Rattle.std.specs.Prelude.{◌≡◌, ◌++◌, IfOk, OnOk};
 ghost use Rattle.json.specs.Value.{members_view, value_view};
 ghost use Rattle.haya_json.specs.Notes.{losts_view};
 ghost use Rattle.haya_json.specs.Parts.{text_in};
@@ -18,14 +18,12 @@ pub(crate) mod texts;
 
 use crate::said::Said;
 use calendar::{any_season, edtf_season, with_season};
-use haya_json::reading::{member, text_in, whole_read};
+use haya_json::reading::{add_in_member, member, text_in, whole_read};
 use haya_json::{Lost, Why};
 use haya_text::OutOfMemory;
 use haya_time::{Date, Season};
 use json::Value;
-use kept::{
-    dated, followed_by, kept, kept_but_named, kept_but_unread, ranged, unknown_member, with_one,
-};
+use kept::{dated, kept, kept_but_named, kept_but_unread, ranged, unknown_member, with_one};
 use parts::read_dates;
 use std::alloc::Global;
 use texts::{date_in, marked, named_season, plain, range_start};
@@ -55,32 +53,34 @@ pub(crate) fn read_date(
 fn read_members(alloc: Global, name: &str, json: &Value<'_>) -> Result<Said<Date>, OutOfMemory>
     ensures { IfOk result (λ said. date_view said ≡ members_said name.now (value_view json.now)) }
 {
-    let said = kept(alloc, None);
-    let said = after_member(alloc, name, json, said, "date-parts")?;
-    let said = after_member(alloc, name, json, said, "raw")?;
-    let said = after_member(alloc, name, json, said, "edtf")?;
-    let said = after_member(alloc, name, json, said, "literal")?;
-    let said = after_member(alloc, name, json, said, "season")?;
-    after_member(alloc, name, json, said, "circa")
+    let mut said = kept(alloc, None);
+    after_member(alloc, name, json, &mut said, "date-parts")?;
+    after_member(alloc, name, json, &mut said, "raw")?;
+    after_member(alloc, name, json, &mut said, "edtf")?;
+    after_member(alloc, name, json, &mut said, "literal")?;
+    after_member(alloc, name, json, &mut said, "season")?;
+    after_member(alloc, name, json, &mut said, "circa")?;
+    Ok(said)
 }
 
-// What is said behind the member of this name, if there is one.
+// Puts what the member of this name says, if there is one, behind what is said so far.
 #[tactic(auto, unfolding(crate::specs::Dates::after_member))]
 fn after_member(
     alloc: Global,
     name: &str,
     json: &Value<'_>,
-    so_far: Said<Date>,
+    so_far: &mut Said<Date>,
     key: &str,
-) -> Result<Said<Date>, OutOfMemory>
-    ensures { IfOk result (λ said. date_view said
-        ≡ after_member name.now (value_view json.now) (date_view so_far) key.now) }
+) -> Result<(), OutOfMemory>
+    ensures { OnOk result (date_view so_far.new
+        ≡ after_member name.now (value_view json.now) (date_view so_far.old) key.now) }
 {
     let Some(value) = member(json, key) else {
-        return Ok(so_far);
+        return Ok(());
     };
-    let said = read_known(alloc, name, key, so_far.value, value)?;
-    followed_by(alloc, key, so_far, said)
+    let Said { value, lost } = read_known(alloc, name, key, so_far.value, value)?;
+    so_far.value = value;
+    add_in_member(alloc, &mut so_far.lost, lost, key)
 }
 
 // The date after the member of this name.

@@ -18,11 +18,12 @@ use haya_people::PersonRole;
 use haya_text::OutOfMemory;
 use json::Value;
 use std::alloc::Global;
+use std::mem::replace;
 
 /// The item's own entry, and each parent that a member of the item went to: none, or one.
 #[derive(Drop)]
 pub(crate) struct Draft {
-    own: Entry,
+    pub(crate) own: Entry,
     host: Vec<Entry>,
     venue: Vec<Entry>,
     series: Vec<Entry>,
@@ -106,14 +107,17 @@ impl Draft {
         }
     }
 
-    /// The item's own entry, with the parents that were made.
-    pub(crate) fn into_entry(self) -> Result<Entry, OutOfMemory>
-        ensures { IfOk result (λ entry. view entry ≡ entry_made (draft_view self)) }
+    /// Gives the item's own entry the parents that were made.
+    pub(crate) fn close(&mut self, alloc: Global) -> Result<(), OutOfMemory>
+        ensures { OnOk result (view self.new.own ≡ entry_made (draft_view self.old)) }
     {
-        let mut own = self.own;
-        let parents = below(self.host, below(self.venue, self.series));
-        own.set_parents(joined(parents, self.original)?);
-        Ok(own)
+        let host = replace(&mut self.host, Vec::new(alloc));
+        let venue = replace(&mut self.venue, Vec::new(alloc));
+        let series = replace(&mut self.series, Vec::new(alloc));
+        let original = replace(&mut self.original, Vec::new(alloc));
+        let parents = below(host, below(venue, series));
+        self.own.set_parents(joined(parents, original)?);
+        Ok(())
     }
 }
 
@@ -184,7 +188,11 @@ fn set_new(
         (setter_of field name.now (value_view item.now) (value_view json.now)
         (new_entry key.now kind)).lost ≡ losts_view lost.items) }
 {
-    let mut entry = Entry::new(alloc, key, kind)?;
+    // By a `match`: a `?` copies the entry twice more.
+    let mut entry = match Entry::new(alloc, key, kind) {
+        Ok(entry) => entry,
+        Err(error) => return Err(error),
+    };
     match set_field(alloc, &mut entry, field, name, item, json) {
         Ok(set) => keep_new(entries, entry, set),
         Err(error) => {

@@ -3,26 +3,35 @@ ghost use Rattle.std.specs.Map.{lookup};
 ghost use Rattle.std.specs.Option.{option_map_or};
 ghost use Rattle.std.specs.Str.{bytes_eq};
 ghost use Rattle.std.specs.Prelude.{◌≡◌, [], Ok, false, option_map, IfErr, IfOk};
+ghost use Rattle.std.specs.Prelude.{OnOk};
 ghost use Rattle.json.specs.Value.{members_view, value_view};
 ghost use Rattle.haya_people.specs.Roles.{role_view};
-ghost use Rattle.haya_json.specs.Notes.{losts_view};
+ghost use Rattle.haya_entry.specs.Tree.{view};
+ghost use Rattle.hayagriva.specs.Library.{push};
+ghost use Rattle.haya_json.specs.Notes.{all_kept, losts_view, notes_view};
 ghost use Rattle.haya_json.specs.Parts.{text_in};
 ghost use Rattle.haya_json.specs.Readings.{reading_view};
 ghost use Rattle.haya_json.specs.Refusal.{IsFaultOf};
+ghost use Rattle.haya_json.specs.Told.{told_of};
 ghost use Rattle.haya_csl.specs.Draft.{draft_view, member_view};
 ghost use Rattle.haya_csl.specs.Items.{citation_key_lost, is_place_again, item_of, item_said};
-ghost use Rattle.haya_csl.specs.Items.{item_under, later_roles, members_set, only_lost, placed};
+ghost use Rattle.haya_csl.specs.Items.{item_made, item_under, later_roles, members_set};
+ghost use Rattle.haya_csl.specs.Items.{only_lost, placed};
 ghost use Rattle.haya_csl.specs.Items.{role_of, text_lost, type_lost, with_field, with_member};
+ghost use Rattle.haya_csl.specs.Made.{PushesItem};
 
 use crate::draft::Draft;
 use crate::item_key::{ItemKey, item_key};
 use crate::kinds::{Kind, has, is_empty, kind_named, kind_of, text_at};
 use crate::members::{Choice, Place, beside, place_of};
 use haya_entry::Entry;
-use haya_json::reading::{Fault, Reading, add_in_member, only_named, only_unread, text_in};
-use haya_json::{Lost, Why};
+use haya_json::reading::{
+    Fault, Reading, add_in_member, only_named, only_unread, push_reading, text_in,
+};
+use haya_json::{Lost, Notes, Why};
 use haya_people::PersonRole;
 use haya_text::OutOfMemory;
+use hayagriva::Library;
 use json::Value;
 use std::alloc::Global;
 
@@ -39,34 +48,100 @@ pub(crate) fn read_item(alloc: Global, by: ItemKey, item: &Value<'_>) -> Result<
         Ok(key) => key,
         Err(fault) => return Err(fault),
     };
-    match read_under(alloc, by, key, item, members) {
-        Ok(read) => Ok(read),
+    let kind = kind_of(item);
+    let mut draft = match Entry::new(alloc, key, kind.entry) {
+        Ok(own) => Draft::new(alloc, own),
+        Err(_) => return Err(Fault::OutOfMemory),
+    };
+    match fill(alloc, &mut draft, by, kind, key, item, members) {
+        Ok(lost) => Ok(Reading {
+            entry: draft.own,
+            lost,
+        }),
+        Err(_) => {
+            drop(draft);
+            Err(Fault::OutOfMemory)
+        }
+    }
+}
+
+/// Puts the entry that an item says into the library, and tells what is lost of the item. It is
+/// made where it is filled, and moved once.
+pub(crate) fn push_item(
+    alloc: Global,
+    by: ItemKey,
+    item: &Value<'_>,
+    library: &mut Library,
+    notes: &mut Notes,
+) -> Result<(), Fault>
+    ensures ok { OnOk result (PushesItem by (value_view item.now) library.old library.new
+        (notes_view notes.old) (notes_view notes.new)) }
+    ensures fault { IfErr result (IsFaultOf (item_of by (value_view item.now))) }
+{
+    let Value::Object(members) = item else {
+        return Err(Fault::refused(alloc, Why::NotObject));
+    };
+    let key = match item_key(alloc, by, item) {
+        Ok(key) => key,
+        Err(fault) => return Err(fault),
+    };
+    match push_under(alloc, by, key, item, members, library, notes) {
+        Ok(()) => Ok(()),
         Err(_) => Err(Fault::OutOfMemory),
     }
 }
 
-// What an item says under this key.
-fn read_under(
+// The same under this key.
+fn push_under(
     alloc: Global,
     by: ItemKey,
     key: &str,
     item: &Value<'_>,
     members: &Vec<(&str, Value<'_>)>,
-) -> Result<Reading, OutOfMemory>
-    ensures { IfOk result (λ read. item_under by key.now (value_view item.now)
-        (members_view members.now.items) ≡ reading_view read) }
+    library: &mut Library,
+    notes: &mut Notes,
+) -> Result<(), OutOfMemory>
+    ensures pushed { OnOk result (library.new ≡ push (item_under by key.now (value_view item.now)
+        (members_view members.now.items)).entry library.old) }
+    ensures told { OnOk result (notes_view notes.new ≡ all_kept (told_of library.old
+        (item_under by key.now (value_view item.now) (members_view members.now.items)))
+        (notes_view notes.old)) }
 {
     let kind = kind_of(item);
-    let mut draft = Draft::new(alloc, Entry::new(alloc, key, kind.entry)?);
-    let lost = match set_members(alloc, &mut draft, by, kind, key, item, members) {
-        Ok(lost) => lost,
+    let mut draft = match Entry::new(alloc, key, kind.entry) {
+        Ok(own) => Draft::new(alloc, own),
+        Err(error) => return Err(error),
+    };
+    match fill(alloc, &mut draft, by, kind, key, item, members) {
+        Ok(lost) => {
+            let entry = draft.own;
+            push_reading(alloc, library, notes, Reading { entry, lost })
+        }
         Err(error) => {
             drop(draft);
-            return Err(error);
+            Err(error)
         }
-    };
-    match draft.into_entry() {
-        Ok(entry) => Ok(Reading { entry, lost }),
+    }
+}
+
+// Sets the members in turn, and then the parents that they made; answers what is lost of them.
+fn fill(
+    alloc: Global,
+    draft: &mut Draft,
+    by: ItemKey,
+    kind: Kind,
+    key: &str,
+    item: &Value<'_>,
+    members: &Vec<(&str, Value<'_>)>,
+) -> Result<Vec<Lost>, OutOfMemory>
+    ensures { IfOk result (λ lost.
+        item_made (members_set by kind key.now (value_view item.now)
+        (members_view members.now.items) (only_lost [] (draft_view draft.old)))
+        ≡ record { entry = view draft.new.own; lost = losts_view lost.items }) }
+{
+    let lost = set_members(alloc, draft, by, kind, key, item, members)?;
+    match draft.close(alloc) {
+        Ok(()) => Ok(lost),
         Err(error) => {
             drop(lost);
             Err(error)

@@ -2,17 +2,24 @@
 //! caller's proof.
 ghost use Rattle.std.specs.Prelude.{◌≡◌, ℕ, List, Err, Ok, Some};
 ghost use Rattle.std.specs.List.{Contains};
-ghost use Rattle.json.specs.Json.{Items, Json, Members, array, document, object};
+ghost use Rattle.json.specs.Find.{get_item, get_member};
+ghost use Rattle.json.specs.Json.{Items, Json, Members, array, document, member, no_members};
+ghost use Rattle.json.specs.Json.{object};
+ghost use Rattle.haya_people.specs.Person.{PersonView};
 ghost use Rattle.haya_entry.specs.Tree.{Tree};
 ghost use Rattle.hayagriva.specs.Library.{AreDistinct, from_entries};
 ghost use Rattle.haya_json.specs.Fields.{EntryView};
 ghost use Rattle.haya_json.specs.LostMembers.{HasMember};
-ghost use Rattle.haya_json.specs.Notes.{NotesView};
+ghost use Rattle.haya_json.specs.Notes.{LostView, NotesView};
 ghost use Rattle.haya_json.specs.Refusal.{Refusal};
+ghost use Rattle.haya_csl.specs.DatesReadOrTold.{DatePartIsReadOrTold};
 ghost use Rattle.haya_csl.specs.ItemLines.{LinesList, Lists};
-ghost use Rattle.haya_csl.specs.Items.{item_said};
+ghost use Rattle.haya_csl.specs.Items.{item_key, item_said};
 ghost use Rattle.haya_csl.specs.Libraries.{DescribesAsCsl, csl_library_of};
 ghost use Rattle.haya_csl.specs.LostMembers.{lost_as, told_as};
+ghost use Rattle.haya_csl.specs.Names.{name_said};
+ghost use Rattle.haya_csl.specs.NamesReadOrTold.{IsAmong, PartIsReadOrTold, TellsAt};
+ghost use Rattle.haya_csl.specs.ReadOrTold.{IsReadOrTold, entries_after, joined};
 ghost use Rattle.haya_csl.specs.Refused.{RefusesLibrary};
 ghost use Rattle.haya_csl.specs.Told.{TellsAsCsl};
 ghost use Rattle.haya_csl.specs.declared.item_key.ItemKey.{ItemKey};
@@ -54,6 +61,40 @@ pub fn lost_members_are_told()
         (told : List ℕ) →
         item_said by (object ms) ≡ Ok said → HasMember ms name j →
         told_as (object ms) name j ≡ Some told → Contains said.lost (lost_as name told) }
+{}
+
+/// Each member of an item that is read is as if it weren't there, or is the item's key or type, or
+/// right after it the entry that it goes to has what it says, or it is told under its name.
+pub fn members_are_read_or_told()
+    ensures { (by : ItemKey) (first behind : Members) (name : List ℕ) (j : Json) (key : List ℕ)
+        (said : EntryView) →
+        let item = object (joined first (member name j behind)) in
+        let after = entries_after by key item (joined first (member name j no_members)) in
+        item_key by item ≡ Ok key → item_said by item ≡ Ok said →
+        IsReadOrTold by name item j after said.lost }
+{}
+
+/// Each member of a name, the last of its name, is as if it weren't there, or the person has what
+/// it says, or it is told under its name.
+pub fn parts_are_read_or_told()
+    ensures { (of : List ℕ) (ms : Members) (name : List ℕ) (j : Json) →
+        get_member name ms ≡ Some j → PartIsReadOrTold of ms name j }
+{}
+
+/// The person whom a name of a list says is among the persons of the list, and what is lost of the
+/// name is told at its place.
+pub fn names_are_read_or_told()
+    ensures person { (of : List ℕ) (js : Items) (n : ℕ) (j : Json) (p : PersonView) →
+        get_item n js ≡ Some j → (name_said of j).value ≡ Some p → IsAmong of js p }
+    ensures lost { (of : List ℕ) (js : Items) (n : ℕ) (j : Json) (x : LostView) →
+        get_item n js ≡ Some j → Contains (name_said of j).lost x → TellsAt of js n x }
+{}
+
+/// Each member of a date, the last of its name, is as if it weren't there, or the date has what it
+/// says, or it is told under its name.
+pub fn date_parts_are_read_or_told()
+    ensures { (of : List ℕ) (ms : Members) (name : List ℕ) (j : Json) →
+        get_member name ms ≡ Some j → DatePartIsReadOrTold of ms name j }
 {}
 
 /// No value of an item refuses a library but its key: a library is refused that has no list of

@@ -1,5 +1,5 @@
 //! Texts with CSL's markup: its tags are taken out, and what is to keep its case is verbatim.
-ghost use Rattle.std.specs.Prelude.{◌≡◌, ◌+◌, ◌≤◌, ◌<◌, ◌^◌, IfOk, OnOk, option_map};
+ghost use Rattle.std.specs.Prelude.{◌≡◌, ◌+◌, ◌≤◌, ◌<◌, ◌^◌, [], IfOk, OnOk, option_map};
 ghost use Rattle.std.specs.Prelude.{string_bytes};
 ghost use Rattle.haya_text.specs.Chunks.{chunks};
 ghost use Rattle.haya_text.specs.Printing.{text_display};
@@ -7,7 +7,7 @@ ghost use Rattle.haya_csl.specs.Markup.{behind_tag, cut, kind_in, markup_read, o
 ghost use Rattle.haya_csl.specs.Markup.{tag_of, taken};
 ghost use Rattle.haya_csl.specs.Reader.{reader_view};
 
-use haya_text::{ChunkKind, ChunkedString, OutOfMemory};
+use haya_text::{ChunkKind, ChunkedString, OutOfMemory, StringChunk};
 use std::alloc::Global;
 
 /// A tag of CSL's markup.
@@ -34,13 +34,12 @@ struct Reader {
 pub(crate) fn read_markup(alloc: Global, text: &str) -> Result<ChunkedString, OutOfMemory>
     ensures { IfOk result (λ cs. chunks cs ≡ markup_read text.now) }
 {
+    let Some((plain, pieces)) = cut(text, '<') else {
+        return unmarked(alloc, text);
+    };
     let mut reader = Reader {
         depth: 0,
         read: ChunkedString::new(alloc),
-    };
-    let Some((plain, pieces)) = cut(text, '<') else {
-        reader.push(text)?;
-        return Ok(reader.read);
     };
     reader.push(plain)?;
     let mut rest = pieces;
@@ -50,6 +49,18 @@ pub(crate) fn read_markup(alloc: Global, text: &str) -> Result<ChunkedString, Ou
     }
     reader.take(rest)?;
     Ok(reader.read)
+}
+
+// A text without markup: one chunk, or none where it is empty.
+fn unmarked(alloc: Global, text: &str) -> Result<ChunkedString, OutOfMemory>
+    ensures { IfOk result (λ cs.
+        chunks cs ≡ (pushed text.now (record { depth = 0; read = [] })).read) }
+{
+    if text.is_empty() {
+        return Ok(ChunkedString::new(alloc));
+    }
+    let chunk = StringChunk::normal(String::from_str(alloc, text)?);
+    Ok(ChunkedString(vec![in alloc; chunk]?))
 }
 
 /// What is shown of a text without its markup.

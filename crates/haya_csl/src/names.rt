@@ -10,7 +10,8 @@ ghost use Rattle.haya_csl.specs.Names.{alone, beside, beside_text, institution, 
 ghost use Rattle.haya_csl.specs.Names.{lost_in, lost_part, name_by, name_said, names_said};
 ghost use Rattle.haya_csl.specs.Names.{no_parts, part_beside, part_said, particles, parts_set};
 ghost use Rattle.haya_csl.specs.Names.{person, person_before, person_of_parts, persons_in};
-ghost use Rattle.haya_csl.specs.Names.{truth_said, whole_name, with_lost, with_named_part};
+ghost use Rattle.haya_csl.specs.Names.{true_beside, truth_said, whole_name, with_lost};
+ghost use Rattle.haya_csl.specs.Names.{with_named_part};
 ghost use Rattle.haya_csl.specs.Names.{with_part};
 ghost use Rattle.haya_csl.specs.Said.{said_view};
 ghost use Rattle.haya_csl.specs.Texts.{said_as, says_some};
@@ -325,7 +326,7 @@ fn institution(alloc: Global, of: &str, parts: NameParts) -> Result<Said<Person>
         non_dropping,
         dropping,
         literal,
-        comma_suffix: _,
+        comma_suffix,
         mut lost,
     } = parts;
     lose_beside(alloc, &mut lost, of, "family", family)?;
@@ -333,6 +334,7 @@ fn institution(alloc: Global, of: &str, parts: NameParts) -> Result<Said<Person>
     lose_beside(alloc, &mut lost, of, "suffix", suffix)?;
     lose_beside(alloc, &mut lost, of, "non-dropping-particle", non_dropping)?;
     lose_beside(alloc, &mut lost, of, "dropping-particle", dropping)?;
+    lose_true(alloc, &mut lost, of, "comma-suffix", comma_suffix)?;
     Ok(Said {
         value: literal.map(whole_name),
         lost,
@@ -358,6 +360,23 @@ fn lose_beside(
         }
         None => Ok(()),
     }
+}
+
+// Loses a part beside a whole name, if it is true.
+fn lose_true(
+    alloc: Global,
+    lost: &mut Vec<Lost>,
+    of: &str,
+    name: &str,
+    is_true: bool,
+) -> Result<(), OutOfMemory>
+    ensures { OnOk result (losts_view lost.new.items
+        ≡ losts_view lost.old.items ++ true_beside of.now name.now is_true) }
+{
+    if is_true {
+        lost.push(part_beside(alloc, of, name)?)?;
+    }
+    Ok(())
 }
 
 // What is lost where a part is beside a whole name.
@@ -410,7 +429,7 @@ fn person(alloc: Global, parts: NameParts, json: &Value<'_>) -> Result<Said<Pers
     } = parts;
     let prefix = join_particles(dropping, non_dropping)?;
     let Some((name, given_name)) = name_by(family, given) else {
-        if suffix.is_some() || prefix.is_some() {
+        if suffix.is_some() || prefix.is_some() || comma_suffix {
             lost.push(Lost::unread(alloc, Why::Missing, json)?)?;
         }
         return Ok(Said { value: None, lost });

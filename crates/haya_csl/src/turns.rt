@@ -12,10 +12,8 @@ ghost use Rattle.haya_csl.specs.Told.{TellsAsCsl};
 ghost use Rattle.haya_csl.specs.Turns.{first_and_left, items_left};
 
 use crate::item_key::ItemKey;
-use crate::items::read_item;
-use haya_json::reading::{
-    ELEMENT_DEPTH, Fault, has_unique_names, name_twice, not_json, push_reading,
-};
+use crate::items::push_item;
+use haya_json::reading::{ELEMENT_DEPTH, Fault, has_unique_names, name_twice, not_json};
 use haya_json::{Notes, ReadError};
 use haya_text::OutOfMemory;
 use hayagriva::{HashKeys, Library};
@@ -199,8 +197,8 @@ impl Made {
         if self.fault.is_some() {
             return Ok(());
         }
-        match read_item(alloc, by, item) {
-            Ok(read) => push_reading(alloc, &mut self.library, &mut self.notes, read),
+        match push_item(alloc, by, item, &mut self.library, &mut self.notes) {
+            Ok(()) => Ok(()),
             Err(fault) => self.refuse(fault.in_item(place)),
         }
     }

@@ -3,6 +3,7 @@ mod ignored;
 mod limits;
 mod lines;
 mod member_lines;
+mod reads_back;
 mod refused;
 mod rows;
 mod shown;

@@ -7,6 +7,8 @@ mod csl;
 #[cfg(test)]
 mod elements;
 #[cfg(test)]
+mod flushes;
+#[cfg(test)]
 mod json;
 #[cfg(test)]
 mod notes;

@@ -1,4 +1,5 @@
 //! Rows: whole runs of the command.
+use haya_asked::Questions;
 use haya_command::{Form, Format, Input, Options, run};
 use haya_csl::ItemKey;
 use hayagriva::HashKeys;
@@ -6,7 +7,7 @@ use std::io;
 use std::io::Write;
 use std::process::Abort;
 
-const LINES: (&str, &str) = (
+pub(crate) const LINES: (&str, &str) = (
     "a.tsv",
     "0\tx\tarticle\tdoi=1\n1\tj\tperiodical\n0\ty\tbook\n",
 );
@@ -91,8 +92,8 @@ const LATER_TYPE_FAULT: &str = "haya: artcle:* > artcle\n                 \
 
 const NAME_NOTE: &str = "haya: no entry has `isnb`; did you mean `isbn`?\n";
 
-// What is asked.
-fn options(rt: &(impl Abort + AllocGlobal), selector: &str, letters: &str) -> Options {
+/// What is asked.
+pub(crate) fn options(rt: &(impl Abort + AllocGlobal), selector: &str, letters: &str) -> Options {
     Options {
         selector: String::from_str(rt.alloc(), selector).expect(rt, "memory"),
         from: letters.contains('f').then_some(Format::Lines),
@@ -106,6 +107,8 @@ fn options(rt: &(impl Abort + AllocGlobal), selector: &str, letters: &str) -> Op
         } else {
             Form::Keys
         },
+        questions: Questions::none(rt.alloc()),
+        columns: None,
         count: letters.contains('c'),
         quiet: letters.contains('q'),
         invert: letters.contains('i'),
@@ -115,8 +118,8 @@ fn options(rt: &(impl Abort + AllocGlobal), selector: &str, letters: &str) -> Op
     }
 }
 
-// The inputs of these names and texts.
-fn inputs(rt: &(impl Abort + AllocGlobal), given: &[(&str, &str)]) -> Vec<Input> {
+/// The inputs of these names and texts.
+pub(crate) fn inputs(rt: &(impl Abort + AllocGlobal), given: &[(&str, &str)]) -> Vec<Input> {
     let mut inputs = Vec::new(rt.alloc());
     for (name, text) in given {
         let input = Input {

@@ -1,4 +1,5 @@
 //! Rows: what is asked of an input whose reader fails.
+use haya_asked::Questions;
 use haya_command::{
     Asker, Fault, Form, Format, Options, ask_csl_json, ask_hayagriva, ask_json_lines, ask_lines,
 };
@@ -81,6 +82,8 @@ fn options(rt: &(impl Abort + AllocGlobal)) -> Options {
         from: None,
         key: ItemKey::CitationKey,
         to: Form::Keys,
+        questions: Questions::none(rt.alloc()),
+        columns: None,
         count: false,
         quiet: false,
         invert: false,

@@ -1,8 +1,9 @@
 //! What is asked of the hits of a library.
 use crate::Question;
 use crate::fault::Fault;
+use haya_asked::{duplicate_hits, parse_places, parse_sort_keys, unique_hits};
 use haya_input::read_library;
-use haya_questions::{Place, PlaceError, SortKey, Table, Test, columns_text, sort_hits, values};
+use haya_questions::{Place, SortKey, Table, Test, columns_text, sort_hits, values};
 use hayagriva::{HashKeys, Hit, Library, Steps};
 use std::alloc::Global;
 use std::fmt;
@@ -64,6 +65,8 @@ fn push_answer(
         "where" => push_where(alloc, hits.as_slice(), words, said),
         "values" => push_values(alloc, hits.as_slice(), words, said),
         "sort" => push_sorted(alloc, hits, words, said),
+        "unique" => push_left(alloc, hits, words, true, said),
+        "duplicates" => push_left(alloc, hits, words, false, said),
         "columns-csv" => push_table(alloc, hits.as_slice(), words, (Table::Csv, true), said),
         "columns-tsv" => push_table(alloc, hits.as_slice(), words, (Table::Tsv, true), said),
         "rows-csv" => push_table(alloc, hits.as_slice(), words, (Table::Csv, false), said),
@@ -111,11 +114,34 @@ fn push_values(alloc: Global, hits: &[Hit], words: &str, said: &mut String) -> R
 
 // The keys of the hits in order.
 fn push_sorted(alloc: Global, hits: Vec<Hit>, words: &str, said: &mut String) -> Result<(), Fault> {
-    let Some(keys) = read(sort_keys(alloc, words), said)? else {
+    let Some(keys) = read(parse_sort_keys(alloc, words), said)? else {
         return Ok(());
     };
     let sorted = sort_hits(alloc, hits, keys.as_slice())?;
     for hit in sorted.as_slice() {
+        push_key(hit, said)?;
+    }
+    Ok(())
+}
+
+// The keys of the hits that are left of those that share values.
+fn push_left(
+    alloc: Global,
+    hits: Vec<Hit>,
+    words: &str,
+    is_unique: bool,
+    said: &mut String,
+) -> Result<(), Fault> {
+    let Some(places) = read(parse_places(alloc, words), said)? else {
+        return Ok(());
+    };
+    let keys = HashKeys::new(3, 4);
+    let left = if is_unique {
+        unique_hits(alloc, keys, hits, places.as_slice())?
+    } else {
+        duplicate_hits(alloc, keys, hits, places.as_slice())?
+    };
+    for hit in left.as_slice() {
         push_key(hit, said)?;
     }
     Ok(())
@@ -129,32 +155,11 @@ fn push_table(
     form: (Table, bool),
     said: &mut String,
 ) -> Result<(), Fault> {
-    let Some(places) = read(places(alloc, words), said)? else {
+    let Some(places) = read(parse_places(alloc, words), said)? else {
         return Ok(());
     };
     let (table, has_header) = form;
     let text = columns_text(alloc, hits, places.as_slice(), table, has_header)?;
     said.push_str(text.as_str())?;
     Ok(())
-}
-
-// The places between commas.
-fn places(alloc: Global, words: &str) -> Result<Vec<Place>, PlaceError> {
-    let mut places = Vec::new(alloc);
-    for word in words.split(',') {
-        places
-            .push(Place::parse(alloc, word)?)
-            .map_err(|_| PlaceError::OutOfMemory)?;
-    }
-    Ok(places)
-}
-
-// The keys between commas.
-fn sort_keys(alloc: Global, words: &str) -> Result<Vec<SortKey>, PlaceError> {
-    let mut keys = Vec::new(alloc);
-    for word in words.split(',') {
-        keys.push(SortKey::parse(alloc, word)?)
-            .map_err(|_| PlaceError::OutOfMemory)?;
-    }
-    Ok(keys)
 }

@@ -1,11 +1,10 @@
 //! A date so far, and what is lost of it.
 ghost use Rattle.std.specs.Prelude.{◌≡◌, ◌++◌, ◌∷◌, [], IfOk, string_bytes};
 ghost use Rattle.haya_json.specs.Notes.{lost_here, lost_view, losts_view, named, unread};
-ghost use Rattle.haya_csl.specs.Dates.{date_view, dated, followed_by, keeps, keeps_but};
+ghost use Rattle.haya_csl.specs.Dates.{date_view, dated, keeps, keeps_but};
 ghost use Rattle.haya_csl.specs.Dates.{range_end, ranged, unknown_name};
 
 use crate::said::Said;
-use haya_json::reading::add_in_member;
 use haya_json::{Lost, Why};
 use haya_text::OutOfMemory;
 use haya_time::Date;
@@ -116,20 +115,4 @@ pub(crate) fn with_one(lost: Vec<Lost>, more: Lost) -> Result<Vec<Lost>, OutOfMe
         Ok(()) => Ok(all),
         Err(_) => Err(OutOfMemory),
     }
-}
-
-/// What a member says behind what is said so far.
-pub(crate) fn followed_by(
-    alloc: Global,
-    key: &str,
-    so_far: Said<Date>,
-    said: Said<Date>,
-) -> Result<Said<Date>, OutOfMemory>
-    ensures { IfOk result (λ all.
-        date_view all ≡ followed_by key.now (date_view so_far) (date_view said)) }
-{
-    let Said { value, lost } = said;
-    let mut all = so_far.lost;
-    add_in_member(alloc, &mut all, lost, key)?;
-    Ok(Said { value, lost: all })
 }
