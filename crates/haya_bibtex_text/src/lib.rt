@@ -1,4 +1,11 @@
 //! The grammar of `.bib` files: the entries of a text, with their fields as texts.
+//!
+//! ```
+//! let read = read_bibliography(alloc, "@book{b, title = {A} # { B}, year = 1999}")?;
+//! for entry in &read.entries {
+//!     println!(rt; "{} has {} fields", entry.key, entry.fields.len())?;
+//! }
+//! ```
 #![tactic(auto)]
 
 mod blanks;

@@ -1,4 +1,9 @@
 //! Libraries in CSL-JSON, as reference managers export them.
+//!
+//! ```
+//! let (library, notes) = read_csl_json(alloc, ItemKey::CitationKey, text)?;
+//! println!(rt; "{} entries", library.len())?;
+//! ```
 #![tactic(auto)]
 
 mod dates;

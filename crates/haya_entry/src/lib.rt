@@ -1,4 +1,12 @@
 //! Entries of a literature library: trees of works with their fields.
+//!
+//! ```
+//! let mut article = Entry::new(alloc, "klein2009", EntryType::Article)?;
+//! article.set_title(FormatString::with_value(alloc, title)?);
+//! article.parents.push(journal)?;
+//! let date = article.date_any();            // its own, or that of the nearest ancestor with one
+//! let url = article.map(|entry| entry.url());
+//! ```
 #![tactic(auto)]
 
 mod entry;

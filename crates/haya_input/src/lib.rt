@@ -1,4 +1,9 @@
 //! A library from its text: a line an entry, and behind it its parents, one level deeper.
+//!
+//! ```
+//! let library = read_library(alloc, HashKeys::random(&rt)?, text)?;
+//! println!(rt; "{} entries", library.len())?;
+//! ```
 #![tactic(auto)]
 
 mod fault;

@@ -1,4 +1,10 @@
 //! Libraries in JSON: hayagriva's own file format.
+//!
+//! ```
+//! let (library, notes) = read_library(alloc, text)?;
+//! println!(rt; "{} entries", library.len())?;
+//! let json = to_json_pretty(alloc, &library)?;
+//! ```
 #![tactic(auto)]
 
 mod alone;

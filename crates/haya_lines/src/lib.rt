@@ -1,5 +1,10 @@
 //! Entries from lines of text: a depth, a key, a type, and fields `name=value`, with a tab between
 //! two.
+//!
+//! ```
+//! let (depth, entry) = read_line(alloc, "0\tklein\tbook\ttitle=Trees", 0)?;
+//! println!(rt; "{depth} {}", entry.key())?;
+//! ```
 #![tactic(auto)]
 
 mod fault;

@@ -1,4 +1,10 @@
 //! Names of the people of a literature library: their parts, forms and orders.
+//!
+//! ```
+//! let person = Person::from_str(alloc, "van der Kooy, Jr., Ruben")?;
+//! let listed = person.name_first(alloc, true, false)?;
+//! let signed = person.given_first(alloc, false)?;
+//! ```
 #![tactic(auto)]
 
 mod first_name;

@@ -1,4 +1,10 @@
 //! Entries printed as lines of text, as `haya_input` reads them.
+//!
+//! ```
+//! let lines = entry_lines(alloc, entry)?;   // or which value lines can't say
+//! let printable = printable_lines(alloc, entry)?;
+//! println!(rt; "{}", printable.text)?;      // the same, with what was left out told
+//! ```
 #![tactic(auto)]
 
 mod error;

@@ -1,5 +1,12 @@
 //! Questions of values over hits: the values at a place of a hit, tests that hits have to pass,
 //! hits in order, and tables of them.
+//!
+//! ```
+//! let test = Test::parse(alloc, "date >= 2010")?;
+//! if test.holds(alloc, hit)? {
+//!     let titles = values(alloc, hit, &Place::parse(alloc, "p.title")?)?;
+//! }
+//! ```
 #![tactic(auto)]
 
 mod at_place;

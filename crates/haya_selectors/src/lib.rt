@@ -1,4 +1,11 @@
 //! Selectors: which entries are meant, and what their parts are called.
+//!
+//! ```
+//! let selector = Selector::parse(alloc, "article[doi] > p:periodical")?;
+//! if selector.matches(alloc, entry)? {
+//!     let journal = selector.bound(alloc, entry, "p")?;
+//! }
+//! ```
 #![tactic(auto)]
 
 mod apply;

@@ -1,5 +1,12 @@
 //! Texts of a literature library: what the readers of values share, and copies that may run out of
 //! memory.
+//!
+//! ```
+//! let title = ChunkedString::from_str(alloc, "The {DNA} of $x^2$")?;
+//! let shown = title.to_str(alloc)?;         // The DNA of x^2
+//! let text = title.to_serialized(alloc)?;   // The {DNA} of $x^2$
+//! let field = FormatString::with_value(alloc, text)?;
+//! ```
 #![tactic(auto)]
 
 pub mod chars;

@@ -1,4 +1,11 @@
 //! Values that are typed or a text, addresses on the web, publishers, and one or many of a value.
+//!
+//! ```
+//! let volume = MaybeTyped::<Numeric>::from_str(alloc, "Spring")?;
+//! let number = volume.as_typed();           // none: a text
+//! let url = QualifiedUrl::new(address, None);
+//! let publisher = Publisher::new(Some(name), None);
+//! ```
 #![tactic(auto)]
 
 pub mod laws;

@@ -1,4 +1,9 @@
 //! YAML, read to JSON.
+//!
+//! ```
+//! let json = to_json(alloc, "title: On Trees\npages: 12\n")?;
+//! // {"title":"On Trees","pages":12}
+//! ```
 #![tactic(auto)]
 
 mod block;

@@ -1,4 +1,9 @@
 //! Libraries in YAML: hayagriva's own file format, as people write it.
+//!
+//! ```
+//! let (library, notes) = read_yaml(alloc, text)?;
+//! let yaml = to_yaml(alloc, json)?;         // of what haya_json::to_json prints
+//! ```
 #![tactic(auto)]
 
 mod block_style;

@@ -1,4 +1,12 @@
 //! A literature library, and queries that pick its entries by selectors.
+//!
+//! ```
+//! let mut library = Library::with_hash_keys(alloc, HashKeys::random(&rt)?);
+//! library.insert(entry)?;
+//! for hit in library.query(alloc, "article > p:periodical", &mut Steps::new())? {
+//!     println!(rt; "{}", hit.entry.key())?;
+//! }
+//! ```
 #![tactic(auto)]
 
 mod hash_keys;
