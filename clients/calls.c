@@ -3,6 +3,7 @@
 #include "hayagriva.h"
 
 #include <stdio.h>
+#include <stdlib.h>
 #include <string.h>
 
 static int passed, failed;
@@ -12,17 +13,17 @@ static void is(bool holds, const char *what) {
         passed++;
     } else {
         failed++;
-        printf("FAILED  %s\n", what);
+        printf("FAILED  %.80s\n", what);
     }
 }
 
-#define BYTES(words) (const uint8_t *)(words), strlen(words)
+#define TEXT(words) (words), strlen(words)
 
 static bool says(haya_text text, const char *words) {
-    return text.len == strlen(words) && memcmp(text.at, words, text.len) == 0;
+    return text.len == strlen(words) && (text.len == 0 || memcmp(text.at, words, text.len) == 0);
 }
 
-static bool shows(const uint8_t *room, size_t len, const char *words) {
+static bool shows(const char *room, size_t len, const char *words) {
     return len == strlen(words) && memcmp(room, words, len) == 0;
 }
 
@@ -31,272 +32,374 @@ static const char *const lines =
     "page-range=319-349\tdoi=10.1145/24039.24041\taffiliated=holder:Kwan, Kevin\n"
     "1\ttoplas\tperiodical\tissue=3\tvolume=the ninth\tpublisher=ACM\turl=https://acm.org\n"
     "2\tgroup\tmisc\truntime=04:33\n"
+    "1\tother\tblog\n"
     "0\tfeminism\tarticle\tlanguage=en\n"
     "1\taeon\tblog\n";
 
-/* Reads and asks; the codes must be these. */
-static void refused(const char *text, size_t len, const char *selector, size_t selector_len, uint32_t library_code, size_t line,
-                    uint32_t hits_code, const char *what) {
-    haya_library library = HAYA_NO_LIBRARY_YET;
-    haya_hits hits = HAYA_NO_HITS_YET;
-    haya_library_read((const uint8_t *)text, len, 1, 2, &library);
-    haya_library_query(&library, (const uint8_t *)selector, selector_len, &hits);
-    is(library.code == library_code && library.line == line && hits.code == hits_code, what);
-    haya_query query = HAYA_NO_QUERY_YET;
-    haya_query_start((const uint8_t *)selector, selector_len, &query);
-    is(library_code != HAYA_DONE || query.code == hits_code, what);
-    haya_query_free(&query);
-    haya_library_free(&library);
-    haya_hits_free(&hits);
+static haya_library *library_of(const char *text, uint32_t format) {
+    haya_library *library = NULL;
+    haya_fault fault = HAYA_NO_FAULT;
+    is(haya_library_read(TEXT(text), format, 1, 2, &library, &fault) == HAYA_OK && library != NULL && fault.words == NULL, text);
+    return library;
 }
 
-#define LINE(text, code, line) refused(text, strlen(text), "*", 1, code, line, HAYA_NO_LIBRARY, text)
-#define SELECTOR(selector, code) refused(lines, strlen(lines), selector, strlen(selector), HAYA_DONE, 0, code, selector)
-
-static void faults(void) {
-    LINE("0\ta", HAYA_LINE_SHAPE, 1);
-    LINE("\n1\ta\tbook", HAYA_LINE_DEPTH, 2);
-    LINE("0\ta\tboook", HAYA_LINE_TYPE, 1);
-    LINE("0\ta\tbook\n0\ta\tbook\ttitel=x", HAYA_LINE_FIELD, 2);
-    LINE("0\ta\tbook\tdate=then", HAYA_LINE_VALUE, 1);
-    LINE("\xff", HAYA_NOT_TEXT, 0);
-    /* A character that is cut off. */
-    LINE("0\ta\tbook\ttitle=\xe2\x80", HAYA_NOT_TEXT, 0);
-    LINE("0\ta\tbook\ttitle=\xed\xa0\x80", HAYA_NOT_TEXT, 0);
-    SELECTOR("", HAYA_MISSING_VALUE);
-    SELECTOR("* >", HAYA_MISSING_VALUE);
-    SELECTOR("*[1", HAYA_MALFORMED_ATTRIBUTE);
-    SELECTOR("book[doi", HAYA_MISSING_COMMA);
-    SELECTOR("(book", HAYA_UNBALANCED_PARENTHESES);
-    SELECTOR("boook", HAYA_UNKNOWN_TYPE);
-    SELECTOR("book\xe2\x80", HAYA_NOT_TEXT);
-    SELECTOR("*", HAYA_DONE);
-    /* A 0 byte is a byte as any other. */
-    refused(lines, strlen(lines), "\0*", 2, HAYA_DONE, 0, HAYA_MISSING_VALUE, "a 0 byte before a selector");
-    refused("0\ta\0b\tbook", 10, "*", 1, HAYA_DONE, 0, HAYA_DONE, "a 0 byte in a key");
-    /* Nothing to read. */
-    refused("", 0, "*", 1, HAYA_DONE, 0, HAYA_DONE, "empty input");
-    refused("\n\n", 2, "book", 4, HAYA_DONE, 0, HAYA_DONE, "empty lines");
+static haya_selector *selector_of(const char *text) {
+    haya_selector *selector = NULL;
+    haya_fault fault = HAYA_NO_FAULT;
+    size_t used = 0;
+    is(haya_selector_read(TEXT(text), &used, &selector, &fault) == HAYA_OK && used > 0 && fault.code == 0, text);
+    return selector;
 }
 
-/* Where selectors end, and the codes where there is none. */
-static void ends_at(const char *text, uint32_t code, size_t end) {
-    size_t place = 77;
-    is(haya_selector_end(BYTES(text), &place) == code && place == end, text);
-}
-
-static void selector_ends(void) {
-    ends_at("*", HAYA_DONE, 1);
-    ends_at(" book  ", HAYA_DONE, 5);
-    ends_at("article, book", HAYA_DONE, 7);
-    ends_at("article)", HAYA_DONE, 7);
-    ends_at("a:article > b:periodical[ issn ] video", HAYA_DONE, 32);
-    ends_at("book:", HAYA_MISSING_VALUE, 0);
-    ends_at("", HAYA_MISSING_VALUE, 0);
-    ends_at("(book ", HAYA_UNBALANCED_PARENTHESES, 0);
-    ends_at("boook", HAYA_UNKNOWN_TYPE, 0);
-    ends_at("book\xe2\x80", HAYA_NOT_TEXT, 0);
-}
-
-/* Handles that hold nothing, or something else than is asked for. */
-static void empty_handles(void) {
-    haya_library library = HAYA_NO_LIBRARY_YET;
-    haya_hits hits;
-    haya_query query = HAYA_NO_QUERY_YET;
-    memset(&hits, 0, sizeof hits);
-    haya_text text = {NULL, 7};
-    haya_binding binding = {{NULL, 7}, {NULL, 7}};
-    uint8_t room[8] = "........";
-    size_t step = 0, len = 7;
-    haya_place place = {(const uint8_t *)"dependence", 10, &step, 0};
-    is(haya_library_len(&library) == 0, "no entries without a library");
-    is(haya_hits_len(&hits) == 0 && haya_hits_names(&hits, 0) == 0, "no hits");
-    is(!haya_hits_key(&hits, 0, &text) && text.at == NULL && text.len == 7, "no key, and nothing is written");
-    is(!haya_hits_binding(&hits, 0, 0, &binding) && binding.name.len == 7 && binding.key.len == 7, "no binding");
-    is(!haya_refusal(&library.slot, &text) && text.len == 7, "no refusal");
-    haya_library_query(&library, BYTES("*"), &hits);
-    is(hits.code == HAYA_NO_LIBRARY, "a query without a library");
-    haya_query_next(&query, &library, &hits);
-    is(hits.code == HAYA_NO_QUERY && query.asked == 0, "no query");
-    haya_query_start(BYTES("*"), &query);
-    haya_query_next(&query, &library, &hits);
-    is(query.code == HAYA_DONE && hits.code == HAYA_NO_LIBRARY && query.asked == 0, "a query one at a time without a library");
-    is(haya_entry_type(&library, &place, room, sizeof room) == 0 && room[0] == '.', "no type without a library");
-    is(!haya_entry_has(&library, &place, BYTES("doi")), "no name without a library");
-    is(haya_entry_parents(&library, &place) == 0, "no parents without a library");
-    is(haya_entry_text(&library, &place, BYTES("doi"), room, sizeof room, &len) == HAYA_NO_ENTRY && len == 0 && room[0] == '.',
-       "no text without a library");
-    for (int i = 0; i < 3; i++) {
-        haya_library_free(&library);
-        haya_hits_free(&hits);
-        haya_query_free(&query);
+/* Reads a text that is refused. */
+static void refused(const char *text, size_t len, uint32_t format, uint32_t code, size_t line, size_t column,
+                    const char *pointer, const char *reason) {
+    haya_library *library = NULL;
+    haya_fault fault = HAYA_NO_FAULT;
+    is(haya_library_read(text, len, format, 1, 2, &library, &fault) == code && library == NULL, reason);
+    is(fault.code == code && fault.line == line && fault.column == column && fault.offset == 0, reason);
+    is(says(fault.pointer, pointer) && says(fault.name, "") && says(fault.reason, reason), reason);
+    for (int i = 0; i < 2; i++) {
+        haya_fault_free(&fault);
+        is(fault.code == HAYA_OK && fault.reason.len == 0 && fault.words == NULL, "a fault is freed more than once");
     }
-    is(library.code == HAYA_EMPTY && hits.code == HAYA_EMPTY && query.code == HAYA_EMPTY, "freed more than once");
-    haya_library_read(BYTES(lines), 0, 0, &library);
-    /* Handles of one layout, in each other's place. */
-    is(haya_hits_len((haya_hits *)&library) == 0, "a library isn't hits");
-    haya_query_next((haya_query *)&library, &library, &hits);
-    haya_library_free(&library);
-    haya_hits_free(&hits);
+}
+
+#define LINE(text, code, line, reason) refused(TEXT(text), HAYA_LINES, code, line, 0, "", reason)
+
+static void inputs(void) {
+    LINE("0\ta", HAYA_LINE_SHAPE, 1, "line 1: shape");
+    LINE("\n1\ta\tbook", HAYA_LINE_DEPTH, 2, "line 2: depth");
+    LINE("0\ta\tboook", HAYA_LINE_TYPE, 1, "line 1: type");
+    LINE("0\ta\tbook\n0\ta\tbook\ttitel=x", HAYA_LINE_FIELD, 2, "line 2: field");
+    LINE("0\ta\tbook\tdate=then", HAYA_LINE_VALUE, 1, "line 1: value");
+    LINE("\xff", HAYA_NOT_TEXT, 0, "");
+    LINE("0\ta\tbook\ttitle=\xe2\x80", HAYA_NOT_TEXT, 0, "");
+    LINE("0\ta\tbook\ttitle=\xed\xa0\x80", HAYA_NOT_TEXT, 0, "");
+    refused(TEXT("{"), HAYA_JSON, HAYA_NOT_JSON, 1, 2, "", "line 1, column 2: invalid JSON");
+    refused(TEXT("{\"a\": {\"type\": \"book\"},\n \"a\": {\"type\": \"book\"}}"), HAYA_JSON, HAYA_NAME_TWICE, 2, 2, "",
+            "line 2, column 2: duplicate member");
+    refused(TEXT("{\"a/b\": [\"article\"]}"), HAYA_JSON, HAYA_REFUSED_VALUE, 0, 0, "/a~1b", "/a~1b: expected an object");
+    refused(TEXT("[{\"type\": \"book\"}]"), HAYA_CSL, HAYA_REFUSED_VALUE, 0, 0, "/0/id", "/0/id: missing");
+    refused(TEXT("\n{\"key\": \"a\", \"entry\": 1}"), HAYA_JSON_LINES, HAYA_REFUSED_VALUE, 2, 0, "/entry",
+            "line 2: /entry: expected an object");
+    refused(TEXT("{}"), 0, HAYA_NO_FORMAT, 0, 0, "", "");
+    refused(TEXT("{}"), 5, HAYA_NO_FORMAT, 0, 0, "", "");
+    refused(TEXT("{}"), UINT32_MAX, HAYA_NO_FORMAT, 0, 0, "", "");
+    haya_library *library = library_of("\n\n", HAYA_LINES);
+    is(haya_library_len(library) == 0, "empty lines");
+    haya_fault fault = HAYA_NO_FAULT;
+    is(haya_library_read("0\ta\0b\tbook", 10, HAYA_LINES, 0, 0, &library, &fault) == HAYA_OK, "a 0 byte in a key");
+    is(haya_library_len(library) == 1, "what the pointer led to before is freed");
+    is(haya_library_read("1", 1, HAYA_LINES, 0, 0, &library, &fault) == HAYA_LINE_SHAPE, "a text that is refused");
+    is(haya_library_len(library) == 1, "the library stays where a text is refused");
+    is(haya_library_read("2", 1, HAYA_LINES, 0, 0, &library, &fault) == HAYA_LINE_SHAPE && says(fault.reason, "line 1: shape"),
+       "a fault is filled again");
+    is(haya_library_read("", 0, HAYA_LINES, 0, 0, &library, &fault) == HAYA_OK && haya_library_len(library) == 0, "no bytes");
+    haya_fault_free(&fault);
+    haya_library_free(library);
+    haya_library_free(NULL);
+    haya_selector_free(NULL);
+}
+
+static void no_selector(const char *text, size_t len, uint32_t code, size_t offset, const char *name, const char *reason) {
+    haya_selector *selector = NULL;
+    haya_fault fault = HAYA_NO_FAULT;
+    size_t used = 77;
+    is(haya_selector_read(text, len, &used, &selector, &fault) == code && selector == NULL && used == 77, reason);
+    is(fault.code == code && fault.offset == offset && fault.line == 0, reason);
+    is(says(fault.name, name) && says(fault.reason, reason), reason);
+    haya_fault_free(&fault);
+}
+
+static void ends_at(const char *text, size_t end) {
+    haya_selector *selector = NULL;
+    haya_fault fault = HAYA_NO_FAULT;
+    size_t used = 77;
+    is(haya_selector_read(TEXT(text), &used, &selector, &fault) == HAYA_OK && used == end, text);
+    haya_selector_free(selector);
+}
+
+/* A text of `first`, then `number` times `again`, which has the number where it has %zu, and `last`. */
+static char *repeated(const char *first, const char *again, size_t number, const char *last) {
+    size_t room = strlen(first) + number * (strlen(again) + 8) + strlen(last) + 1, len = 0;
+    char *text = malloc(room);
+    if (text == NULL) exit(1);
+    len += (size_t)snprintf(text, room, "%s", first);
+#pragma GCC diagnostic push
+#pragma GCC diagnostic ignored "-Wformat-nonliteral"
+    for (size_t n = 1; n <= number; n++) len += (size_t)snprintf(text + len, room - len, again, n);
+#pragma GCC diagnostic pop
+    snprintf(text + len, room - len, "%s", last);
+    return text;
+}
+
+/* How many parentheses may be open at once: 1,000, in all of the text. One that is closed doesn't count, and one that closes nothing
+ * neither, nor do the names and the other signs. */
+static void nested(void) {
+    static const char *const closed[][3] = {{"(*)", "|(*)", ""}, {"n0:*", " & n%zu:*", ""}, {"*", "|!(a:*[doi] > (b:*))", ""}};
+    static const size_t numbers[] = {4999, 2999, 2000};
+    char *text = repeated("", "(", 1000, "");
+    no_selector(text, 1000, HAYA_MISSING_VALUE, 1000, "", "byte 1000: missing value");
+    free(text), text = repeated("", "(", 1001, "");
+    no_selector(text, 1001, HAYA_TOO_DEEP, 0, "", "");
+    free(text), text = repeated("(*)|(*)|", "(", 1001, "*");
+    no_selector(TEXT(text), HAYA_TOO_DEEP, 0, "", "");
+    free(text), text = repeated("*)", "(", 1000, "");
+    ends_at(text, 1);
+    free(text), text = repeated("*)", "(", 1001, "");
+    no_selector(TEXT(text), HAYA_TOO_DEEP, 0, "", "");
+    free(text);
+    for (size_t i = 0; i < sizeof numbers / sizeof *numbers; i++) {
+        text = repeated(closed[i][0], closed[i][1], numbers[i], closed[i][2]);
+        ends_at(text, strlen(text));
+        free(text);
+    }
+}
+
+static void selectors(void) {
+    no_selector(TEXT(""), HAYA_MISSING_VALUE, 0, "", "byte 0: missing value");
+    no_selector(TEXT("* >"), HAYA_MISSING_VALUE, 3, "", "byte 3: missing value");
+    no_selector(TEXT("*[1"), HAYA_MALFORMED_ATTRIBUTE, 2, "", "byte 2: malformed attribute");
+    no_selector(TEXT("book[doi"), HAYA_MISSING_COMMA, 8, "", "byte 8: missing comma");
+    no_selector(TEXT("(book"), HAYA_UNBALANCED_PARENTHESES, 5, "", "byte 5: unbalanced parentheses");
+    no_selector(TEXT("* > Boook"), HAYA_UNKNOWN_TYPE, 4, "boook", "byte 4: unknown entry type");
+    no_selector(TEXT("book\xe2\x80"), HAYA_NOT_TEXT, 0, "", "");
+    no_selector("\0*", 2, HAYA_MISSING_VALUE, 0, "", "byte 0: missing value");
+    nested();
+    ends_at("*", 1);
+    ends_at(" book  ", 5);
+    ends_at("article, book", 7);
+    ends_at("article)", 7);
+    ends_at("a:article > b:periodical[ issn ] video", 32);
+    char room[4];
+    size_t len = 7;
+    haya_selector *selector = selector_of("long:* > (b:book | b:blog)");
+    is(haya_selector_names(selector) == 3, "its names");
+    is(haya_selector_name(selector, 0, room, sizeof room, &len) == HAYA_OK && shows(room, len, "long"), "the first name");
+    is(haya_selector_name(selector, 2, room, sizeof room, &len) == HAYA_OK && shows(room, len, "b"), "the last name");
+    is(haya_selector_name(selector, 3, room, sizeof room, &len) == HAYA_NO_FIELD && len == 0, "no more names");
+    memset(room, '.', sizeof room);
+    is(haya_selector_name(selector, 0, room, 2, &len) == HAYA_OK && len == 4 && memcmp(room, "lo..", 4) == 0, "a name is cut");
+    /* Pointers in each other's place. */
+    haya_library *library = library_of(lines, HAYA_LINES);
+    haya_entry entry = {0, 0}, bound[1];
+    size_t place = 0;
+    bool holds = true;
+    is(haya_library_len((haya_library *)selector) == 0 && haya_selector_names((haya_selector *)library) == 0, "another kind");
+    is(haya_library_next((haya_library *)selector, selector, &place, &entry, bound, 1) == HAYA_WRONG_KIND && place == 0,
+       "a selector isn't a library");
+    is(haya_library_next(library, (haya_selector *)library, &place, &entry, bound, 1) == HAYA_WRONG_KIND && place == 0,
+       "a library isn't a selector");
+    is(haya_entry_matches(library, (haya_selector *)library, &entry, &holds) == HAYA_WRONG_KIND && holds, "nor is it asked");
+    haya_library_free(library);
+    haya_selector_free(selector);
+}
+
+static bool has_key(const haya_library *library, haya_entry entry, const char *key) {
+    char room[64];
+    size_t len;
+    return haya_entry_key(library, &entry, room, sizeof room, &len) == HAYA_OK && shows(room, len, key);
 }
 
 static void hits(void) {
-    haya_library library = HAYA_NO_LIBRARY_YET;
-    haya_hits hits = HAYA_NO_HITS_YET;
-    haya_text key, again;
-    haya_binding binding;
-    haya_library_read(BYTES(lines), 0, 0, &library);
-    is(library.code == HAYA_DONE && library.line == 0 && haya_library_len(&library) == 2, "two entries");
-    haya_library_query(&library, BYTES("z:* > a:*"), &hits);
-    is(hits.code == HAYA_DONE && haya_hits_len(&hits) == 2, "two hits");
-    is(haya_hits_key(&hits, 0, &key) && says(key, "dependence"), "the first key");
-    is(haya_hits_key(&hits, 1, &again) && says(again, "feminism"), "the second key");
-    is(haya_hits_key(&hits, 0, &again) && again.at == key.at && says(key, "dependence"), "the key stays where it is");
-    is(!haya_hits_key(&hits, 2, &key) && !haya_hits_key(&hits, SIZE_MAX, &key) && says(key, "dependence"), "no third key");
-    is(haya_hits_names(&hits, 0) == 2 && haya_hits_names(&hits, SIZE_MAX) == 0, "the names");
-    is(haya_hits_binding(&hits, 0, 0, &binding) && says(binding.name, "a") && says(binding.key, "toplas"), "the first name");
-    is(haya_hits_binding(&hits, 0, 1, &binding) && says(binding.name, "z") && says(binding.key, "dependence"), "the second name");
-    is(!haya_hits_binding(&hits, 0, 2, &binding) && says(binding.name, "z"), "no third name");
-    /* Filled anew, and then the library goes first. */
-    haya_library_read(BYTES("0\tnew\tbook"), 3, 4, &library);
-    is(haya_library_len(&library) == 1, "a library is read into the handle of another");
-    is(haya_hits_key(&hits, 1, &key) && says(key, "feminism"), "hits stay when their library goes");
-    haya_library_query(&library, BYTES("book"), &hits);
-    haya_library_free(&library);
-    is(haya_hits_key(&hits, 0, &key) && says(key, "new") && haya_hits_names(&hits, 0) == 0, "hits are filled anew");
-    haya_library_query(&library, BYTES("*"), &hits);
-    is(hits.code == HAYA_NO_LIBRARY && haya_hits_len(&hits) == 0, "a freed library");
-    haya_hits_free(&hits);
-}
-
-static void one_at_a_time(void) {
-    haya_library library = HAYA_NO_LIBRARY_YET;
-    haya_hits hits = HAYA_NO_HITS_YET;
-    haya_query query = HAYA_NO_QUERY_YET;
-    haya_text key;
-    haya_binding binding;
-    haya_library_read(BYTES(lines), 0, 0, &library);
-    haya_query_start(BYTES("p:*[language]"), &query);
-    is(query.code == HAYA_DONE && query.asked == 0, "a query begins");
-    haya_query_next(&query, &library, &hits);
-    is(query.asked == 2 && haya_hits_len(&hits) == 1 && haya_hits_key(&hits, 0, &key) && says(key, "feminism"), "the one hit");
-    is(haya_hits_binding(&hits, 0, 0, &binding) && says(binding.key, "feminism"), "its binding");
+    haya_library *library = library_of(lines, HAYA_LINES);
+    haya_selector *selector = selector_of("z:* > (a:blog | b:misc)");
+    haya_entry hit = {7, 7}, bound[4] = {{7, 7}, {7, 7}, {7, 7}, {7, 7}};
+    size_t place = 0;
+    is(haya_library_len(library) == 2, "two entries");
+    is(haya_library_next(library, selector, &place, &hit, bound, 4) == HAYA_OK && place == 1, "the first hit");
+    is(hit.place == 0 && hit.step == 0 && has_key(library, hit, "dependence"), "its entry");
+    is(bound[0].place == 0 && bound[0].step == 0, "the entry itself by its name");
+    is(has_key(library, bound[1], "other") && bound[1].step == 3, "the second parent, behind the ancestors of the first");
+    is(bound[2].place == HAYA_NOWHERE.place && bound[2].step == HAYA_NOWHERE.step, "a name that stands for nothing");
+    is(bound[3].place == 7 && bound[3].step == 7, "no name has this slot");
+    is(haya_library_next(library, selector, &place, &hit, bound, 2) == HAYA_OK && place == 2, "the second hit, with less room");
+    is(has_key(library, hit, "feminism") && has_key(library, bound[1], "aeon"), "its parent");
     for (int i = 0; i < 2; i++) {
-        haya_query_next(&query, &library, &hits);
-        is(hits.code == HAYA_DONE && haya_hits_len(&hits) == 0 && query.asked == 2, "no more hits");
+        is(haya_library_next(library, selector, &place, &hit, bound, 4) == HAYA_END && place == 2, "no more hits");
     }
-    haya_query_start(BYTES("boook"), &query);
-    is(query.code == HAYA_UNKNOWN_TYPE && haya_refusal(&query.slot, &key) && says(key, "boook"), "the unknown type of a query");
-    haya_query_next(&query, &library, &hits);
-    is(hits.code == HAYA_NO_QUERY, "a refused query gives no hits");
-    haya_library_query(&library, BYTES("article > Pamphlet"), &hits);
-    is(hits.code == HAYA_UNKNOWN_TYPE && haya_refusal(&hits.slot, &key) && says(key, "pamphlet"), "the unknown type, in lower case");
-    haya_query_free(&query);
-    haya_hits_free(&hits);
-    haya_library_free(&library);
+    is(has_key(library, hit, "feminism"), "the hit stays at the end");
+    place = SIZE_MAX;
+    is(haya_library_next(library, selector, &place, &hit, bound, 4) == HAYA_END && place == 2, "a place far behind");
+    bool holds = false;
+    is(haya_entry_matches(library, selector, &hit, &holds) == HAYA_OK && holds, "it holds there");
+    hit.step = 1;
+    is(haya_entry_matches(library, selector, &hit, &holds) == HAYA_OK && !holds, "it doesn't hold at the parent");
+    hit.step = 2;
+    holds = true;
+    is(haya_entry_matches(library, selector, &hit, &holds) == HAYA_NO_ENTRY && holds, "no entry is asked");
+    haya_selector_free(selector);
+    haya_library_free(library);
 }
 
-static void json(void) {
-    haya_library library = HAYA_NO_LIBRARY_YET;
-    haya_hits hits = HAYA_NO_HITS_YET;
-    haya_text text;
-    haya_library_read_json(BYTES("{\"paper\": {\"type\": \"article\", \"parent\": {\"type\": \"periodical\"}}}"), &library);
-    is(library.code == HAYA_DONE && haya_library_len(&library) == 1, "a library in JSON");
-    haya_library_query(&library, BYTES("article > periodical"), &hits);
-    is(haya_hits_key(&hits, 0, &text) && says(text, "paper"), "it is asked");
-    haya_library_read_json(BYTES("{\"paper\": {\"type\": \"article\", \"date\": \"then\"}}"), &library);
-    is(library.code == HAYA_DONE && haya_library_len(&library) == 1, "a library with a value that isn't read");
-    haya_library_read_json(BYTES("{\"paper\": [\"article\"]}"), &library);
-    is(library.code == HAYA_REFUSED_VALUE && library.line == 0 && haya_refusal(&library.slot, &text)
-           && says(text, "/paper: expected an object"), "the place of a refused value");
-    is(haya_library_len(&library) == 0, "a refusal isn't a library");
-    haya_library_read_json(BYTES("{"), &library);
-    is(library.code == HAYA_NOT_JSON && haya_refusal(&library.slot, &text) && says(text, "line 1, column 2: invalid JSON"), "no JSON");
-    haya_library_read_json(BYTES("{\"a\": {\"type\": \"book\"}, \"a\": {\"type\": \"book\"}}"), &library);
-    is(library.code == HAYA_NAME_TWICE, "a member twice");
-    haya_library_read_json(BYTES("\xff"), &library);
-    is(library.code == HAYA_NOT_TEXT && !haya_refusal(&library.slot, &text), "JSON that isn't UTF-8");
-    haya_library_read_csl(BYTES("[{\"id\": \"x\", \"type\": \"book\", \"title\": \"T\"}]"), &library);
-    is(library.code == HAYA_DONE && haya_library_len(&library) == 1, "a library in CSL-JSON");
-    haya_library_read_csl(BYTES("[{\"type\": \"book\"}]"), &library);
-    is(library.code == HAYA_REFUSED_VALUE && haya_refusal(&library.slot, &text) && says(text, "/0/id: missing"),
-       "an item of CSL-JSON without an id");
-    haya_library_free(&library);
-    is(!haya_refusal(&library.slot, &text), "a freed refusal");
-    haya_hits_free(&hits);
-}
-
-static void field(haya_library *library, const haya_place *place, const char *name, const char *words) {
-    uint8_t room[128];
+static void field(const haya_library *library, haya_entry entry, const char *name, const char *words) {
+    char room[128];
     size_t len = 7;
-    uint32_t code = haya_entry_text(library, place, BYTES(name), room, sizeof room, &len);
-    is(words == NULL ? code == HAYA_NO_FIELD && len == 0 : code == HAYA_DONE && shows(room, len, words), name);
+    uint32_t code = haya_entry_text(library, &entry, TEXT(name), room, sizeof room, &len);
+    is(words == NULL ? code == HAYA_NO_FIELD && len == 0 : code == HAYA_OK && shows(room, len, words), name);
 }
 
 static void entries(void) {
-    haya_library library = HAYA_NO_LIBRARY_YET;
-    const size_t path[] = {0, 0};
-    uint8_t room[16];
+    haya_library *library = library_of(lines, HAYA_LINES);
+    haya_entry entry = {7, 7}, parent = {7, 7};
+    char room[16];
     size_t len;
-    haya_library_read(BYTES(lines), 0, 0, &library);
-    haya_place place = {BYTES("dependence"), path, 0};
-    is(shows(room, haya_entry_type(&library, &place, room, sizeof room), "Article"), "its type");
-    is(haya_entry_parents(&library, &place) == 1, "its parents");
-    is(haya_entry_has(&library, &place, BYTES("doi")) && !haya_entry_has(&library, &place, BYTES("isbn")), "its names");
-    is(!haya_entry_has(&library, &place, BYTES("\xff")) && !haya_entry_has(&library, &place, BYTES("")), "no such names");
-    field(&library, &place, "title", "A {Text}");
-    field(&library, &place, "author", "Ferrante, Jeanne\nvan Dissmer, Courtney\n");
-    field(&library, &place, "date", "1987-07");
-    field(&library, &place, "page-range", "319-349");
-    field(&library, &place, "doi", "10.1145/24039.24041");
-    field(&library, &place, "affiliated", NULL);
-    field(&library, &place, "note", NULL);
-    field(&library, &place, "no-such-field", NULL);
-    field(&library, &place, "\xff", NULL);
+    is(haya_library_get(library, TEXT("toplas"), &entry) == HAYA_NO_ENTRY && entry.place == 7, "no entry of the library");
+    is(haya_library_get(library, TEXT("depend\xff"), &entry) == HAYA_NO_ENTRY, "a key that isn't UTF-8");
+    is(haya_library_get(library, TEXT("feminism"), &entry) == HAYA_OK && entry.place == 1 && entry.step == 0, "by key");
+    is(haya_library_get(library, TEXT("dependence"), &entry) == HAYA_OK && entry.place == 0, "the first");
+    is(haya_entry_type(library, &entry, room, sizeof room, &len) == HAYA_OK && shows(room, len, "Article"), "its type");
+    is(haya_entry_has(library, &entry, TEXT("doi")) && !haya_entry_has(library, &entry, TEXT("isbn")), "its names");
+    is(!haya_entry_has(library, &entry, TEXT("\xff")) && !haya_entry_has(library, &entry, TEXT("")), "no such names");
+    field(library, entry, "title", "A {Text}");
+    field(library, entry, "author", "Ferrante, Jeanne\nvan Dissmer, Courtney\n");
+    field(library, entry, "date", "1987-07");
+    field(library, entry, "page-range", "319-349");
+    field(library, entry, "doi", "10.1145/24039.24041");
+    field(library, entry, "affiliated", NULL);
+    field(library, entry, "note", NULL);
+    field(library, entry, "no-such-field", NULL);
+    field(library, entry, "\xff", NULL);
     memset(room, '.', sizeof room);
-    is(haya_entry_text(&library, &place, BYTES("doi"), room, 5, &len) == HAYA_DONE && len == 19 && memcmp(room, "10.11.", 6) == 0,
+    is(haya_entry_text(library, &entry, TEXT("doi"), room, 5, &len) == HAYA_OK && len == 19 && memcmp(room, "10.11.", 6) == 0,
        "a text is cut to its room");
-    is(haya_entry_text(&library, &place, BYTES("doi"), room, 0, &len) == HAYA_DONE && len == 19, "no room");
-    place.steps = 1;
-    is(shows(room, haya_entry_type(&library, &place, room, sizeof room), "Periodical"), "the parent's type");
-    field(&library, &place, "issue", "3");
-    field(&library, &place, "volume", "the ninth");
-    field(&library, &place, "publisher", "ACM");
-    field(&library, &place, "url", "https://acm.org");
-    place.steps = 2;
-    is(shows(room, haya_entry_type(&library, &place, room, sizeof room), "Misc"), "the type of the parent's parent");
-    is(haya_entry_parents(&library, &place) == 0, "no more parents");
-    const size_t aside[] = {1, SIZE_MAX};
-    place.path = aside;
-    is(haya_entry_type(&library, &place, room, sizeof room) == 0, "no such ancestor");
-    place = (haya_place){BYTES("toplas"), path, 0};
-    is(haya_entry_type(&library, &place, room, sizeof room) == 0, "a parent isn't an entry of the library");
-    place = (haya_place){BYTES("depend\xff"), path, 0};
-    is(haya_entry_text(&library, &place, BYTES("doi"), room, sizeof room, &len) == HAYA_NO_ENTRY, "a key that isn't UTF-8");
-    haya_library_free(&library);
+    is(haya_entry_text(library, &entry, TEXT("doi"), room, 0, &len) == HAYA_OK && len == 19, "no room");
+    is(haya_entry_parents(library, &entry) == 2, "its parents");
+    is(haya_entry_parent(library, &entry, 1, &parent) == HAYA_OK && parent.step == 3 && has_key(library, parent, "other"),
+       "its second parent");
+    is(haya_entry_parent(library, &entry, 2, &parent) == HAYA_NO_ENTRY && parent.step == 3, "no third parent");
+    is(haya_entry_parent(library, &entry, SIZE_MAX, &parent) == HAYA_NO_ENTRY, "nor one far behind");
+    is(haya_entry_parent(library, &entry, 0, &parent) == HAYA_OK && parent.step == 1, "its first parent");
+    field(library, parent, "issue", "3");
+    field(library, parent, "volume", "the ninth");
+    field(library, parent, "publisher", "ACM");
+    field(library, parent, "url", "https://acm.org");
+    entry = parent;
+    is(haya_entry_parent(library, &entry, 0, &parent) == HAYA_OK && parent.step == 2, "the parent's parent");
+    is(haya_entry_type(library, &parent, room, sizeof room, &len) == HAYA_OK && shows(room, len, "Misc"), "its type");
+    is(haya_entry_parents(library, &parent) == 0, "no more parents");
+    const haya_entry nothing[] = {{0, 4}, {2, 0}, {0, SIZE_MAX}, {SIZE_MAX, 0}, HAYA_NOWHERE};
+    for (size_t i = 0; i < sizeof nothing / sizeof *nothing; i++) {
+        is(haya_entry_key(library, &nothing[i], room, sizeof room, &len) == HAYA_NO_ENTRY && len == 0, "the key of nothing");
+        is(haya_entry_type(library, &nothing[i], room, sizeof room, &len) == HAYA_NO_ENTRY && len == 0, "the type of nothing");
+        is(haya_entry_json(library, &nothing[i], room, sizeof room, &len) == HAYA_NO_ENTRY && len == 0, "the JSON of nothing");
+        is(haya_entry_text(library, &nothing[i], TEXT("doi"), room, sizeof room, &len) == HAYA_NO_ENTRY, "the text of nothing");
+        is(haya_entry_parents(library, &nothing[i]) == 0 && !haya_entry_has(library, &nothing[i], TEXT("doi")), "nothing has none");
+        is(haya_entry_parent(library, &nothing[i], 0, &parent) == HAYA_NO_ENTRY && parent.step == 2, "no parent of nothing");
+    }
+    haya_library_free(library);
+}
+
+/* Whether the entry at this step has the key and the issue of this number, has a DOI where that is odd, is a blog there and otherwise a
+ * book, and is one that the selector holds at there; and whether each call answers so. */
+static bool is_step(const haya_library *library, const haya_selector *odd, size_t step, size_t number) {
+    const haya_entry entry = {1, step};
+    char room[128], key[16], issue[16], json[96];
+    size_t len;
+    bool holds = number % 2 == 0;
+    snprintf(key, sizeof key, "p%zu", number), snprintf(issue, sizeof issue, "%zu", number);
+    snprintf(json, sizeof json, "{\"key\":\"p%zu\",\"entry\":{\"type\":\"%s\",", number, number % 2 == 1 ? "blog" : "book");
+    return has_key(library, entry, key) && haya_entry_text(library, &entry, TEXT("issue"), room, sizeof room, &len) == HAYA_OK
+           && shows(room, len, issue) && haya_entry_type(library, &entry, room, sizeof room, &len) == HAYA_OK
+           && shows(room, len, number % 2 == 1 ? "Blog" : "Book") && haya_entry_has(library, &entry, TEXT("doi")) == (number % 2 == 1)
+           && haya_entry_json(library, &entry, room, sizeof room, &len) == HAYA_OK && len >= strlen(json) && memcmp(room, json, strlen(json)) == 0
+           && haya_entry_matches(library, odd, &entry, &holds) == HAYA_OK && holds == (number % 2 == 1);
+}
+
+/* An entry, behind another one, with as many parents as most selectors never see, each with a parent of its own: the ancestors' steps
+ * go to 6,000, and each call reads the right one. */
+static void many(void) {
+    enum { PARENTS = 3000 };
+    haya_library *library = NULL;
+    haya_fault fault = HAYA_NO_FAULT;
+    haya_selector *odd = selector_of("blog[doi]"), *last = selector_of("* > last:book[note]");
+    size_t room = PARENTS * 64, len = (size_t)0, place = 0;
+    char *text = malloc(room);
+    if (text == NULL) exit(1);
+    len += (size_t)snprintf(text, room, "0\tother\tbook\n0\tk\tarticle\n");
+    for (size_t n = 1; n <= 2 * PARENTS; n++) {
+        len += (size_t)snprintf(text + len, room - len, "%d\tp%zu\t%s\tissue=%zu%s%s\n", n % 2 == 1 ? 1 : 2, n, n % 2 == 1 ? "blog" : "book", n,
+                                n % 2 == 1 ? "\tdoi=10/" : "", n == 2 * PARENTS ? "\tnote=last" : "");
+    }
+    len += (size_t)snprintf(text + len, room - len, "1\tp%d\tbook\tissue=%d\tnote=last\n", 2 * PARENTS + 1, 2 * PARENTS + 1);
+    is(haya_library_read(text, len, HAYA_LINES, 1, 2, &library, &fault) == HAYA_OK, "thousands of ancestors");
+    free(text);
+    const haya_entry entry = {1, 0}, behind = {1, 2 * PARENTS + 2};
+    haya_entry parent = {7, 7}, hit = {7, 7}, bound = {7, 7};
+    is(haya_entry_parents(library, &entry) == PARENTS + 1, "thousands of parents");
+    bool all = true;
+    for (size_t step = 1; step <= 2 * PARENTS; step += step % 1000 < 3 || step % 1024 < 3 ? 1 : 97) all &= is_step(library, odd, step, step);
+    is(all, "each step has its entry");
+    all = true;
+    for (size_t n = 0; n < PARENTS; n += 37) {
+        all &= haya_entry_parent(library, &entry, n, &parent) == HAYA_OK && parent.place == 1 && parent.step == 2 * n + 1;
+        all &= haya_entry_parents(library, &parent) == 1 && haya_entry_parent(library, &parent, 0, &parent) == HAYA_OK && parent.step == 2 * n + 2;
+    }
+    is(all, "each parent has its step");
+    is(haya_entry_parent(library, &entry, PARENTS, &parent) == HAYA_OK && parent.step == 2 * PARENTS + 1, "the last parent");
+    is(haya_entry_parents(library, &behind) == 0 && !haya_entry_has(library, &behind, TEXT("issue")), "no step behind the last");
+    is(haya_library_next(library, last, &place, &hit, &bound, 1) == HAYA_OK && hit.place == 1 && bound.place == 1 && bound.step == 2 * PARENTS + 1,
+       "a name is bound to the last");
+    haya_selector_free(odd);
+    haya_selector_free(last);
+    haya_library_free(library);
+}
+
+static void written(void) {
+    const char *paper = "{\"paper\": {\"type\": \"article\", \"title\": \"T\", \"parent\": {\"type\": \"blog\"}}}";
+    const char *line = "{\"key\":\"paper\",\"entry\":{\"type\":\"article\",\"title\":\"T\",\"parent\":{\"type\":\"blog\"}}}\n";
+    haya_library *library = library_of(paper, HAYA_JSON);
+    haya_written text = HAYA_NOTHING_WRITTEN;
+    char room[128];
+    size_t len;
+    is(haya_entry_json(library, &(haya_entry){0, 0}, room, sizeof room, &len) == HAYA_OK && len + 1 == strlen(line)
+           && memcmp(room, line, len) == 0, "an entry's JSON");
+    is(haya_library_write(library, HAYA_JSON_LINES, &text) == HAYA_OK && says(text.text, line), "lines of JSON");
+    is(haya_library_write(library, HAYA_LINES, &text) == HAYA_NO_FORMAT && says(text.text, line), "what isn't written");
+    is(haya_library_write(library, HAYA_JSON, &text) == HAYA_OK
+           && says(text.text, "{\"paper\":{\"type\":\"article\",\"title\":\"T\",\"parent\":{\"type\":\"blog\"}}}"), "JSON");
+    haya_library *again = NULL;
+    haya_fault fault = HAYA_NO_FAULT;
+    is(haya_library_read(text.text.at, text.text.len, HAYA_JSON, 0, 0, &again, &fault) == HAYA_OK, "it is read again");
+    is(haya_library_len(again) == 1, "with its entry");
+    for (int i = 0; i < 2; i++) {
+        haya_written_free(&text);
+        is(text.text.len == 0 && text.bytes == NULL, "freed more than once");
+    }
+    haya_library_free(again);
+    haya_library_free(library);
+    library = library_of("[{\"id\": \"x\", \"type\": \"article-journal\", \"title\": \"T\", \"container-title\": \"C\"}]", HAYA_CSL);
+    haya_selector *selector = selector_of("p:periodical");
+    haya_entry parent = {0, 1};
+    bool holds = false;
+    is(haya_entry_matches(library, selector, &parent, &holds) == HAYA_OK && holds, "the periodical of an item of CSL-JSON");
+    field(library, parent, "title", "C");
+    haya_selector_free(selector);
+    haya_library_free(library);
 }
 
 static void messages(void) {
-    uint8_t room[64];
-    is(haya_version() == HAYA_VERSION, "the version");
-    for (uint32_t code = HAYA_EMPTY; code <= HAYA_NO_QUERY; code++) {
-        size_t len = haya_message(code, room, sizeof room);
+    static const uint32_t codes[] = {0, 1, 2, 3, 4, 5, 6, 7, 8, 101, 102, 103, 104, 105, 201, 202, 203, 204, 205, 206, 207, 208};
+    char room[64];
+    is(haya_version() == HAYA_VERSION && haya_version_least() <= HAYA_VERSION, "the version");
+    for (size_t i = 0; i < sizeof codes / sizeof *codes; i++) {
+        size_t len = haya_message(codes[i], room, sizeof room);
         is(len > 0 && len <= sizeof room && !shows(room, len, "no such code"), "each code has words");
     }
-    is(shows(room, haya_message(HAYA_NO_QUERY + 1, room, sizeof room), "no such code"), "no code");
+    is(shows(room, haya_message(9, room, sizeof room), "no such code"), "no code");
     is(shows(room, haya_message(UINT32_MAX, room, sizeof room), "no such code"), "the greatest number");
     memset(room, '.', sizeof room);
     is(haya_message(HAYA_OUT_OF_MEMORY, room, 3) == 13 && memcmp(room, "out.", 4) == 0, "words are cut to their room");
 }
 
 int main(void) {
-    faults();
-    selector_ends();
-    empty_handles();
+    inputs();
+    selectors();
     hits();
-    one_at_a_time();
-    json();
     entries();
+    many();
+    written();
     messages();
     printf("%d passed, %d failed\n", passed, failed);
     return failed == 0 ? 0 : 1;

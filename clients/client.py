@@ -3,43 +3,40 @@ import ctypes
 import os
 import secrets
 import sys
-from ctypes import POINTER, byref, c_bool, c_char_p, c_size_t, c_uint32, c_uint64, c_void_p
-
-
-class Slot(ctypes.Structure):
-    _fields_ = [("full", c_bool), ("held", c_void_p)]
-
-
-class Handle(ctypes.Structure):
-    """A library, hits or a query: the three have one layout, and zeros are an empty one."""
-
-    _fields_ = [("code", c_uint32), ("number", c_size_t), ("slot", Slot)]
+from ctypes import POINTER, byref, c_char_p, c_size_t, c_uint32, c_uint64, c_void_p
 
 
 class Text(ctypes.Structure):
     _fields_ = [("at", c_void_p), ("len", c_size_t)]
 
     def __bytes__(self):
-        return ctypes.string_at(self.at, self.len)
+        return ctypes.string_at(self.at, self.len) if self.len else b""
 
 
-class Binding(ctypes.Structure):
-    _fields_ = [("name", Text), ("key", Text)]
+class Entry(ctypes.Structure):
+    _fields_ = [("place", c_size_t), ("step", c_size_t)]
 
 
-VERSION, DONE = 1, 1
-HANDLE, TEXT, BYTES = POINTER(Handle), POINTER(Text), c_char_p
+class Fault(ctypes.Structure):
+    _fields_ = [("code", c_uint32), ("offset", c_size_t), ("line", c_size_t), ("column", c_size_t)]
+    _fields_ += [("pointer", Text), ("name", Text), ("reason", Text), ("words", c_void_p)]
+
+
+VERSION, OK, END, LINES = 2, 0, 1, 1
+NOWHERE = c_size_t(-1).value
+LEN, ENTRY, ENTRIES, FAULT, BYTES = POINTER(c_size_t), POINTER(Entry), POINTER(Entry), POINTER(Fault), c_char_p
 FUNCTIONS = {
     "version": (c_uint32,),
     "message": (c_size_t, c_uint32, BYTES, c_size_t),
-    "refusal": (c_bool, POINTER(Slot), TEXT),
-    "library_read": (None, BYTES, c_size_t, c_uint64, c_uint64, HANDLE),
-    "library_free": (None, HANDLE),
-    "library_query": (None, HANDLE, BYTES, c_size_t, HANDLE),
-    "hits_key": (c_bool, HANDLE, c_size_t, TEXT),
-    "hits_names": (c_size_t, HANDLE, c_size_t),
-    "hits_binding": (c_bool, HANDLE, c_size_t, c_size_t, POINTER(Binding)),
-    "hits_free": (None, HANDLE),
+    "library_read": (c_uint32, BYTES, c_size_t, c_uint32, c_uint64, c_uint64, POINTER(c_void_p), FAULT),
+    "library_free": (None, c_void_p),
+    "library_next": (c_uint32, c_void_p, c_void_p, LEN, ENTRY, ENTRIES, c_size_t),
+    "entry_key": (c_uint32, c_void_p, ENTRY, BYTES, c_size_t, LEN),
+    "selector_read": (c_uint32, BYTES, c_size_t, LEN, POINTER(c_void_p), FAULT),
+    "selector_names": (c_size_t, c_void_p),
+    "selector_name": (c_uint32, c_void_p, c_size_t, BYTES, c_size_t, LEN),
+    "selector_free": (None, c_void_p),
+    "fault_free": (None, FAULT),
 }
 
 
@@ -54,56 +51,65 @@ def load(path):
     return calls
 
 
-def words(haya, code):
-    room = ctypes.create_string_buffer(64)
-    length = haya["message"](code, room, len(room))
-    return room.raw[: min(length, len(room))]
+def text_of(call, *arguments):
+    """What a call writes, in as much room as it asks for."""
+    length, room = c_size_t(), ctypes.create_string_buffer(64)
+    code = call(*arguments, room, len(room), byref(length))
+    if code == OK and length.value > len(room):
+        room = ctypes.create_string_buffer(length.value)
+        code = call(*arguments, room, len(room), byref(length))
+    assert code == OK, code
+    return room.raw[: length.value]
 
 
-def lines(haya, hits):
+def lines(haya, library, selector):
     """The lines of the hits, as the program prints them."""
-    text, binding, place = Text(), Binding(), 0
-    while haya["hits_key"](byref(hits), place, byref(text)):
-        line = bytes(text)
-        for number in range(haya["hits_names"](byref(hits), place)):
-            assert haya["hits_binding"](byref(hits), place, number, byref(binding))
-            line += b"\t" + bytes(binding.name) + b"=" + bytes(binding.key)
+    count = haya["selector_names"](selector)
+    names = {text_of(haya["selector_name"], selector, number): number for number in range(count)}
+    place, hit, bound = c_size_t(0), Entry(), (Entry * (count + 1))()
+    while (code := haya["library_next"](library, selector, byref(place), byref(hit), bound, count + 1)) == OK:
+        line = text_of(haya["entry_key"], library, byref(hit))
+        for name in sorted(names):
+            entry = bound[names[name]]
+            if entry.place != NOWHERE:
+                line += b"\t" + name + b"=" + text_of(haya["entry_key"], library, byref(entry))
         yield line + b"\n"
-        place += 1
+    assert code == END, code
 
 
-def complain(haya, handle):
+def complain(haya, fault):
     """The fault as the program shows it; the status 1."""
-    said, text = words(haya, handle.code), Text()
-    if handle.number != 0:
-        said = b"line %d: " % handle.number + said
-    if haya["refusal"](byref(handle.slot), byref(text)):
-        said += b": `" + bytes(text) + b"`"
+    room = ctypes.create_string_buffer(64)
+    length = haya["message"](fault.code, room, len(room))
+    said = room.raw[: min(length, len(room))]
+    if fault.line != 0:
+        said = b"line %d: " % fault.line + said
+    if fault.name.len != 0:
+        said += b": `" + bytes(fault.name) + b"`"
     sys.stderr.buffer.write(said + b"\n")
     return 1
 
 
-def answer(haya, selector, library, hits):
-    content = sys.stdin.buffer.read()
+def answer(haya, words, library, selector, fault):
+    content, used = sys.stdin.buffer.read(), c_size_t()
     keys = secrets.randbits(64), secrets.randbits(64)
-    haya["library_read"](content, len(content), *keys, byref(library))
-    if library.code != DONE:
-        return complain(haya, library)
-    haya["library_query"](byref(library), selector, len(selector), byref(hits))
-    if hits.code != DONE:
-        return complain(haya, hits)
-    sys.stdout.buffer.writelines(lines(haya, hits))
+    if haya["library_read"](content, len(content), LINES, *keys, byref(library), byref(fault)) != OK:
+        return complain(haya, fault)
+    if haya["selector_read"](words, len(words), byref(used), byref(selector), byref(fault)) != OK:
+        return complain(haya, fault)
+    sys.stdout.buffer.writelines(lines(haya, library, selector))
     return 0
 
 
 def main():
-    path, selector = sys.argv[1:]
-    haya, library, hits = load(path), Handle(), Handle()
+    path, words = sys.argv[1:]
+    haya, library, selector, fault = load(path), c_void_p(), c_void_p(), Fault()
     try:
-        return answer(haya, os.fsencode(selector), library, hits)
+        return answer(haya, os.fsencode(words), library, selector, fault)
     finally:
-        haya["library_free"](byref(library))
-        haya["hits_free"](byref(hits))
+        haya["selector_free"](selector)
+        haya["library_free"](library)
+        haya["fault_free"](byref(fault))
 
 
 sys.exit(main())

@@ -1,4 +1,5 @@
 //! SELECTOR < LIBRARY: prints the hits as the program hayagriva_query does, one at a time.
+use std::collections::BTreeMap;
 use std::ffi::c_void;
 use std::io::{self, Read, Write};
 use std::os::unix::ffi::OsStrExt;
@@ -6,68 +7,60 @@ use std::process::ExitCode;
 use std::{env, ptr, slice};
 
 mod raw {
-    use super::{Binding, Handle, Slot, Text};
+    use super::{Entry, Fault};
+    use std::ffi::c_void;
 
     unsafe extern "C" {
         pub safe fn haya_version() -> u32;
         pub fn haya_message(code: u32, room: *mut u8, len: usize) -> usize;
-        pub fn haya_refusal(slot: *mut Slot, text: *mut Text) -> bool;
-        pub fn haya_library_read(text: *const u8, len: usize, first: u64, second: u64, library: *mut Handle);
-        pub fn haya_library_free(library: *mut Handle);
-        pub fn haya_query_start(selector: *const u8, len: usize, query: *mut Handle);
-        pub fn haya_query_next(query: *mut Handle, library: *mut Handle, hits: *mut Handle);
-        pub fn haya_query_free(query: *mut Handle);
-        pub fn haya_hits_key(hits: *mut Handle, place: usize, key: *mut Text) -> bool;
-        pub fn haya_hits_names(hits: *mut Handle, place: usize) -> usize;
-        pub fn haya_hits_binding(hits: *mut Handle, place: usize, number: usize, binding: *mut Binding) -> bool;
-        pub fn haya_hits_free(hits: *mut Handle);
+        pub fn haya_library_read(
+            text: *const u8,
+            len: usize,
+            format: u32,
+            first: u64,
+            second: u64,
+            library: *mut *mut c_void,
+            fault: *mut Fault,
+        ) -> u32;
+        pub fn haya_library_free(library: *mut c_void);
+        pub fn haya_library_next(
+            library: *const c_void,
+            selector: *const c_void,
+            place: *mut usize,
+            hit: *mut Entry,
+            bound: *mut Entry,
+            len: usize,
+        ) -> u32;
+        pub fn haya_entry_key(
+            library: *const c_void,
+            entry: *const Entry,
+            room: *mut u8,
+            room_len: usize,
+            len: *mut usize,
+        ) -> u32;
+        pub fn haya_selector_read(
+            text: *const u8,
+            len: usize,
+            used: *mut usize,
+            selector: *mut *mut c_void,
+            fault: *mut Fault,
+        ) -> u32;
+        pub fn haya_selector_names(selector: *const c_void) -> usize;
+        pub fn haya_selector_name(
+            selector: *const c_void,
+            number: usize,
+            room: *mut u8,
+            room_len: usize,
+            len: *mut usize,
+        ) -> u32;
+        pub fn haya_selector_free(selector: *mut c_void);
+        pub fn haya_fault_free(fault: *mut Fault);
     }
 }
 
-const VERSION: u32 = 1;
-const EMPTY: u32 = 0;
-const DONE: u32 = 1;
-
-#[repr(C)]
-pub struct Slot {
-    full: bool,
-    held: *mut c_void,
-}
-
-/// A library, hits or a query: the three have one layout.
-#[repr(C)]
-pub struct Handle {
-    code: u32,
-    number: usize,
-    slot: Slot,
-}
-
-impl Handle {
-    const fn empty() -> Handle {
-        let slot = Slot { full: false, held: ptr::null_mut() };
-        Handle { code: EMPTY, number: 0, slot }
-    }
-
-    /// The fault as the program shows it.
-    fn complaint(&mut self) -> Vec<u8> {
-        let mut said = match self.number {
-            0 => Vec::new(),
-            line => format!("line {line}: ").into_bytes(),
-        };
-        let mut room = [0; 64];
-        // SAFETY: the pointer and the length of one array.
-        let len = unsafe { raw::haya_message(self.code, room.as_mut_ptr(), room.len()) };
-        said.extend(&room[..len.min(room.len())]);
-        let mut text = Text::none();
-        // SAFETY: a slot that the library wrote; the text is read while the handle is borrowed.
-        if unsafe { raw::haya_refusal(&mut self.slot, &mut text) } {
-            said.extend(b": `");
-            said.extend(unsafe { text.bytes() });
-            said.push(b'`');
-        }
-        said
-    }
-}
+const VERSION: u32 = 2;
+const OK: u32 = 0;
+const LINES: u32 = 1;
 
 #[repr(C)]
 pub struct Text {
@@ -79,92 +72,170 @@ impl Text {
     const fn none() -> Text {
         Text { at: ptr::null(), len: 0 }
     }
+}
 
-    /// # Safety
-    /// The library wrote it, and the handle that owns the bytes is neither freed nor filled for `'a`.
-    unsafe fn bytes<'a>(&self) -> &'a [u8] {
-        // SAFETY: a text that was given leads to as many bytes as it says, never null.
-        unsafe { slice::from_raw_parts(self.at, self.len) }
+/// Which entry of a library is meant.
+#[repr(C)]
+#[derive(Clone, Copy, PartialEq)]
+pub struct Entry {
+    place: usize,
+    step: usize,
+}
+
+impl Entry {
+    const NOWHERE: Entry = Entry { place: usize::MAX, step: usize::MAX };
+}
+
+/// Why a call refused.
+#[repr(C)]
+pub struct Fault {
+    code: u32,
+    offset: usize,
+    line: usize,
+    column: usize,
+    pointer: Text,
+    name: Text,
+    reason: Text,
+    words: *mut c_void,
+}
+
+impl Fault {
+    const fn none() -> Fault {
+        let (pointer, name, reason) = (Text::none(), Text::none(), Text::none());
+        Fault { code: OK, offset: 0, line: 0, column: 0, pointer, name, reason, words: ptr::null_mut() }
+    }
+
+    /// The fault as the program shows it.
+    fn complaint(&self) -> Vec<u8> {
+        let mut said = match self.line {
+            0 => Vec::new(),
+            line => format!("line {line}: ").into_bytes(),
+        };
+        let mut room = [0; 64];
+        // SAFETY: the pointer and the length of one array.
+        let len = unsafe { raw::haya_message(self.code, room.as_mut_ptr(), room.len()) };
+        said.extend(&room[..len.min(room.len())]);
+        if self.name.len != 0 {
+            said.extend(b": `");
+            // SAFETY: the library wrote the text, which the fault holds.
+            said.extend(unsafe { slice::from_raw_parts(self.name.at, self.name.len) });
+            said.push(b'`');
+        }
+        said
     }
 }
 
-#[repr(C)]
-pub struct Binding {
-    name: Text,
-    key: Text,
+impl Drop for Fault {
+    fn drop(&mut self) {
+        // SAFETY: the fault is empty, or the library wrote it.
+        unsafe { raw::haya_fault_free(self) };
+    }
+}
+
+/// What a call writes, in as much room as it asks for.
+fn text_of(mut call: impl FnMut(*mut u8, usize, &mut usize) -> u32) -> Vec<u8> {
+    let (mut len, mut room) = (0, vec![0; 64]);
+    let mut code = call(room.as_mut_ptr(), room.len(), &mut len);
+    if len > room.len() {
+        room.resize(len, 0);
+        code = call(room.as_mut_ptr(), room.len(), &mut len);
+    }
+    assert_eq!(code, OK);
+    room.truncate(len);
+    room
 }
 
 /// A library, freed when it is dropped.
-struct Library(Handle);
+struct Library(*mut c_void);
 
 impl Library {
-    fn read(text: &[u8]) -> Library {
-        let mut library = Library(Handle::empty());
-        // SAFETY: the pointer and the length of one slice, and an empty handle.
-        unsafe { raw::haya_library_read(text.as_ptr(), text.len(), 0, 0, &mut library.0) };
-        library
+    fn read(text: &[u8]) -> Result<Library, Fault> {
+        let (mut library, mut fault) = (Library(ptr::null_mut()), Fault::none());
+        // SAFETY: the pointer and the length of one slice, no library yet and an empty fault.
+        let code =
+            unsafe { raw::haya_library_read(text.as_ptr(), text.len(), LINES, 0, 0, &mut library.0, &mut fault) };
+        if code == OK { Ok(library) } else { Err(fault) }
+    }
+
+    fn key(&self, entry: &Entry) -> Vec<u8> {
+        // SAFETY: a library that was read, and the room of a vector.
+        text_of(|room, room_len, len| unsafe { raw::haya_entry_key(self.0, entry, room, room_len, len) })
     }
 }
 
 impl Drop for Library {
     fn drop(&mut self) {
-        // SAFETY: the handle was filled by `read`.
-        unsafe { raw::haya_library_free(&mut self.0) };
+        // SAFETY: null, or a library that was read.
+        unsafe { raw::haya_library_free(self.0) };
     }
 }
 
-/// A selector that is asked of a library, and the hit that came last.
-struct Query {
-    query: Handle,
-    hit: Handle,
+/// A selector, freed when it is dropped, and the number of each of its names.
+struct Selector {
+    held: *mut c_void,
+    names: BTreeMap<Vec<u8>, usize>,
 }
 
-impl Query {
-    fn start(selector: &[u8]) -> Query {
-        let mut started = Query { query: Handle::empty(), hit: Handle::empty() };
-        // SAFETY: the pointer and the length of one slice, and an empty handle.
-        unsafe { raw::haya_query_start(selector.as_ptr(), selector.len(), &mut started.query) };
-        started
+impl Selector {
+    fn read(text: &[u8]) -> Result<Selector, Fault> {
+        let (mut selector, mut fault) = (Selector { held: ptr::null_mut(), names: BTreeMap::new() }, Fault::none());
+        // SAFETY: the pointer and the length of one slice, no selector yet and an empty fault.
+        let code =
+            unsafe { raw::haya_selector_read(text.as_ptr(), text.len(), &mut 0, &mut selector.held, &mut fault) };
+        if code != OK {
+            return Err(fault);
+        }
+        // SAFETY: a selector that was read, and the room of a vector.
+        for number in 0..unsafe { raw::haya_selector_names(selector.held) } {
+            let name = text_of(|room, room_len, len| unsafe {
+                raw::haya_selector_name(selector.held, number, room, room_len, len)
+            });
+            selector.names.insert(name, number);
+        }
+        Ok(selector)
     }
 
-    /// The line of the next hit, without its end; or none where no more come or memory fails.
-    fn next_line(&mut self, library: &mut Library) -> Option<Vec<u8>> {
-        let (mut key, hit) = (Text::none(), &mut self.hit);
-        // SAFETY: three handles that the library wrote or that are empty. The texts are read before
-        // the hits are filled again.
-        unsafe {
-            raw::haya_query_next(&mut self.query, &mut library.0, hit);
-            if !raw::haya_hits_key(hit, 0, &mut key) {
-                return None;
-            }
-            let mut line = key.bytes().to_vec();
-            for number in 0..raw::haya_hits_names(hit, 0) {
-                let mut binding = Binding { name: Text::none(), key: Text::none() };
-                assert!(raw::haya_hits_binding(hit, 0, number, &mut binding));
-                for part in [b"\t", binding.name.bytes(), b"=", binding.key.bytes()] {
+    /// The line of the next hit, without its end; or none where no more come.
+    fn next_line(&self, library: &Library, place: &mut usize) -> Option<Vec<u8>> {
+        let mut bound = vec![Entry::NOWHERE; self.names.values().max().map_or(1, |last| last + 1)];
+        let mut hit = Entry::NOWHERE;
+        // SAFETY: a library and a selector that were read, and the slots of a vector that has some.
+        let code = unsafe {
+            raw::haya_library_next(library.0, self.held, place, &mut hit, bound.as_mut_ptr(), bound.len())
+        };
+        if code != OK {
+            return None;
+        }
+        let mut line = library.key(&hit);
+        for (name, number) in &self.names {
+            if bound[*number] != Entry::NOWHERE {
+                for part in [b"\t", name.as_slice(), b"=", &library.key(&bound[*number])] {
                     line.extend(part);
                 }
             }
-            Some(line)
         }
+        Some(line)
     }
 }
 
-impl Drop for Query {
+impl Drop for Selector {
     fn drop(&mut self) {
-        // SAFETY: handles that the library wrote or that are empty.
-        unsafe {
-            raw::haya_query_free(&mut self.query);
-            raw::haya_hits_free(&mut self.hit);
-        }
+        // SAFETY: null, or a selector that was read.
+        unsafe { raw::haya_selector_free(self.held) };
     }
 }
 
-fn complain(handle: &mut Handle) -> io::Result<ExitCode> {
-    let mut said = handle.complaint();
-    said.push(b'\n');
-    io::stderr().write_all(&said)?;
-    Ok(ExitCode::FAILURE)
+fn print(text: &[u8], selector: &[u8]) -> Result<io::Result<()>, Fault> {
+    let library = Library::read(text)?;
+    let selector = Selector::read(selector)?;
+    let (mut out, mut place) = (io::stdout().lock(), 0);
+    while let Some(mut line) = selector.next_line(&library, &mut place) {
+        line.push(b'\n');
+        if let Err(error) = out.write_all(&line) {
+            return Ok(Err(error));
+        }
+    }
+    Ok(Ok(()))
 }
 
 fn main() -> io::Result<ExitCode> {
@@ -175,21 +246,13 @@ fn main() -> io::Result<ExitCode> {
     };
     let mut text = Vec::new();
     io::stdin().read_to_end(&mut text)?;
-    let mut library = Library::read(&text);
-    if library.0.code != DONE {
-        return complain(&mut library.0);
+    match print(&text, selector.as_bytes()) {
+        Ok(printed) => printed.map(|()| ExitCode::SUCCESS),
+        Err(fault) => {
+            let mut said = fault.complaint();
+            said.push(b'\n');
+            io::stderr().write_all(&said)?;
+            Ok(ExitCode::FAILURE)
+        }
     }
-    let mut query = Query::start(selector.as_bytes());
-    if query.query.code != DONE {
-        return complain(&mut query.query);
-    }
-    let mut out = io::stdout().lock();
-    while let Some(mut line) = query.next_line(&mut library) {
-        line.push(b'\n');
-        out.write_all(&line)?;
-    }
-    if query.hit.code != DONE {
-        return complain(&mut query.hit);
-    }
-    Ok(ExitCode::SUCCESS)
 }

@@ -1,7 +1,8 @@
-/* collisions NUMBER: prints so many names of seven characters, a line each, that go to the same place of a map which hashes with
- * the keys 0 and 0 (crates/hayagriva/src/hash_keys.rt), as long as it has no more than 2^13 groups, which take 73,728 names. A
+/* collisions NUMBER FIRST SECOND [list]: prints so many names of seven characters, a line each, that go to the same place of a map which
+ * hashes with these two keys (crates/hayagriva/src/hash_keys.rt), as long as it has no more than 2^13 groups, which take 73,728 names. A
  * hasher of SipHash-1-3 takes the two keys in as numbers, then the name and a byte of 255; the map takes the two halves of the
- * hash with `^`, and of that the lowest bits for the group. */
+ * hash with `^`, and of that the lowest bits for the group. With `list` the map's keys are lists of one name: their length is taken
+ * in first. */
 #include <stdint.h>
 #include <stdio.h>
 #include <stdlib.h>
@@ -32,10 +33,10 @@ static inline sip with_word(sip s, uint64_t word) {
     return s;
 }
 
-/* The hash of seven bytes, the first of them lowest, behind two words. */
-static inline uint32_t hash_of(sip s, uint64_t name) {
+/* The hash of seven bytes, the first of them lowest, behind so many words. */
+static inline uint32_t hash_of(sip s, uint64_t name, uint64_t words) {
     s = with_word(s, name | UINT64_C(0xff) << 56);
-    s = with_word(s, UINT64_C(24) << 56);
+    s = with_word(s, (words + 1) * 8 << 56);
     s.c ^= 0xff;
     s = round_of(round_of(round_of(s)));
     uint64_t hash = s.a ^ s.b ^ s.c ^ s.d;
@@ -49,8 +50,11 @@ static void spell(uint64_t number, char *name, int length) {
 
 int main(int count, char **words) {
     sip keyed = {UINT64_C(0x736f6d6570736575), UINT64_C(0x646f72616e646f6d), UINT64_C(0x6c7967656e657261), UINT64_C(0x7465646279746573)};
-    keyed = with_word(with_word(keyed, 0), 0);
-    long wanted = count == 2 ? atol(words[1]) : 0;
+    if (count < 4) return 2;
+    keyed = with_word(with_word(keyed, strtoull(words[2], NULL, 10)), strtoull(words[3], NULL, 10));
+    long wanted = atol(words[1]);
+    uint64_t behind = 2;
+    if (count == 5 && strcmp(words[4], "list") == 0) keyed = with_word(keyed, 1), behind = 3;
     for (uint64_t front = 0; wanted > 0; front++) {
         char name[LENGTH + 1] = {0};
         uint64_t word = 0;
@@ -58,7 +62,7 @@ int main(int count, char **words) {
         memcpy(&word, name, LENGTH - 2);
         for (int i = 0; i < LETTERS * LETTERS && wanted > 0; i++) {
             uint64_t end = (uint64_t)letters[i / LETTERS] << 40 | (uint64_t)letters[i % LETTERS] << 48;
-            if ((hash_of(keyed, word | end) & ((1 << BITS) - 1)) != 0) continue;
+            if ((hash_of(keyed, word | end, behind) & ((1 << BITS) - 1)) != 0) continue;
             printf("%s%c%c\n", name, letters[i / LETTERS], letters[i % LETTERS]);
             wanted--;
         }

@@ -3,7 +3,7 @@
 # Prints what may follow an option: its values, as --help lists them.
 _haya_values() {
     case $1 in
-        -f | --from) echo hayagriva yaml csl-json json-lines lines ;;
+        -f | --from) echo hayagriva yaml bibtex csl-json json-lines lines ;;
         --key) echo citation-key id ;;
         -t | --to) echo keys lines hayagriva yaml json-lines csv tsv ;;
         -w | --where | --sort | --unique | --duplicates | --columns)

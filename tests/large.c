@@ -1,20 +1,45 @@
-/* large lines|json|csl SELECTOR [NAME]: prints the hits that the library for C finds in the library on standard input, as
+/* large lines|json|csl|json-lines[,FIRST,SECOND] SELECTOR [NAME]: prints the hits that the library for C finds in the library on standard input, as
  * hayagriva_query does; with a NAME also how many parents each has and the text of its field of this name, each behind a tab. It
- * asks for all at once and for one at a time, and ends with status 1 where these differ. */
+ * asks each hit again whether the selector holds there, and ends with status 1 where it doesn't. FIRST and SECOND are the keys that
+ * the library hashes with, or else 1 and 2. */
 #include "hayagriva.h"
 
 #include <stdio.h>
 #include <stdlib.h>
 #include <string.h>
 
-static void put(haya_text text) { fwrite(text.at, 1, text.len, stdout); }
+/* A text in room that grows with need. */
+typedef struct room {
+    char *at;
+    size_t len, room;
+} room;
 
-static bool is_same(haya_text one, haya_text other) { return one.len == other.len && memcmp(one.at, other.at, one.len) == 0; }
+static bool has_room(room *text) {
+    if (text->len <= text->room && text->at != NULL) return true;
+    free(text->at);
+    text->room = text->len;
+    text->at = malloc(text->room + 1);
+    return false;
+}
+
+static void put(const room *text) { fwrite(text->at, 1, text->len, stdout); }
+
+/* A name of the selector, and the slot of what it stands for. */
+typedef struct named {
+    room name;
+    size_t slot;
+} named;
+
+static int in_byte_order(const void *one, const void *other) {
+    const named *a = one, *b = other;
+    int order = memcmp(a->name.at, b->name.at, a->name.len < b->name.len ? a->name.len : b->name.len);
+    return order != 0 ? order : (a->name.len > b->name.len) - (a->name.len < b->name.len);
+}
 
 /* Reads standard input to its end. */
-static uint8_t *read_all(size_t *len) {
+static char *read_all(size_t *len) {
     size_t room = 1 << 20, got;
-    uint8_t *text = malloc(room);
+    char *text = malloc(room);
     *len = 0;
     while (text != NULL && (got = fread(text + *len, 1, room - *len, stdin)) > 0) {
         *len += got;
@@ -23,69 +48,89 @@ static uint8_t *read_all(size_t *len) {
     return text;
 }
 
-/* Prints what the entry with this key has beside it. */
-static bool put_entry(haya_library *library, haya_text key, const char *name) {
-    const size_t step = 0;
-    haya_place place = {key.at, key.len, &step, 0};
-    size_t len = 0;
-    uint8_t none = 0;
-    if (haya_entry_text(library, &place, (const uint8_t *)name, strlen(name), &none, 0, &len) != HAYA_DONE) return false;
-    uint8_t *text = malloc(len + 1);
-    if (text == NULL) return false;
-    bool is_done = haya_entry_text(library, &place, (const uint8_t *)name, strlen(name), text, len, &len) == HAYA_DONE;
-    printf("\t%zu\t", haya_entry_parents(library, &place));
-    put((haya_text){text, len});
-    free(text);
-    return is_done;
+/* Reads the format in front of a comma, and the keys behind it. */
+static uint32_t format_of(const char *word, uint64_t keys[2]) {
+    static const char *const names[] = {"lines", "json", "csl", "json-lines"};
+    static const uint32_t formats[] = {HAYA_LINES, HAYA_JSON, HAYA_CSL, HAYA_JSON_LINES};
+    char *end = strchr(word, ',');
+    size_t len = end != NULL ? (size_t)(end - word) : strlen(word);
+    for (int i = 0; end != NULL && i < 2; i++) keys[i] = strtoull(end + 1, &end, 10);
+    for (size_t i = 0; i < 4; i++) {
+        if (strlen(names[i]) == len && memcmp(names[i], word, len) == 0) return formats[i];
+    }
+    return 0;
 }
 
-/* Prints a hit. */
-static bool put_hit(haya_library *library, haya_hits *hits, size_t at, const char *name) {
-    haya_text key;
-    haya_binding bound;
-    if (!haya_hits_key(hits, at, &key)) return false;
-    put(key);
-    for (size_t i = 0; i < haya_hits_names(hits, at); i++) {
-        if (!haya_hits_binding(hits, at, i, &bound)) return false;
-        putchar('\t'), put(bound.name), putchar('='), put(bound.key);
+/* Prints the key of an entry. */
+static bool put_key(const haya_library *library, const haya_entry *entry, room *text) {
+    uint32_t code;
+    do code = haya_entry_key(library, entry, text->at, text->room, &text->len);
+    while (code == HAYA_OK && !has_room(text));
+    if (code == HAYA_OK) put(text);
+    return code == HAYA_OK;
+}
+
+/* Prints what the entry has beside it. */
+static bool put_entry(const haya_library *library, const haya_entry *entry, const char *name, room *text) {
+    uint32_t code;
+    do code = haya_entry_text(library, entry, name, strlen(name), text->at, text->room, &text->len);
+    while (code == HAYA_OK && !has_room(text));
+    if (code != HAYA_OK) return false;
+    printf("\t%zu\t", haya_entry_parents(library, entry));
+    put(text);
+    return true;
+}
+
+/* Puts the selector's names into byte order, each once, and answers how many these are. */
+static size_t read_names(const haya_selector *selector, named *names) {
+    size_t all = haya_selector_names(selector), count = 0;
+    for (size_t slot = 0; slot < all; slot++) {
+        room *name = &names[slot].name;
+        names[slot].slot = slot;
+        do haya_selector_name(selector, slot, name->at, name->room, &name->len);
+        while (!has_room(name));
     }
-    bool is_done = name == NULL || put_entry(library, key, name);
-    putchar('\n');
-    return is_done;
+    qsort(names, all, sizeof *names, in_byte_order);
+    for (size_t n = 0; n < all; n++) {
+        if (count == 0 || in_byte_order(&names[count - 1], &names[n]) != 0) names[count++] = names[n];
+    }
+    return count;
 }
 
 int main(int count, char **words) {
-    haya_library library = HAYA_NO_LIBRARY_YET;
-    haya_hits hits = HAYA_NO_HITS_YET, next = HAYA_NO_HITS_YET;
-    haya_query query = HAYA_NO_QUERY_YET;
-    size_t len;
-    uint8_t *text = read_all(&len);
-    if (count < 3 || text == NULL) return 2;
-    if (strcmp(words[1], "json") == 0) {
-        haya_library_read_json(text, len, &library);
-    } else if (strcmp(words[1], "csl") == 0) {
-        haya_library_read_csl(text, len, &library);
-    } else {
-        haya_library_read(text, len, 1, 2, &library);
+    haya_library *library = NULL;
+    haya_selector *selector = NULL;
+    haya_fault fault = HAYA_NO_FAULT;
+    room text = {malloc(1), 0, 1};
+    haya_entry hit;
+    size_t len, used, place = 0;
+    bool holds = false;
+    char *input = read_all(&len);
+    if (count < 3 || input == NULL || text.at == NULL) return 2;
+    uint64_t keys[2] = {1, 2};
+    uint32_t format = format_of(words[1], keys);
+    bool is_done = haya_library_read(input, len, format, keys[0], keys[1], &library, &fault) == HAYA_OK &&
+                   haya_selector_read(words[2], strlen(words[2]), &used, &selector, &fault) == HAYA_OK;
+    free(input);
+    size_t all = is_done ? haya_selector_names(selector) : 0;
+    named *names = calloc(all + 1, sizeof *names);
+    haya_entry *bound = calloc(all + 1, sizeof *bound);
+    if (names == NULL || bound == NULL) return 2;
+    size_t named_once = is_done ? read_names(selector, names) : 0;
+    uint32_t code = is_done ? HAYA_OK : fault.code;
+    while (is_done && (code = haya_library_next(library, selector, &place, &hit, bound, all)) == HAYA_OK) {
+        is_done = haya_entry_matches(library, selector, &hit, &holds) == HAYA_OK && holds && put_key(library, &hit, &text);
+        for (size_t n = 0; is_done && n < named_once; n++) {
+            const haya_entry *entry = &bound[names[n].slot];
+            if (entry->place == HAYA_NOWHERE.place) continue;
+            putchar('\t'), put(&names[n].name), putchar('=');
+            is_done = put_key(library, entry, &text);
+        }
+        if (is_done && words[3] != NULL) is_done = put_entry(library, &hit, words[3], &text);
+        putchar('\n');
     }
-    free(text);
-    const uint8_t *selector = (const uint8_t *)words[2];
-    haya_library_query(&library, selector, strlen(words[2]), &hits);
-    haya_query_start(selector, strlen(words[2]), &query);
-    bool is_done = library.code == HAYA_DONE && hits.code == HAYA_DONE && query.code == HAYA_DONE;
-    for (size_t at = 0; is_done && at < haya_hits_len(&hits); at++) {
-        haya_text key, again;
-        haya_query_next(&query, &library, &next);
-        is_done = put_hit(&library, &hits, at, words[3]) && haya_hits_key(&hits, at, &key) && haya_hits_key(&next, 0, &again) &&
-                  is_same(key, again) && haya_hits_names(&hits, at) == haya_hits_names(&next, 0);
-    }
-    if (is_done) {
-        haya_query_next(&query, &library, &next);
-        is_done = next.code == HAYA_DONE && haya_hits_len(&next) == 0;
-    }
-    haya_query_free(&query);
-    haya_hits_free(&next);
-    haya_hits_free(&hits);
-    haya_library_free(&library);
-    return is_done ? 0 : 1;
+    haya_selector_free(selector);
+    haya_library_free(library);
+    haya_fault_free(&fault);
+    return code == HAYA_END ? 0 : 1;
 }

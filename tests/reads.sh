@@ -29,16 +29,15 @@ reads() {
     fi
     [ -z "$says" ] || says=$(sed 's/^/haya: refs.json: /' <<< "$says")
     printf '%s' "$input" > refs.json
-    ends "$status" "$printed" "$says" crates/haya/out/haya "$@" '*' refs.json || return
+    ends "$status" "$printed" "$says" ./haya "$@" '*' refs.json || return
     [[ $status != 0 || $input != "$opens"* || $says == *'comes again'* ]] ||
-        ends 0 "$printed" "$says" crates/haya/out/haya -s -f "$format" "$@" '*' refs.json
+        ends 0 "$printed" "$says" ./haya -s -f "$format" "$@" '*' refs.json
 }
 
 # Tries the lines of the file $2 in the format $1. A tab alone is between two columns: bash takes several for one, so each is
 # another sign here.
 read_rows() {
     local what words input printed says
-    ./haya --version > out || return # links what the rows call
     while IFS=$'\x1f' read -r what words input printed says; do
         printed=${printed//\\n/$'\n'}
         # shellcheck disable=SC2086

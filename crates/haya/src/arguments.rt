@@ -5,8 +5,9 @@ use crate::lists::List;
 use clap::parser::ValueSource;
 use clap::{Arg, ArgAction, ArgMatches, Command, Error};
 use haya_asked::Questions;
-use haya_command::{Form, Format, Options};
+use haya_command::{Form, Options};
 use haya_csl::ItemKey;
+use haya_formats::Format;
 use haya_questions::Table;
 use std::alloc::{AllocError, Global};
 
@@ -46,7 +47,14 @@ pub fn request_of(alloc: Global, words: &[String]) -> Result<Request, Error> {
 }
 
 // The names that options take as values: those of each enum's `ALL`, in order.
-const FORMATS: [&str; 5] = ["hayagriva", "yaml", "csl-json", "json-lines", "lines"];
+const FORMATS: [&str; 6] = [
+    "hayagriva",
+    "yaml",
+    "bibtex",
+    "csl-json",
+    "json-lines",
+    "lines",
+];
 
 const KEYS: [&str; 2] = ["citation-key", "id"];
 

@@ -1,6 +1,6 @@
 //! The words that ask of the hits of the selector.
 use haya_asked::{Columns, Questions, Repeats, parse_places, parse_sort_keys};
-use haya_command::{Fault, Options, check_names};
+use haya_command::{CommandError, Options, check_names};
 use haya_questions::{Place, SortKey, Table, Test};
 use std::alloc::Global;
 
@@ -29,13 +29,13 @@ pub struct Words {
 }
 
 /// Reads the words into the options. The error is the first fault of them.
-pub fn read_words(alloc: Global, words: &Words, options: &mut Options) -> Result<(), Fault> {
+pub fn read_words(alloc: Global, words: &Words, options: &mut Options) -> Result<(), CommandError> {
     options.questions = questions_of(alloc, words)?;
     options.columns = columns_of(alloc, words)?;
     check_names(alloc, options)
 }
 
-fn questions_of(alloc: Global, words: &Words) -> Result<Questions, Fault> {
+fn questions_of(alloc: Global, words: &Words) -> Result<Questions, CommandError> {
     let mut questions = Questions::none(alloc);
     for text in &words.tests {
         questions.tests.push(test_of(alloc, text.as_str())?)?;
@@ -56,7 +56,7 @@ fn questions_of(alloc: Global, words: &Words) -> Result<Questions, Fault> {
 }
 
 // The table, where one is asked for.
-fn columns_of(alloc: Global, words: &Words) -> Result<Option<Columns>, Fault> {
+fn columns_of(alloc: Global, words: &Words) -> Result<Option<Columns>, CommandError> {
     let Some(table) = words.table else {
         return Ok(None);
     };
@@ -72,33 +72,33 @@ fn columns_of(alloc: Global, words: &Words) -> Result<Option<Columns>, Fault> {
 }
 
 // The test of a text.
-fn test_of(alloc: Global, text: &str) -> Result<Test, Fault> {
+fn test_of(alloc: Global, text: &str) -> Result<Test, CommandError> {
     match Test::parse(alloc, text) {
         Ok(test) => Ok(test),
-        Err(error) => Err(Fault::Test(String::from_str(alloc, text)?, error)),
+        Err(error) => Err(CommandError::Test(String::from_str(alloc, text)?, error)),
     }
 }
 
 // The places of a text.
-fn places_of(alloc: Global, text: &str) -> Result<Vec<Place>, Fault> {
+fn places_of(alloc: Global, text: &str) -> Result<Vec<Place>, CommandError> {
     match parse_places(alloc, text) {
         Ok(places) => Ok(places),
-        Err(error) => Err(Fault::Places(String::from_str(alloc, text)?, error)),
+        Err(error) => Err(CommandError::Places(String::from_str(alloc, text)?, error)),
     }
 }
 
 // The keys of a text.
-fn keys_of(alloc: Global, text: &str) -> Result<Vec<SortKey>, Fault> {
+fn keys_of(alloc: Global, text: &str) -> Result<Vec<SortKey>, CommandError> {
     match parse_sort_keys(alloc, text) {
         Ok(keys) => Ok(keys),
-        Err(error) => Err(Fault::Places(String::from_str(alloc, text)?, error)),
+        Err(error) => Err(CommandError::Places(String::from_str(alloc, text)?, error)),
     }
 }
 
 // The number of a text.
-fn number_of(alloc: Global, text: &str) -> Result<usize, Fault> {
+fn number_of(alloc: Global, text: &str) -> Result<usize, CommandError> {
     match text.parse::<usize>() {
         Ok(number) => Ok(number),
-        Err(_) => Err(Fault::NotANumber(String::from_str(alloc, text)?)),
+        Err(_) => Err(CommandError::NotANumber(String::from_str(alloc, text)?)),
     }
 }

@@ -1,6 +1,7 @@
 //! Reads the input: files, and standard input.
 use crate::progress::Progress;
-use haya_command::{Fault, Format, Input, Options, STANDARD_INPUT};
+use haya_command::{CommandError, Input, Options};
+use haya_formats::{Format, STANDARD_INPUT};
 use std::alloc::Global;
 use std::fs::File;
 use std::io::{Read, Write};
@@ -14,7 +15,7 @@ pub fn read_files<F: Files, R: Read, E: Write>(
     options: &Options,
     stdin: &mut R,
     progress: &mut Progress<'_, E>,
-) -> Result<Vec<Input>, Fault> {
+) -> Result<Vec<Input>, CommandError> {
     let given = options.from;
     let mut inputs = Vec::new(alloc);
     if options.files.is_empty() {
@@ -34,7 +35,7 @@ fn read_file<F: Files, R: Read, E: Write>(
     given: Option<Format>,
     stdin: &mut R,
     progress: &mut Progress<'_, E>,
-) -> Result<Input, Fault> {
+) -> Result<Input, CommandError> {
     if name == "-" {
         return Input::read(alloc, STANDARD_INPUT, given, stdin, progress);
     }
@@ -42,7 +43,7 @@ fn read_file<F: Files, R: Read, E: Write>(
         Ok(mut file) => Input::read(alloc, name, given, &mut file, progress),
         Err(error) => {
             let name = String::from_str(alloc, name)?;
-            Err(Fault::CannotRead(name, error))
+            Err(CommandError::of_read(name, error))
         }
     }
 }

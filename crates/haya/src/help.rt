@@ -21,7 +21,7 @@ pub const AFTER: &str = "Selectors:
   `!` binds tightest, then `[ ]`, `:`, `|` with `&`, and `>`; each groups from the left.
 
 Examples:
-  haya 'article > periodical' refs.json    the articles that appear in a periodical
+  haya 'article > periodical' refs.bib     the articles that appear in a periodical
   haya -c '*[doi]' refs.json more.json     how many entries of both files have a DOI
   haya -t lines '!(*[date])' refs.json     what has no date, with all its fields
   haya -s -f lines 'article' works.tsv     the articles of a library larger than memory

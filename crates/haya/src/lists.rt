@@ -1,5 +1,6 @@
 //! What `--list` prints: the names that a selector or an option takes, each with what it is.
-use haya_command::{Form, Format};
+use haya_command::Form;
+use haya_formats::Format;
 use hayagriva::types::{EntryType, FieldName};
 use std::alloc::{AllocError, Global};
 
@@ -126,6 +127,7 @@ fn format_words(format: Format) -> &'static str {
     match format {
         Format::Hayagriva => "hayagriva's file format, written as JSON",
         Format::Yaml => "hayagriva's file format, as people write it; -f hayagriva reads both",
+        Format::Bibtex => "BibTeX and BibLaTeX: .bib files, as LaTeX's users have them",
         Format::CslJson(_) => "CSL-JSON, as Zotero and pandoc write it",
         Format::JsonLines => "a line of JSON an entry: its key, and itself in hayagriva's format",
         Format::Lines => "a line an entry: a depth, a key, a type and fields, with tabs between",

@@ -3,7 +3,7 @@
 
 mod arguments;
 mod asking;
-mod fault;
+mod error;
 mod files;
 mod help;
 mod lists;
@@ -12,10 +12,10 @@ mod streaming;
 
 use arguments::{Arguments, Request, request_of};
 use asking::read_words;
-use fault::StartFault;
+use error::StartError;
 use files::read_files;
-use haya_command::{Fault, Options, complain, run};
-use haya_stream::{WriteFault, write_text};
+use haya_command::{CommandError, Options, complain, run};
+use haya_stream::{WriteError, write_text};
 use hayagriva::{HashKeys, Selector};
 use lists::List;
 use progress::Progress;
@@ -47,13 +47,13 @@ fn main(rt: HostRuntime) -> ExitCode {
     };
     // A fault of the selector or of the words is told before any input is waited for.
     if let Err(error) = Selector::parse(alloc, options.selector.as_str()) {
-        return ended(complain(alloc, &options, &Fault::Selector(error), &mut err));
+        return ended(complain(alloc, &options, &CommandError::Selector(error), &mut err));
     }
     if let Err(fault) = read_words(alloc, &asked, &mut options) {
         return ended(complain(alloc, &options, &fault, &mut err));
     }
     let Ok(keys) = HashKeys::random(&rt) else {
-        return ended(tell_of(&options, &StartFault::NoKeys, &mut err));
+        return ended(tell_of(&options, &StartError::NoKeys, &mut err));
     };
     ended(if streams {
         stream(alloc, &rt, keys, &options, &mut stdin, &mut out, &mut err)
@@ -83,32 +83,32 @@ fn run_files<F: Files, R: Read, W: Write, E: Write + IsTerminal>(
 }
 
 // The words of the process, its own name first.
-fn words(rt: &(impl env::Env + AllocGlobal)) -> Result<Vec<String>, StartFault> {
+fn words(rt: &(impl env::Env + AllocGlobal)) -> Result<Vec<String>, StartError> {
     match env::args(rt) {
         Ok(words) => Ok(words.collect(rt.alloc())?),
-        Err(error) => Err(StartFault::of_words(&error)),
+        Err(error) => Err(StartError::of_words(&error)),
     }
 }
 
 // Prints a list, and answers the status. Where nobody reads it, nothing is told.
 fn print_list<W: Write, E: Write>(alloc: Global, list: List, out: &mut W, err: &mut E) -> u8 {
     let Ok(text) = list.text(alloc) else {
-        return tell(&StartFault::OutOfMemory, err);
+        return tell(&StartError::OutOfMemory, err);
     };
     match write_text(out, text.as_str()) {
         Ok(()) => 0,
-        Err(WriteFault::Closed) => 2,
-        Err(WriteFault::CannotWrite) => tell(&StartFault::CannotWrite, err),
+        Err(WriteError::Closed) => 2,
+        Err(WriteError::CannotWrite) => tell(&StartError::CannotWrite, err),
     }
 }
 
 // Tells a fault, but not in a quiet run, and answers the status.
-fn tell_of<E: Write>(options: &Options, fault: &StartFault, err: &mut E) -> u8 {
+fn tell_of<E: Write>(options: &Options, fault: &StartError, err: &mut E) -> u8 {
     if options.quiet { 2 } else { tell(fault, err) }
 }
 
 // Tells a fault, and answers the status. Where it can't be written, the status says it all.
-fn tell<E: Write>(fault: &StartFault, err: &mut E) -> u8 {
+fn tell<E: Write>(fault: &StartError, err: &mut E) -> u8 {
     let _ = writeln!(err, "haya: {fault}");
     let _ = err.flush();
     2

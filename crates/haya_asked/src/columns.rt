@@ -7,8 +7,8 @@ use haya_text::OutOfMemory;
 use hayagriva::Hit;
 use std::alloc::Global;
 
-/// A table of hits: how it is written, the places of its columns, and whether their names stand in
-/// a row before the others.
+/// A table of hits: how it is written, the places of its columns, and whether a row of their names
+/// comes before the others.
 #[derive(Debug, Drop, PartialEq, Eq)]
 pub struct Columns {
     /// How it is written.

@@ -1,13 +1,18 @@
-//! Reads texts in the format of `.bib` files from standard input, with U+001E between them, and
-//! prints of each on a line how many entries it has, the entries and what is passed over; or the
-//! name of its fault with the line and the column.
+//! Answers rows of `.bib` files: for each record of standard input, a kind and a text with a tab
+//! between them, it prints a line of what the text says. Records have U+001E between them.
 #![tactic(auto)]
 
-use haya_bibtex_text::{Bibliography, Entry, ReadError, read_bibliography};
+use haya_bibtex_values::{as_it_stands, doi_in, is_address, single_hyphens};
 use std::alloc::{AllocError, Global};
-use std::fmt::Write;
 use std::io;
 use std::process::ExitCode;
+
+mod dates;
+mod entries;
+mod fields;
+mod inherited;
+mod names;
+mod texts;
 
 fn main(rt: HostRuntime) -> ExitCode {
     match print_all(&rt) {
@@ -24,50 +29,40 @@ fn main(rt: HostRuntime) -> ExitCode {
     }
 }
 
-// Prints a line of each text.
+// Prints a line of each record.
 fn print_all(rt: &HostRuntime) -> io::Result<()> {
     let all = io::read_to_string(rt.alloc(), rt.stdin())?;
-    for text in all.as_str().split('\u{1e}') {
-        let line = line_of(rt.alloc(), text)?;
+    for record in all.as_str().split('\u{1e}') {
+        let line = line_of(rt.alloc(), record)?;
         println!(rt; "{line}")?;
     }
     Ok(())
 }
 
-// What a text says, or its fault.
-fn line_of(alloc: Global, text: &str) -> Result<String, AllocError> {
-    match read_bibliography(alloc, text) {
-        Ok(bibliography) => shown(alloc, &bibliography),
-        Err(ReadError::Refused(fault)) => {
-            let name = fault.kind.name();
-            Ok(format!(in alloc; "{name} {}:{}", fault.line, fault.column)?)
+// What a text of a kind says: the entries of a text, its library, the value of a field, the text of
+// a value, a list of names, the fields of a date, a value as it stands, a DOI, pages, or whether it
+// is an address.
+fn line_of(alloc: Global, record: &str) -> Result<String, AllocError> {
+    match record.split_once('\t') {
+        Some(("entries", text)) => entries::line_of(alloc, text),
+        Some(("library", text)) => inherited::line_of(alloc, text),
+        Some(("field", text)) => fields::line_of(alloc, text),
+        Some(("text", text)) => texts::line_of(alloc, text),
+        Some(("names", text)) => names::line_of(alloc, text),
+        Some(("date", text)) => dates::line_of(alloc, text),
+        Some(("stands", text)) => as_it_stands(alloc, text),
+        Some(("doi", text)) => doi_in(alloc, text),
+        Some(("pages", text)) => single_hyphens(alloc, text),
+        Some(("address", text)) => {
+            String::from_str(
+                alloc,
+                if is_address(alloc, text)? {
+                    "yes"
+                } else {
+                    "no"
+                },
+            )
         }
-        Err(ReadError::OutOfMemory) => Err(AllocError),
+        _ => String::from_str(alloc, "no kind"),
     }
-}
-
-// How many entries there are, each of them, and what is passed over.
-fn shown(alloc: Global, bibliography: &Bibliography) -> Result<String, AllocError> {
-    let count = bibliography.entries.len();
-    let mut line = format!(in alloc; "{count}")?;
-    for entry in &bibliography.entries {
-        push_entry(&mut line, entry)?;
-    }
-    for passed in &bibliography.passed_over {
-        write!(line, "; passed over {passed}")?;
-    }
-    Ok(line)
-}
-
-// Adds an entry: its type, its key, and each field with its text.
-fn push_entry(line: &mut String, entry: &Entry) -> Result<(), AllocError> {
-    let kind = entry.kind.as_str();
-    let key = entry.key.as_str();
-    write!(line, "; {kind} {key:?}")?;
-    for field in &entry.fields {
-        let name = field.name.as_str();
-        let text = field.text.as_str();
-        write!(line, " {name}={text:?}")?;
-    }
-    Ok(())
 }

@@ -4,6 +4,8 @@ pub mod PieceByPiece
 pub mod FieldByField
 pub mod ItemByItem
 pub mod Stopping
+pub mod Spending
+pub mod UsesLeft
 pub mod Characters
 pub mod Lookups
 pub mod Keeping

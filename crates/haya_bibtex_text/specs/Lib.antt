@@ -17,6 +17,7 @@ pub mod Names
 pub mod Strings
 pub mod Predefined
 pub mod Bibliography
+pub mod Uses
 pub mod Definitions
 pub mod BibliographyViews
 pub mod Position

@@ -8,10 +8,10 @@ use Rattle.haya_bibtex_text.specs.declared.fault.FaultKind.{FaultKind}
 use Rattle.haya_bibtex_text.specs.declared.fault.FaultKind.TheVariants as kind
 use Rattle.haya_bibtex_text.specs.declared.fault.Refusal.{Refusal}
 
--- a piece: a text, or the name of a string
+-- a piece: a text; or the name of a string, at which so many characters of the text are left
 pub data RawPiece : Type 0 where
   text : List ℕ → RawPiece
-  name : List ℕ → RawPiece
+  name : ℕ → List ℕ → RawPiece
 
 -- a fault of this kind where so many characters are left
 abbrev pub fault : FaultKind → ℕ → Refusal
@@ -34,7 +34,7 @@ enclosed_piece place sign cs = enclosed_piece_by place cs (end_of sign cs)
 abbrev pub word_by : ℕ → ℕ → List ℕ → Read RawPiece
 word_by n d cs =
     if (n == 0) || (nat_lt 0 d && not (d == n)) then Err (fault kind.Value (length cs))
-    else Ok (if d == 0 then name (take n cs) else text (take n cs), drop n cs)
+    else Ok (if d == 0 then name (length cs) (take n cs) else text (take n cs), drop n cs)
 
 -- a number, or the name of a string
 abbrev pub word_at : List ℕ → Read RawPiece

@@ -19,7 +19,7 @@ lowercase cs = map to_ascii_lowercase cs
 -- the text of a piece: a name of no string stands for itself
 abbrev pub piece_text : Strings → RawPiece → List ℕ
 piece_text ss (text t) = t
-piece_text ss (name n) = unwrap_or (ss (lowercase n)) n
+piece_text ss (name left n) = unwrap_or (ss (lowercase n)) n
 
 -- the text of a value is that of its pieces, joined
 abbrev pub value_text : Strings → List RawPiece → List ℕ
@@ -29,7 +29,7 @@ value_text ss (p ∷ ps) = piece_text ss p ++ value_text ss ps
 -- the names of no string in a value, in lower case
 abbrev pub piece_unknown_names : Strings → RawPiece → List (List ℕ)
 piece_unknown_names ss (text t) = []
-piece_unknown_names ss (name n) = if is_some (ss (lowercase n)) then [] else lowercase n ∷ []
+piece_unknown_names ss (name left n) = if is_some (ss (lowercase n)) then [] else lowercase n ∷ []
 
 abbrev pub value_unknown_names : Strings → List RawPiece → List (List ℕ)
 value_unknown_names ss [] = []

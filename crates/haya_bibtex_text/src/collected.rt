@@ -10,32 +10,40 @@ ghost use Rattle.haya_bibtex_text.specs.Definitions.{strings_view};
 ghost use Rattle.haya_bibtex_text.specs.FieldViews.{field_view};
 ghost use Rattle.haya_bibtex_text.specs.ItemViews.{item_view, written_view};
 ghost use Rattle.haya_bibtex_text.specs.Names.{names_view};
+ghost use Rattle.haya_bibtex_text.specs.Uses.{FitsIn, Spends, definition_uses, item_uses, uses};
 
 use crate::definitions::{Definitions, define, first_definitions};
 use crate::entry::{Bibliography, Entry, PassedOver};
+use crate::fault::Stop;
 use crate::fields::WrittenField;
 use crate::items::{Item, WrittenEntry};
 use crate::kept::keep_last;
 use crate::names::{Names, add_name, no_names};
 use crate::resolved::{filled_fields, value_text};
 use crate::texts::{lowercase, text_of};
-use std::alloc::{AllocError, Global};
+use std::alloc::Global;
 
 // Each of the fields defines its name from there on.
 fn define_all(
     alloc: Global,
     fields: &[WrittenField<'_>],
     strings: &mut Definitions,
+    room: &mut usize,
     passed_over: &mut Vec<PassedOver>,
-) -> Result<(), AllocError>
+) -> Result<(), Stop>
     ensures strings { OnOk result (strings_view strings.new
         ≡ with_definitions (strings_view strings.old) (map field_view fields.now)) }
     ensures notes { OnOk result (map note_view passed_over.new.items
         ≡ map note_view passed_over.old.items
         ++ definition_notes (strings_view strings.old) (map field_view fields.now)) }
+    ensures room { Spends room.old
+        (definition_uses (strings_view strings.old) (map field_view fields.now)) room.new result }
 {
     'fields: for field in fields {
-        let text = value_text(alloc, strings, field.value.as_slice(), passed_over)?;
+        let text = match value_text(alloc, strings, field.value.as_slice(), room, passed_over) {
+            Ok(text) => text,
+            Err(stop) => return Err(stop),
+        };
         let name = lowercase(alloc, field.name)?;
         define(strings, name, text)?;
     }
@@ -48,8 +56,9 @@ fn take_entry(
     entry: &WrittenEntry<'_>,
     strings: &Definitions,
     keys: &mut Names,
+    room: &mut usize,
     found: &mut Bibliography,
-) -> Result<(), AllocError>
+) -> Result<(), Stop>
     ensures keys { OnOk result
         (names_view keys.new ≡ keys_behind (names_view keys.old) (written_view entry.now)) }
     ensures entries { OnOk result (map entry_view found.new.entries.items
@@ -58,6 +67,9 @@ fn take_entry(
     ensures notes { OnOk result (map note_view found.new.passed_over.items
         ≡ map note_view found.old.passed_over.items
         ++ item_notes (strings_view strings.now) (names_view keys.old) (written_view entry.now)) }
+    ensures room { Spends room.old
+        (item_uses (strings_view strings.now) (names_view keys.old) (written_view entry.now))
+        room.new result }
 {
     let key = text_of(alloc, entry.key)?;
     let kind = lowercase(alloc, entry.kind)?;
@@ -65,12 +77,11 @@ fn take_entry(
         found.passed_over.push(PassedOver::Entry(kind))?;
         return Ok(());
     }
-    let all = filled_fields(
-        alloc,
-        strings,
-        entry.fields.as_slice(),
-        &mut found.passed_over,
-    )?;
+    let written = entry.fields.as_slice();
+    let all = match filled_fields(alloc, strings, written, room, &mut found.passed_over) {
+        Ok(all) => all,
+        Err(stop) => return Err(stop),
+    };
     let fields = keep_last(alloc, all, &mut found.passed_over)?;
     found.entries.push(Entry { kind, key, fields })?;
     Ok(())
@@ -82,8 +93,9 @@ fn take_item(
     item: &Item<'_>,
     strings: &mut Definitions,
     keys: &mut Names,
+    room: &mut usize,
     found: &mut Bibliography,
-) -> Result<(), AllocError>
+) -> Result<(), Stop>
     ensures strings { OnOk result (strings_view strings.new
         ≡ strings_behind (strings_view strings.old) (item_view item.now)) }
     ensures keys { OnOk result
@@ -94,6 +106,9 @@ fn take_item(
     ensures notes { OnOk result (map note_view found.new.passed_over.items
         ≡ map note_view found.old.passed_over.items
         ++ item_notes (strings_view strings.old) (names_view keys.old) (item_view item.now)) }
+    ensures room { Spends room.old
+        (item_uses (strings_view strings.old) (names_view keys.old) (item_view item.now))
+        room.new result }
 {
     match item {
         Item::Sign => {
@@ -101,24 +116,36 @@ fn take_item(
             Ok(())
         }
         Item::Strings(fields) => {
-            define_all(alloc, fields.as_slice(), strings, &mut found.passed_over)
+            define_all(
+                alloc,
+                fields.as_slice(),
+                strings,
+                room,
+                &mut found.passed_over,
+            )
         }
-        Item::Entry(entry) => take_entry(alloc, entry, strings, keys, found),
+        Item::Entry(entry) => take_entry(alloc, entry, strings, keys, room, found),
     }
 }
 
-/// What the items of a text come to. The error: there was no memory for it.
-pub(crate) fn collect(alloc: Global, items: &[Item<'_>]) -> Result<Bibliography, AllocError>
-    ensures { IfOk result (λ b. bibliography_view b ≡ bibliography (map item_view items.now)) }
+/// What the items of a text come to, where there is so much room for what strings stand for in them.
+/// The error: there was no memory for it, or no room for a string.
+pub(crate) fn collect(alloc: Global, room: usize, items: &[Item<'_>]) -> Result<Bibliography, Stop>
+    ensures is { IfOk result (λ b. bibliography_view b ≡ bibliography (map item_view items.now)) }
+    ensures room { FitsIn room (uses (map item_view items.now)) result }
 {
     let mut strings = first_definitions(alloc);
     let mut keys = no_names(alloc);
+    let mut room = room;
     let mut found = Bibliography {
         entries: Vec::new(alloc),
         passed_over: Vec::new(alloc),
     };
     'items: for item in items {
-        take_item(alloc, item, &mut strings, &mut keys, &mut found)?;
+        match take_item(alloc, item, &mut strings, &mut keys, &mut room, &mut found) {
+            Ok(()) => {}
+            Err(stop) => return Err(stop),
+        }
     }
     Ok(found)
 }

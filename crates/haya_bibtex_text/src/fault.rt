@@ -21,6 +21,10 @@ pub enum FaultKind {
     Brace,
     /// A piece or an entry that isn't ended.
     Open,
+    /// A name of a string with which all strings of the text would stand for too many characters:
+    /// more than 64 for each character of the text, and 65,536 besides. Strings that are made of
+    /// others, as `@string{b = a # a}`, could stand for more than any memory has.
+    Strings,
 }
 
 impl FaultKind {
@@ -39,6 +43,7 @@ impl FaultKind {
             FaultKind::Value => "value",
             FaultKind::Brace => "brace",
             FaultKind::Open => "open",
+            FaultKind::Strings => "strings",
         }
     }
 }

@@ -12,8 +12,8 @@ use crate::groups::{End, end_of};
 pub(crate) enum Piece<'a> {
     /// A text: in braces or in quotation marks, which are left out, or a number.
     Text(&'a [char]),
-    /// The name of a string.
-    Name(&'a [char]),
+    /// The name of a string, at which so many characters of the text are left.
+    Name(usize, &'a [char]),
 }
 
 // The piece at the front of a text, and what is left behind it. So many characters are left at the
@@ -80,7 +80,7 @@ fn read_word<'a>(text: &'a [char]) -> Result<(Piece<'a>, &'a [char]), Refusal>
     }
     let (word, rest) = text.split_at(count);
     if digits == 0 {
-        return Ok((Piece::Name(word), rest));
+        return Ok((Piece::Name(text.len(), word), rest));
     }
     Ok((Piece::Text(word), rest))
 }

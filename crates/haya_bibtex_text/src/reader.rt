@@ -3,7 +3,8 @@ ghost use Rattle.std.specs.Prelude.{◌≡◌, IfOk, IfErr};
 ghost use Rattle.std.specs.Str.{chars};
 ghost use Rattle.haya_bibtex_text.specs.Bibliography.{BibliographyTexts};
 ghost use Rattle.haya_bibtex_text.specs.BibliographyViews.{bibliography_view};
-ghost use Rattle.haya_bibtex_text.specs.Outcomes.{ErrsBy, HasFault, Reads};
+ghost use Rattle.haya_bibtex_text.specs.Outcomes.{ErrsBy, HasFault, Reads, error_of};
+ghost use Rattle.haya_bibtex_text.specs.Uses.{room_of};
 
 use crate::collected::collect;
 use crate::entry::Bibliography;
@@ -12,6 +13,23 @@ use crate::items::read_items;
 use crate::position::fault_of;
 use std::alloc::{AllocError, Global};
 
+// The error of a stop at a fault of a text.
+fn error_of(text: &[char], stop: Stop) -> ReadError
+    ensures { result ≡ error_of text.now stop }
+{
+    match stop {
+        Stop::Refused(refusal) => ReadError::Refused(fault_of(text, refusal)),
+        Stop::OutOfMemory => ReadError::OutOfMemory,
+    }
+}
+
+// How many characters the strings of a text may stand for.
+fn room_of(text: &[char]) -> usize
+    ensures { result ≡ room_of text.now }
+{
+    text.len().saturating_mul(64).saturating_add(65536)
+}
+
 // What the characters of a text say.
 fn read_characters(alloc: Global, text: &[char]) -> Result<Bibliography, ReadError>
     ensures ok { IfOk result (λ b. Reads text.now (bibliography_view b)) }
@@ -19,11 +37,12 @@ fn read_characters(alloc: Global, text: &[char]) -> Result<Bibliography, ReadErr
 {
     let items = match read_items(alloc, text) {
         Ok(items) => items,
-        Err(Stop::Refused(refusal)) => return Err(ReadError::Refused(fault_of(text, refusal))),
-        Err(Stop::OutOfMemory) => return Err(ReadError::OutOfMemory),
+        Err(stop) => return Err(error_of(text, stop)),
     };
-    let bibliography = collect(alloc, items.as_slice())?;
-    Ok(bibliography)
+    match collect(alloc, room_of(text), items.as_slice()) {
+        Ok(bibliography) => Ok(bibliography),
+        Err(stop) => Err(error_of(text, stop)),
+    }
 }
 
 // The characters of a text.

@@ -1,5 +1,5 @@
 //! The texts of values and fields.
-ghost use Rattle.std.specs.Prelude.{◌≡◌, ◌++◌, IfOk, OnOk, map, string_bytes};
+ghost use Rattle.std.specs.Prelude.{◌≡◌, ◌++◌, IfOk, OnOk, Some, length, map, string_bytes};
 ghost use Rattle.std.specs.List.{list_all};
 ghost use Rattle.std.specs.Str.{chars};
 ghost use Rattle.haya_bibtex_text.specs.Bibliography.{filled_fields, field_if_filled};
@@ -11,10 +11,12 @@ ghost use Rattle.haya_bibtex_text.specs.FieldViews.{field_view};
 ghost use Rattle.haya_bibtex_text.specs.PieceViews.{piece_view};
 ghost use Rattle.haya_bibtex_text.specs.Strings.{piece_text, piece_unknown_names};
 ghost use Rattle.haya_bibtex_text.specs.Strings.{value_text, value_unknown_names};
+ghost use Rattle.haya_bibtex_text.specs.Uses.{Spends, field_uses, piece_uses, use_of, value_uses};
 
 use crate::classes::is_white;
 use crate::definitions::{Definitions, defined_text};
 use crate::entry::{Field, PassedOver};
+use crate::fault::{FaultKind, Stop, stop_at};
 use crate::fields::WrittenField;
 use crate::pieces::Piece;
 use crate::texts::{lowercase, push_characters};
@@ -29,14 +31,35 @@ fn push_text(text: &mut String, more: &str) -> Result<(), AllocError>
     Ok(())
 }
 
+// How many characters a text has.
+fn char_count(text: &str) -> usize
+    ensures { result ≡ length (chars text.now) }
+{
+    text.chars().count()
+}
+
+// Takes the characters of a string out of the room for them, at whose name so many characters of the
+// text are left.
+fn take_room(room: &mut usize, left: usize, string: &str) -> Result<(), Stop>
+    ensures { Spends room.old (use_of left (Some (chars string.now))) room.new result }
+{
+    let size = char_count(string);
+    if size > *room {
+        return Err(stop_at(FaultKind::Strings, left));
+    }
+    *room -= size;
+    Ok(())
+}
+
 // Adds the text of a piece to the text, and the name of no string to what is passed over.
 fn push_piece(
     alloc: Global,
     strings: &Definitions,
     piece: &Piece<'_>,
     text: &mut String,
+    room: &mut usize,
     passed_over: &mut Vec<PassedOver>,
-) -> Result<(), AllocError>
+) -> Result<(), Stop>
     ensures text { OnOk result (chars (string_bytes text.new)
         ≡ chars (string_bytes text.old)
         ++ piece_text (strings_view strings.now) (piece_view piece.now)) }
@@ -44,39 +67,54 @@ fn push_piece(
         ≡ map note_view passed_over.old.items
         ++ map unknown_string
         (piece_unknown_names (strings_view strings.now) (piece_view piece.now))) }
+    ensures room { Spends room.old
+        (piece_uses (strings_view strings.now) (piece_view piece.now)) room.new result }
 {
-    let written = match piece {
-        Piece::Text(characters) => return push_characters(text, characters),
-        Piece::Name(characters) => characters,
+    let (left, written) = match piece {
+        Piece::Text(characters) => {
+            push_characters(text, characters)?;
+            return Ok(());
+        }
+        Piece::Name(left, characters) => (*left, characters),
     };
     let name = lowercase(alloc, written)?;
-    match defined_text(strings, name.as_str()) {
-        Some(defined) => push_text(text, defined),
-        None => {
-            passed_over.push(PassedOver::Name(name))?;
-            push_characters(text, written)
-        }
+    let Some(defined) = defined_text(strings, name.as_str()) else {
+        passed_over.push(PassedOver::Name(name))?;
+        push_characters(text, written)?;
+        return Ok(());
+    };
+    match take_room(room, left, defined) {
+        Ok(()) => {}
+        Err(stop) => return Err(stop),
     }
+    push_text(text, defined)?;
+    Ok(())
 }
 
 /// The text of a value. Names of no string go to what is passed over. The error: there was no
-/// memory for them.
+/// memory for them, or no room for a string.
 pub(crate) fn value_text(
     alloc: Global,
     strings: &Definitions,
     value: &[Piece<'_>],
+    room: &mut usize,
     passed_over: &mut Vec<PassedOver>,
-) -> Result<String, AllocError>
+) -> Result<String, Stop>
     ensures text { IfOk result (λ t. chars (string_bytes t)
         ≡ value_text (strings_view strings.now) (map piece_view value.now)) }
     ensures unknown { OnOk result (map note_view passed_over.new.items
         ≡ map note_view passed_over.old.items
         ++ map unknown_string
         (value_unknown_names (strings_view strings.now) (map piece_view value.now))) }
+    ensures room { Spends room.old
+        (value_uses (strings_view strings.now) (map piece_view value.now)) room.new result }
 {
     let mut text = String::new(alloc);
     'pieces: for piece in value {
-        push_piece(alloc, strings, piece, &mut text, passed_over)?;
+        match push_piece(alloc, strings, piece, &mut text, room, passed_over) {
+            Ok(()) => {}
+            Err(stop) => return Err(stop),
+        }
     }
     Ok(text)
 }
@@ -94,8 +132,9 @@ fn push_filled(
     strings: &Definitions,
     written: &WrittenField<'_>,
     fields: &mut Vec<Field>,
+    room: &mut usize,
     passed_over: &mut Vec<PassedOver>,
-) -> Result<(), AllocError>
+) -> Result<(), Stop>
     ensures fields { OnOk result (map field_texts fields.new.items
         ≡ map field_texts fields.old.items
         ++ field_if_filled (strings_view strings.now) (field_view written.now)) }
@@ -103,8 +142,13 @@ fn push_filled(
         ≡ map note_view passed_over.old.items
         ++ map unknown_string
         (value_unknown_names (strings_view strings.now) (field_view written.now).value)) }
+    ensures room { Spends room.old
+        (value_uses (strings_view strings.now) (field_view written.now).value) room.new result }
 {
-    let text = value_text(alloc, strings, written.value.as_slice(), passed_over)?;
+    let text = match value_text(alloc, strings, written.value.as_slice(), room, passed_over) {
+        Ok(text) => text,
+        Err(stop) => return Err(stop),
+    };
     if is_blank(text.as_str()) {
         return Ok(());
     }
@@ -114,23 +158,29 @@ fn push_filled(
 }
 
 /// The fields whose text isn't white. Names of no string go to what is passed over. The error:
-/// there was no memory for them.
+/// there was no memory for them, or no room for a string.
 pub(crate) fn filled_fields(
     alloc: Global,
     strings: &Definitions,
     written: &[WrittenField<'_>],
+    room: &mut usize,
     passed_over: &mut Vec<PassedOver>,
-) -> Result<Vec<Field>, AllocError>
+) -> Result<Vec<Field>, Stop>
     ensures fields { IfOk result (λ v. map field_texts v.items
         ≡ filled_fields (strings_view strings.now) (map field_view written.now)) }
     ensures unknown { OnOk result (map note_view passed_over.new.items
         ≡ map note_view passed_over.old.items
         ++ map unknown_string
         (unknown_names (strings_view strings.now) (map field_view written.now))) }
+    ensures room { Spends room.old
+        (field_uses (strings_view strings.now) (map field_view written.now)) room.new result }
 {
     let mut fields = Vec::new(alloc);
     'fields: for field in written {
-        push_filled(alloc, strings, field, &mut fields, passed_over)?;
+        match push_filled(alloc, strings, field, &mut fields, room, passed_over) {
+            Ok(()) => {}
+            Err(stop) => return Err(stop),
+        }
     }
     Ok(fields)
 }

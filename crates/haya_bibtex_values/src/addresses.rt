@@ -65,8 +65,8 @@ fn behind_host<'a>(whole: &'a [char], text: &'a [char]) -> &'a [char]
     }
 }
 
-// The text without the blanks at its front.
-fn without_blanks(text: &[char]) -> &[char]
+/// The text without the blanks at its front.
+pub(crate) fn without_blanks(text: &[char]) -> &[char]
     ensures { result.now ≡ without_blanks text.now }
 {
     let mut left = text;

@@ -2,10 +2,12 @@
 #![tactic(auto)]
 
 mod addresses;
+mod archives;
 mod fronts;
 mod pages;
 mod standing;
 
 pub use addresses::{doi_in, is_address};
+pub use archives::{arxiv_number, is_of_arxiv};
 pub use pages::single_hyphens;
 pub use standing::as_it_stands;

@@ -13,8 +13,8 @@ use Rattle.json.specs.Json.{document}
 use Rattle.haya_csl.specs.Told as csl_told
 use Rattle.haya_json.specs.Told as json_told
 use Rattle.haya_command.specs.Reading.{AddsPart, AreCollected, AreTold, IsReadAs, Tells, TellsBy, TellsPart, format_in, keys_again}
-use Rattle.haya_command.specs.declared.format.Format.{Format}
-use Rattle.haya_command.specs.declared.format.Format.TheVariants.{CslJson, Hayagriva, JsonLines, Lines, Yaml}
+use Rattle.haya_formats.specs.declared.format.Format.{Format}
+use Rattle.haya_formats.specs.declared.format.Format.TheVariants.{Bibtex, CslJson, Hayagriva, JsonLines, Lines, Yaml}
 use Rattle.haya_command.specs.declared.options.Options.{Options}
 
 -- one more text
@@ -68,6 +68,7 @@ of_some (Some x) told kept is = (told x, is)
 of_notes : (format : Format) (text : List ℕ) (kept : NotesView) → Tells format text kept → KeptOfSome kept
 of_notes Hayagriva text kept tells = of_some (document text) json_told.told kept tells
 of_notes Yaml text kept tells = (json_told.told tells.value, tells.same)
+of_notes Bibtex text kept tells = (_, tells.is)
 of_notes (CslJson key) text kept tells = of_some (document text) (csl_told.told key) kept tells
 of_notes JsonLines text kept tells = (_, tells)
 of_notes Lines text kept (library, repeats, again, is) = (_, is)

@@ -1,8 +1,7 @@
 -- The elements of an input whose bytes are known, as they are asked.
-use Rattle.std.proofs.Common.{◌≡◌, ◌⊎◌, inl, inr, IsTrue, ℕ, Bool, ◌&&◌, List, [], Option, None, Some, refl, sym, ◌∙◌, subst, append-nil, IsFalse}
+use Rattle.std.proofs.Common.{◌≡◌, ◌≢◌, ◌⊎◌, inl, inr, IsTrue, ℕ, Bool, List, [], Option, None, Some, refl, sym, ◌∙◌, subst, append-nil, IsFalse}
 use Rattle.haya_command.specs.Form.{is_library}
 use Rattle.std.specs.List.{AllZip}
-use Rattle.std.specs.Prelude.{nat_lt}
 use Rattle.std.specs.Io.KnownBytes.{Consumes, IsAtEnd}
 use Rattle.std.specs.Str.Lines.{lines}
 use Rattle.hayagriva.specs.Syntax.{Syntax}
@@ -12,27 +11,28 @@ use Rattle.haya_csl.specs.declared.item_key.ItemKey.{ItemKey}
 use Rattle.haya_json.specs.Notes.{NotesView, first_note, kept_of, none_kept}
 use Rattle.haya_json.proofs.MemberLists as member_lists
 use Rattle.haya_elements.specs.Elements.{nonempty_lines}
-use Rattle.haya_list.specs.EntryLines.{IsFaultOf, ReadsFirst, ReadsLines}
+use Rattle.haya_list.specs.EntryLines.{IsFaultOf, LeavesReader, ReadsFirst, ReadsLines}
 use Rattle.haya_list.specs.Listed.{AnswersEnough, AnswersList, AnswersPart, entries_of, printed_of}
-use Rattle.haya_list.specs.declared.fault.EntryFault.{EntryFault}
-use Rattle.haya_list.specs.declared.fault.ListRefusal.{ListRefusal}
+use Rattle.haya_list.specs.declared.error.EntryError.{EntryError}
+use Rattle.haya_list.specs.declared.error.EntryError.TheVariants as entry_fault
+use Rattle.haya_list.specs.declared.error.ListError.{ListError}
 use Rattle.haya_json.specs.declared.error.ElementError.{ElementError}
 use Rattle.haya_json.specs.declared.error.ReadError.TheVariants.{OutOfMemory}
 use Rattle.haya_printing.specs.declared.error.LinesError.{LinesError}
-use Rattle.haya_stream.specs.declared.fault.StreamFault.{StreamFault}
-use Rattle.haya_command.specs.AskedLines.{BeginsLines, BeginsListIn, FirstElementError, IsElementError, IsElementErrorFor, IsErrorIn, IsLineIn, IsListIn, ReadsElement, ReadsLine, asked_lines, lines_told}
+use Rattle.haya_stream.specs.declared.error.StreamError.{StreamError}
+use Rattle.haya_command.specs.AskedLines.{BeginsLines, BeginsListIn, FirstElementError, IsElementError, IsElementErrorFor, IsErrorIn, IsLineIn, IsListIn, IsOutOfMemory, ReadsElement, ReadsLine, asked_lines, lines_told}
 use Rattle.haya_command.specs.Reading.{IsLoss}
-use Rattle.haya_command.specs.Streamed.{AsksFirst, AsksInput, AsksPart, IsStreamFault}
-use Rattle.haya_command.specs.declared.fault.Fault.{Fault}
-use Rattle.haya_command.specs.declared.fault.Fault.TheVariants as fault
-use Rattle.haya_command.specs.declared.fault.InputError.{InputError}
-use Rattle.haya_command.specs.declared.fault.InputError.TheVariants.{Element}
-use Rattle.haya_command.specs.declared.format.Format.{Format}
-use Rattle.haya_command.specs.declared.format.Format.TheVariants as format
-use Rattle.haya_command.specs.declared.format.Format.TheVariants.{CslJson}
+use Rattle.haya_command.specs.Streamed.{AsksFirst, AsksInput, AsksPart, IsStreamError, TellsBefore, TellsPart}
+use Rattle.haya_command.specs.declared.error.CommandError.{CommandError}
+use Rattle.haya_command.specs.declared.error.CommandError.TheVariants as fault
+use Rattle.haya_command.specs.declared.error.LibraryError.{LibraryError}
+use Rattle.haya_command.specs.declared.error.LibraryError.TheVariants.{Element}
+use Rattle.haya_formats.specs.declared.format.Format.{Format}
+use Rattle.haya_formats.specs.declared.format.Format.TheVariants as format
+use Rattle.haya_formats.specs.declared.format.Format.TheVariants.{CslJson}
 use Rattle.haya_command.specs.declared.options.Options.{Options}
-use Rattle.haya_command.proofs.EntryLists.{begins_list, element_error, first_of_all, loss_why, reads_list, says_line, told_kept}
-use Rattle.haya_command.proofs.Streams.{Asks, asks_enough, asks_input, asks_part, options_kept, selector_kept, stream_why}
+use Rattle.haya_command.proofs.EntryLists.{begins_list, element_error, first_of_all, loss_tells, loss_why, memory_or, reads_list, says_line, stream_tells, told_kept}
+use Rattle.haya_command.proofs.Streams.{Asks, done, asks_enough, asks_input, asks_part, options_kept, selector_kept, stream_why}
 
 -- an input that is read to its end is the text
 whole_text : (unread left : Option (List ℕ)) (text bytes : List ℕ) → unread ≡ Some text → Consumes unread left bytes → IsAtEnd left → bytes ≡ text
@@ -55,10 +55,8 @@ module _ {S R : Type 0} (options : S → Options) (selector : S → Syntax) (hit
     (says : R → List ℕ → Tree → R → Type 0) (refuses : R → List ℕ → ElementError → Type 0)
     (reads_element : (r : R) (line : List ℕ) (entry : Tree) (q : R) → Is r → says r line entry q → Is q × ReadsElement format (number r) (kept r) line entry (number q) (kept q))
     (refuses_element : (r : R) (line : List ℕ) (e : ElementError) → Is r → refuses r line e → IsElementError format (number r) line e)
-    (begins_in : (left : Option (List ℕ)) (part : List ℕ) (entries : List Tree) → BeginsLines format part entries → BeginsListIn format left part entries) where
-  abbrev done : S → Bool
-  done s = (options s).quiet && nat_lt 0 (hits s)
-
+    (begins_in : (left : Option (List ℕ)) (part : List ℕ) (entries : List Tree) → BeginsLines format part entries → BeginsListIn format left part entries)
+    (tells_in : (part : List ℕ) (entries : List Tree) (k : NotesView) (e : CommandError) → TellsBefore format part entries k e → TellsPart format part entries k e) where
   abbrev Reads : R → R → List ℕ → List Tree → Type 0
   Reads r q part entries = ReadsFirst says part entries r q
 
@@ -69,10 +67,10 @@ module _ {S R : Type 0} (options : S → Options) (selector : S → Syntax) (hit
       (listed_in : (text : List ℕ) (entries : List Tree) → AllZip (IsLineIn format) (nonempty_lines (lines (asked_lines format text))) entries → IsListIn format text entries)
       (unread left before after : Option (List ℕ)) (text : List ℕ) (known : unread ≡ Some text) where
     abbrev pub All : Type 0
-    All = AnswersList (λ bytes entries. ReadsLines says (lines (asked_lines format bytes)) entries r q) (Asks options selector hits done) done s t unread left before after
+    All = AnswersList (λ bytes entries. ReadsLines says (lines (asked_lines format bytes)) entries r q) (Asks options selector hits) (done options selector hits) s t unread left before after
 
     abbrev pub Enough : Type 0
-    Enough = (behind : Option (List ℕ)) × AnswersEnough (λ _ part entries. Reads r q part entries) (Asks options selector hits done) done s t (Some (asked_lines format text)) behind before after
+    Enough = (behind : Option (List ℕ)) × AnswersEnough (λ _ part entries. Reads r q part entries) (Asks options selector hits) (done options selector hits) s t (Some (asked_lines format text)) behind before after
 
     begins : (behind : Option (List ℕ)) (part : List ℕ) (entries : List Tree) → Reads r q part entries → BeginsListIn format behind part entries
     begins behind part entries reads = begins_in behind part entries (begins_list format kept Is says line_read r is part entries q reads)
@@ -83,55 +81,70 @@ module _ {S R : Type 0} (options : S → Options) (selector : S → Syntax) (hit
         × (AsksInput format (options s) (selector s) (hits s) (hits t) (kept q) unread left before after
         ⊎ (behind : Option (List ℕ)) × AsksFirst format (options s) (selector s) (hits s) (hits t) (Some (asked_lines format text)) behind before after)
     elements_asked accepted (inl a) =
-        let same = options_kept options selector hits done s t a.replies not a.run in (
+        let same = options_kept options selector hits s t a.replies not a.run in (
           same,
-          selector_kept options selector hits done s t a.replies not a.run,
-          inl (asks_input options selector hits done s t not unread left before after format (kept q) _
+          selector_kept options selector hits s t a.replies not a.run,
+          inl (asks_input options selector hits s t not unread left before after format (kept q) _
               (λ bytes entries reads.
               let all = reads_list format kept Is says line_read r is _ entries q reads in
               (listed_in bytes entries all.listed, all.all ∙ told_kept format (lines (asked_lines format bytes)) (kept r) none)) (λ strict. accepted (rw same strict)) a),
         )
     elements_asked accepted (inr (behind, a)) = (
-      options_kept options selector hits done s t a.replies not a.run,
-      selector_kept options selector hits done s t a.replies not a.run,
-      inr (behind, asks_enough options selector hits done s t not (Some (asked_lines format text)) behind before after format (λ _ part entries. Reads r q part entries) (begins behind) refl a),
+      options_kept options selector hits s t a.replies not a.run,
+      selector_kept options selector hits s t a.replies not a.run,
+      inr (behind, asks_enough options selector hits s t not (Some (asked_lines format text)) behind before after format (λ _ part entries. Reads r q part entries) (begins behind) a),
     )
 
     -- a strict run, or out of memory: what was read is asked, and what is printed of it written
-    pub elements_noted : (name : List ℕ) (e : Fault) → (e ≡ fault.OutOfMemory) ⊎ (IsTrue (options t).strict × IsLoss name (kept q) e) → All ⊎ Enough
-        → (behind : Option (List ℕ)) × AsksPart format name (options s) (selector s) (Some (asked_lines format text)) behind before after e
-    elements_noted name e why (inl a) =
-        let same = options_kept options selector hits done s t a.replies not a.run in
+    pub elements_noted : (name : List ℕ) (k : NotesView) (e : CommandError) → (e ≡ fault.OutOfMemory) ⊎ (IsTrue (options t).strict × IsLoss name (kept q) e) → All ⊎ Enough
+        → (behind : Option (List ℕ)) × AsksPart format name (options s) (selector s) (hits s) k (Some (asked_lines format text)) behind before after e
+    elements_noted name k e why (inl a) =
+        let same = options_kept options selector hits s t a.replies not a.run in
         let whole = whole_text unread left text a.text known a.read a.at_end in
         let ls = asked_lines format text in
         let reads = first_of_all format kept Is says line_read ls (entries_of a.replies) r q (subst (λ x. ReadsLines says (lines (asked_lines format x)) (entries_of a.replies) r q) whole a.list) in (
           Some [],
-          asks_part options selector hits done s t not (Some ls) (Some []) before after format name e ls ls a.replies (printed_of a.replies) [] (sym (append-nil ls)) (inl (refl, refl))
+          asks_part options selector hits s t not (Some ls) (Some []) before after format name k e ls ls a.replies (printed_of a.replies) [] (sym (append-nil ls)) (inl (refl, refl))
               (begins (Some []) ls (entries_of a.replies) reads) a.run (sym (append-nil (printed_of a.replies)))
-              (loss_why format kept Is says line_read r is none (options s) (options t) name ls (entries_of a.replies) q e same reads why) a.prints,
+              (loss_why format kept Is says line_read r is none (options s) (options t) name ls (entries_of a.replies) q e same reads why)
+              (tells_in ls (entries_of a.replies) k e (loss_tells format (options t).strict name ls (entries_of a.replies) (kept q) k e why)) a.prints,
         )
-    elements_noted name e why (inr (behind, a)) =
-        let same = options_kept options selector hits done s t a.replies not a.run in (
+    elements_noted name k e why (inr (behind, a)) =
+        let same = options_kept options selector hits s t a.replies not a.run in (
           behind,
-          asks_part options selector hits done s t not (Some (asked_lines format text)) behind before after format name e a.text a.part a.replies (printed_of a.replies) [] a.read a.of_text
+          asks_part options selector hits s t not (Some (asked_lines format text)) behind before after format name k e a.text a.part a.replies (printed_of a.replies) [] a.read a.of_text
               (begins behind a.part (entries_of a.replies) a.list) a.run (sym (append-nil (printed_of a.replies)))
-              (loss_why format kept Is says line_read r is none (options s) (options t) name a.part (entries_of a.replies) q e same a.list why) a.prints,
+              (loss_why format kept Is says line_read r is none (options s) (options t) name a.part (entries_of a.replies) q e same a.list why)
+              (tells_in a.part (entries_of a.replies) k e (loss_tells format (options t).strict name a.part (entries_of a.replies) (kept q) k e why)) a.prints,
         )
 
   module _ (error_in : (part : List ℕ) (x : ElementError) → (x.error ≡ OutOfMemory) ⊎ FirstElementError format part x → IsErrorIn format part (Element x))
-      (s : S) (not : IsFalse (is_library (options s).to)) (r : R) (is : Is r) (first : number r ≡ 0) (before after : Option (List ℕ)) (text : List ℕ) where
-    fault_in : (part : List ℕ) (l : EntryFault ElementError) (e : InputError) → IsElementErrorFor l e → IsFaultOf says refuses r part l → IsErrorIn format part e
+      (s : S) (not : IsFalse (is_library (options s).to)) (r : R) (is : Is r) (first : number r ≡ 0) (none : kept r ≡ none_kept) (before after : Option (List ℕ)) (text : List ℕ) where
+    fault_in : (part : List ℕ) (l : EntryError ElementError) (e : LibraryError) → IsElementErrorFor l e → IsFaultOf says refuses r part l → IsErrorIn format part e
     fault_in part l e is_for at = let x = element_error format number kept Is says refuses reads_element refuses_element r is first part l e is_for at in rw x.1 (error_in part x.0 x.2)
 
     -- the first are asked, and there the stream has a fault
-    pub elements_stopped : (name : List ℕ) (declines : S → Tree → LinesError → Type 0) (sf : StreamFault (ListRefusal (EntryFault ElementError) LinesError)) (e : Fault)
-        → (e ≡ fault.OutOfMemory) ⊎ IsStreamFault IsElementErrorFor name sf e
-        → (behind : Option (List ℕ)) × AnswersPart (λ _ part entries. (q : R) × Reads r q part entries) (IsFaultOf says refuses r) (Asks options selector hits done) done declines s
-        (Some (asked_lines format text)) behind before after sf
-        → (behind : Option (List ℕ)) × AsksPart format name (options s) (selector s) (Some (asked_lines format text)) behind before after e
-    elements_stopped name declines sf e is_for (behind, a) = (
-      behind,
-      asks_part options selector hits done s a.last not (Some (asked_lines format text)) behind before after format name e a.text a.part a.replies a.written a.unwritten a.read a.of_text
-          (begins_in behind a.part (entries_of a.replies) (begins_list format kept Is says line_read r is a.part (entries_of a.replies) a.list.0 a.list.1)) a.run a.parts
-          (stream_why (options s) format name (IsFaultOf says refuses r) _ IsElementErrorFor fault_in a.part a.unwritten sf e is_for a.why) a.prints,
-    )
+    module _ (leaves : R → List ℕ → ElementError → R → Type 0) (left_kept : (p : R) (line : List ℕ) (x : ElementError) (u : R) → leaves p line x u → (x.error ≡ OutOfMemory) ⊎ (kept u ≡ kept p)) where
+      line_kept : (n : ℕ) (x : ElementError) (e : LibraryError) (p : R) (line : List ℕ) (u : R) → IsElementErrorFor (entry_fault.Line n x) e → leaves p line x u → IsOutOfMemory e ⊎ (kept u ≡ kept p)
+      line_kept n x e p line u is_for left = rw is_for (left_kept p line x u left)
+
+      too_many : (e : LibraryError) → IsElementErrorFor entry_fault.TooMany e → IsOutOfMemory e
+      too_many e is_for = rw is_for refl
+
+      pub elements_stopped : (q : R) (t : S) (name : List ℕ) (declines : S → Tree → LinesError → Type 0) (sf : StreamError (ListError (EntryError ElementError) LinesError)) (e : CommandError)
+          → (e ≡ fault.OutOfMemory) ⊎ IsStreamError IsElementErrorFor name sf e
+          → (behind : Option (List ℕ)) × AnswersPart (λ _ part entries. (u : R) × Reads r u part entries) (IsFaultOf says refuses r) (LeavesReader says leaves r q) (Asks options selector hits)
+          (done options selector hits) declines s t (Some (asked_lines format text)) behind before after sf
+          → (behind : Option (List ℕ)) × AsksPart format name (options s) (selector s) (hits s) (kept q) (Some (asked_lines format text)) behind before after e
+      elements_stopped q t name declines sf e is_for (behind, a) = (
+        behind,
+        asks_part options selector hits s a.last not (Some (asked_lines format text)) behind before after format name (kept q) e a.text a.part a.replies a.written a.unwritten a.read a.of_text
+            (begins_in behind a.part (entries_of a.replies) (begins_list format kept Is says line_read r is a.part (entries_of a.replies) a.list.0 a.list.1)) a.run a.parts
+            (stream_why (options s) format name (IsFaultOf says refuses r) _ IsElementErrorFor fault_in a.part a.unwritten sf e is_for a.why)
+            (tells_in a.part (entries_of a.replies) (kept q) e
+            (stream_tells format kept Is says line_read r is none leaves IsElementErrorFor line_kept too_many name a.part (entries_of a.replies) q sf e is_for a.leaves)) a.prints,
+      )
+
+-- the notes are as they were at an error that isn't out of memory
+pub same_notes : (x : ElementError) (a b : NotesView) → (x.error ≢ OutOfMemory → a ≡ b) → (x.error ≡ OutOfMemory) ⊎ (a ≡ b)
+same_notes x a b otherwise = memory_or x.error (a ≡ b) otherwise

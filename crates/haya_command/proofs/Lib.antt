@@ -1,11 +1,11 @@
+mod Bindable
+mod BoundNames
 mod ElementLists
 mod EntryLists
 mod Readers
-mod FirstBlock
 mod JsonParts
 mod Lines
 mod LinesFault
-mod Members
 mod PrintedLines
 mod SaidWhole
 mod Streams

@@ -7,7 +7,7 @@ use Rattle.haya_json.specs.declared.error.ElementError.{ElementError}
 use Rattle.haya_command.specs.AskedLines.{IsElementError, ReadsElement}
 use Rattle.haya_command.specs.declared.element_readers.ItemReader.{ItemReader}
 use Rattle.haya_command.specs.declared.element_readers.MemberReader.{MemberReader}
-use Rattle.haya_command.specs.declared.format.Format.TheVariants.{CslJson, Hayagriva}
+use Rattle.haya_formats.specs.declared.format.Format.TheVariants.{CslJson, Hayagriva}
 
 module _ (key : ItemKey) where
   abbrev pub KeepsKey : ItemReader → Type 0

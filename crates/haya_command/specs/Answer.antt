@@ -14,8 +14,8 @@ use Rattle.haya_lines.specs.Signs.{line_feed}
 use Rattle.haya_printing.specs.declared.error.LinesError.TheVariants as lines
 use Rattle.haya_command.specs.Picks.{wanted}
 use Rattle.haya_command.specs.Printed.{IsTextOf}
-use Rattle.haya_command.specs.declared.fault.Fault.{Fault}
-use Rattle.haya_command.specs.declared.fault.Fault.TheVariants as fault
+use Rattle.haya_command.specs.declared.error.CommandError.{CommandError}
+use Rattle.haya_command.specs.declared.error.CommandError.TheVariants as fault
 use Rattle.haya_command.specs.declared.form.Form.TheVariants.{Lines}
 use Rattle.haya_command.specs.declared.options.Options.{Options}
 
@@ -48,7 +48,7 @@ pub record IsAnswer (options : Options) (library : List Tree) (text : List ℕ) 
 
 -- What a fault says where nothing is answered: the selector's text is none, or, in a strict run, a
 -- hit can't be printed in lines. Nothing is said where memory is out.
-abbrev pub IsAnswerFault : Options → Fault → Type 0
+abbrev pub IsAnswerFault : Options → CommandError → Type 0
 IsAnswerFault options (fault.Selector e) =
     IfSome (selector.fault e) (TextFails (chars (string_bytes options.selector)))
 IsAnswerFault options (fault.NotPrintable e) =

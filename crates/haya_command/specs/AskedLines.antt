@@ -1,5 +1,5 @@
 -- The lines of an input that are asked, an entry after another.
-use Rattle.std.specs.Prelude.{◌≡◌, ◌≢◌, ◌⊎◌, ◌+◌, ◌-◌, ◌^◌, ℕ, IsTrue, List, [], ◌∷◌, ◌++◌, Option, Some, flat_map, length, slice_get}
+use Rattle.std.specs.Prelude.{◌≡◌, ◌≢◌, ◌≤◌, ◌⊎◌, ◌+◌, ◌-◌, ◌^◌, ℕ, IsTrue, List, [], ◌∷◌, ◌++◌, Option, Some, flat_map, length, slice_get}
 use Rattle.std.specs.List.{AllZip}
 use Rattle.std.specs.Str.Lines.{lines}
 use Rattle.hayagriva.specs.Tree.{Tree}
@@ -8,18 +8,18 @@ use Rattle.haya_elements.specs.Elements.{element_lines, nonempty_lines}
 use Rattle.haya_elements.specs.declared.place.Brackets.TheVariants.{Curly, Square}
 use Rattle.haya_json.specs.JsonLines as json_lines
 use Rattle.haya_json.specs.MemberLines as member_lines
-use Rattle.haya_json.specs.Notes.{NoteView, NotesView, all_kept}
+use Rattle.haya_json.specs.Notes.{NoteView, NotesView, all_kept, kept_of}
 use Rattle.haya_json.specs.declared.error.ElementError.{ElementError}
 use Rattle.haya_json.specs.declared.error.ReadError.{ReadError}
 use Rattle.haya_json.specs.declared.error.ReadError.TheVariants as read_error
 use Rattle.haya_list.specs.Lines as lines_list
-use Rattle.haya_list.specs.declared.fault.EntryFault.{EntryFault}
-use Rattle.haya_list.specs.declared.fault.EntryFault.TheVariants as entry_fault
+use Rattle.haya_list.specs.declared.error.EntryError.{EntryError}
+use Rattle.haya_list.specs.declared.error.EntryError.TheVariants as entry_fault
 use Rattle.haya_command.specs.Reading.{IsErrorOf}
-use Rattle.haya_command.specs.declared.fault.InputError.{InputError}
-use Rattle.haya_command.specs.declared.fault.InputError.TheVariants as input_error
-use Rattle.haya_command.specs.declared.format.Format.{Format}
-use Rattle.haya_command.specs.declared.format.Format.TheVariants.{CslJson, Hayagriva, JsonLines, Lines, Yaml}
+use Rattle.haya_command.specs.declared.error.LibraryError.{LibraryError}
+use Rattle.haya_command.specs.declared.error.LibraryError.TheVariants as input_error
+use Rattle.haya_formats.specs.declared.format.Format.{Format}
+use Rattle.haya_formats.specs.declared.format.Format.TheVariants.{Bibtex, CslJson, Hayagriva, JsonLines, Lines, Yaml}
 use Rattle.haya_command.specs.declared.options.Options.{Options}
 
 -- ---- the list of an input
@@ -37,14 +37,17 @@ IsLineIn (CslJson key) line entry = item_lines.IsItemLineOf key line entry
 IsLineIn Hayagriva line entry = member_lines.IsMemberLineOf line entry
 IsLineIn Lines line entry = ⊥
 IsLineIn Yaml line entry = ⊥
+IsLineIn Bibtex line entry = ⊥
 
--- the entries that a text lists, in order, repeated keys and all; YAML isn't asked so
+-- the entries that a text lists, in order, repeated keys and all; YAML and BibTeX
+-- aren't asked so
 abbrev pub IsListIn : Format → List ℕ → List Tree → Type 0
 IsListIn Lines text entries = lines_list.IsListOf text entries
 IsListIn JsonLines text entries = json_lines.IsListOf text entries
 IsListIn (CslJson key) text entries = item_lines.Lists key text entries
 IsListIn Hayagriva text entries = member_lines.Lists text entries
 IsListIn Yaml text entries = ⊥
+IsListIn Bibtex text entries = ⊥
 
 -- a first part of lines, or all, lists these entries
 pub record BeginsLines (format : Format) (text : List ℕ) (entries : List Tree) : Type 0 where
@@ -67,6 +70,7 @@ line_told (CslJson key) line = item_lines.line_told key line
 line_told Hayagriva line = member_lines.line_told line
 line_told Lines line = []
 line_told Yaml line = []
+line_told Bibtex line = []
 
 -- of the entries of lines
 abbrev pub lines_told : Format → List (List ℕ) → List NoteView
@@ -99,17 +103,40 @@ pub record ReadsElement (format : Format) (place : ℕ) (before : NotesView) (li
   pub reads : ReadsLine format before line entry after
   pub number : next ≡ place + 1
 
+-- ---- what is told of the lines in front of a fault
+
+-- This is what is told of the lines of which these entries are, and of no more than one line behind
+-- them, which was read, too.
+pub record TellsLines (format : Format) (text : List ℕ) (entries : List Tree) (kept : NotesView)
+    : Type 0 where
+  pub first : List (List ℕ)
+  pub next : List (List ℕ)
+  pub more : List (List ℕ)
+  pub parts : lines text ≡ (first ++ next) ++ more
+  pub listed : AllZip (IsLineIn format) (nonempty_lines first) entries
+  pub one : length next ≤ 1
+  pub told : kept ≡ kept_of (lines_told format (first ++ next))
+
 -- ---- faults of lines
 
+-- memory was out where a line was read
+abbrev pub IsOutOfMemory : LibraryError → Type 0
+IsOutOfMemory (input_error.Json e) = e ≡ read_error.OutOfMemory
+IsOutOfMemory (input_error.JsonLines e) = e.error ≡ read_error.OutOfMemory
+IsOutOfMemory (input_error.Element e) = e.error ≡ read_error.OutOfMemory
+IsOutOfMemory (input_error.Yaml e) = ⊥
+IsOutOfMemory (input_error.Bibtex e) = ⊥
+IsOutOfMemory (input_error.Lines e) = ⊥
+
 -- the error that is told of a line of JSON that says no entry
-abbrev pub IsLineErrorFor : EntryFault ReadError → InputError → Type 0
-IsLineErrorFor (entry_fault.Line number error) e =
+abbrev pub IsJsonLineErrorFor : EntryError ReadError → LibraryError → Type 0
+IsJsonLineErrorFor (entry_fault.Line number error) e =
     e ≡ input_error.JsonLines (record { line = number; error = error })
-IsLineErrorFor entry_fault.TooMany e =
+IsJsonLineErrorFor entry_fault.TooMany e =
     e ≡ input_error.JsonLines (record { line = 2 ^ 64 - 1; error = read_error.OutOfMemory })
 
 -- the same of an element's line: the error has the element's number
-abbrev pub IsElementErrorFor : EntryFault ElementError → InputError → Type 0
+abbrev pub IsElementErrorFor : EntryError ElementError → LibraryError → Type 0
 IsElementErrorFor (entry_fault.Line number error) e = e ≡ input_error.Element error
 IsElementErrorFor entry_fault.TooMany e =
     e ≡ input_error.Element (record { number = 2 ^ 64 - 1; error = read_error.OutOfMemory })
@@ -139,7 +166,7 @@ pub record FirstElementError (format : Format) (text : List ℕ) (e : ElementErr
   pub error : IsElementError format (length entries) line e
 
 -- what an error says of the lines of a text
-abbrev pub IsErrorIn : Format → List ℕ → InputError → Type 0
+abbrev pub IsErrorIn : Format → List ℕ → LibraryError → Type 0
 IsErrorIn (CslJson key) text (input_error.Element e) =
     (e.error ≡ read_error.OutOfMemory) ⊎ FirstElementError (CslJson key) text e
 IsErrorIn Hayagriva text (input_error.Element e) =

@@ -1,13 +1,16 @@
 -- The library of texts in any of the formats.
-use Rattle.std.specs.Prelude.{◌≡◌, ◌⊎◌, ◌+◌, ◌∷◌, ◌++◌, ⊤, ℕ, List, [], IsTrue, None, Option, Some, String, flat_map, fold, is_some, length, map, string_bytes}
+use Rattle.std.specs.Prelude.{◌≡◌, ◌≢◌, ◌⊎◌, ◌+◌, ◌∷◌, ◌++◌, ⊤, ℕ, List, [], IsTrue, None, Option, Some, String, flat_map, fold, is_some, length, map, string_bytes}
 use Rattle.std.specs.List.{AllZip}
 use Rattle.std.specs.Io.KnownBytes.{Consumes, IsAtEnd}
+use Rattle.std.specs.IoError.{error_kind}
 use Rattle.std.specs.Str.{IsUtf8}
 use Rattle.std.specs.Str.Lines.{lines}
 use Rattle.std.specs.Str.Lossy.{utf8_valid_len}
 use Rattle.std.specs.declared.alloc.Global.{Global}
+use Rattle.std.specs.declared.io.ErrorKind.TheVariants as kind
 use Rattle.hayagriva.specs.Library.{from_entries, get, key_of, push}
 use Rattle.hayagriva.specs.Tree.{Tree}
+use Rattle.haya_bibtex.specs.Libraries.{DescribesAsBibtex, IsBibtexErrorOf, TellsAsBibtex}
 use Rattle.haya_csl.specs.Libraries.{DescribesAsCsl, IsCslErrorOf}
 use Rattle.haya_csl.specs.Told.{TellsAsCsl}
 use Rattle.haya_input.specs.Input as input
@@ -20,15 +23,15 @@ use Rattle.haya_json.specs.Told as json_told
 use Rattle.haya_json.specs.Told.{told_again}
 use Rattle.haya_yaml_library.specs.Libraries.{DescribesAsYaml, IsYamlErrorOf, TellsAsYaml}
 use Rattle.haya_json.specs.declared.notes.Note.{Note}
-use Rattle.haya_command.specs.Block.{without_mark}
-use Rattle.haya_command.specs.Formats.{format_for, keyed_by}
-use Rattle.haya_command.specs.Likeness.{foreign_for}
-use Rattle.haya_command.specs.declared.fault.Fault.{Fault}
-use Rattle.haya_command.specs.declared.fault.Fault.TheVariants as fault
-use Rattle.haya_command.specs.declared.fault.InputError.{InputError}
-use Rattle.haya_command.specs.declared.fault.InputError.TheVariants.{Json, JsonLines as JsonLinesError, Lines as LinesError, Yaml as YamlError}
-use Rattle.haya_command.specs.declared.format.Format.{Format}
-use Rattle.haya_command.specs.declared.format.Format.TheVariants.{Hayagriva, Yaml, CslJson, JsonLines, Lines}
+use Rattle.haya_formats.specs.Block.{without_mark}
+use Rattle.haya_formats.specs.Formats.{format_for, keyed_by}
+use Rattle.haya_formats.specs.Likeness.{foreign_for}
+use Rattle.haya_command.specs.declared.error.CommandError.{CommandError}
+use Rattle.haya_command.specs.declared.error.CommandError.TheVariants as fault
+use Rattle.haya_command.specs.declared.error.LibraryError.{LibraryError}
+use Rattle.haya_command.specs.declared.error.LibraryError.TheVariants.{Bibtex as BibtexError, Json, JsonLines as JsonLinesError, Lines as LinesError, Yaml as YamlError}
+use Rattle.haya_formats.specs.declared.format.Format.{Format}
+use Rattle.haya_formats.specs.declared.format.Format.TheVariants.{Hayagriva, Yaml, Bibtex, CslJson, JsonLines, Lines}
 use Rattle.haya_command.specs.declared.options.Input.{Input}
 use Rattle.haya_command.specs.declared.options.Options.{Options}
 
@@ -38,6 +41,7 @@ use Rattle.haya_command.specs.declared.options.Options.{Options}
 abbrev pub Describes : Format → List ℕ → List Tree → Type 0
 Describes Hayagriva text library = json.Describes text library
 Describes Yaml text library = DescribesAsYaml text library
+Describes Bibtex text library = DescribesAsBibtex text library
 Describes (CslJson key) text library = DescribesAsCsl key text library
 Describes JsonLines text library = json_lines.Describes text library
 Describes Lines text library = input.Describes text library
@@ -57,14 +61,16 @@ TellsRepeats text kept =
 abbrev pub Tells : Format → List ℕ → NotesView → Type 0
 Tells Hayagriva text kept = json_told.Tells text kept
 Tells Yaml text kept = TellsAsYaml text kept
+Tells Bibtex text kept = TellsAsBibtex text kept
 Tells (CslJson key) text kept = TellsAsCsl key text kept
 Tells JsonLines text kept = json_lines.Tells text kept
 Tells Lines text kept = TellsRepeats text kept
 
 -- what an error says of a text
-abbrev pub IsErrorOf : Format → List ℕ → InputError → Type 0
+abbrev pub IsErrorOf : Format → List ℕ → LibraryError → Type 0
 IsErrorOf Hayagriva text (Json e) = json.IsErrorOf text e
 IsErrorOf Yaml text (YamlError e) = IsYamlErrorOf text e
+IsErrorOf Bibtex text (BibtexError e) = IsBibtexErrorOf text e
 IsErrorOf (CslJson key) text (Json e) = IsCslErrorOf key text e
 IsErrorOf JsonLines text (JsonLinesError e) = json_lines.IsErrorOf text e
 IsErrorOf Lines text (LinesError e) = FaultInText (input.rows_read 1 0 (lines text)) e
@@ -170,7 +176,7 @@ pub record ReadsText (given : Option Format) (unread left : Option (List ℕ)) (
 
 -- the fault that an input is foreign that is called so and begins with these bytes, or out of
 -- memory
-abbrev pub IsForeignFault : List ℕ → Option Format → List ℕ → Fault → Type 0
+abbrev pub IsForeignFault : List ℕ → Option Format → List ℕ → CommandError → Type 0
 IsForeignFault name given bytes (fault.Foreign input) =
     (string_bytes input.name ≡ name) × (foreign_for given bytes ≡ Some input.foreign)
 IsForeignFault name given bytes fault.OutOfMemory = Unit {0}
@@ -184,10 +190,11 @@ IsFirstNotUtf8 bytes at =
     ≡ length bytes + utf8_valid_len (without_mark bytes) + 1)
 
 -- What a fault says of an input that is called so, where not all that was left of it is read as a
--- text: a read failed, or what was left is foreign, or isn't UTF-8.
-abbrev pub IsReadFault : List ℕ → Option Format → Option (List ℕ) → Option (List ℕ) → Fault
+-- text: a read failed and memory wasn't out, or what was left is foreign, or isn't UTF-8.
+abbrev pub IsReadFault : List ℕ → Option Format → Option (List ℕ) → Option (List ℕ) → CommandError
     → Type 0
-IsReadFault name given unread left (fault.CannotRead called e) = string_bytes called ≡ name
+IsReadFault name given unread left (fault.CannotRead called e) =
+    (string_bytes called ≡ name) × (error_kind e ≢ kind.OutOfMemory)
 IsReadFault name given unread left (fault.Foreign input) =
     (string_bytes input.name ≡ name)
     × ((bytes : List ℕ) × Consumes unread left bytes × IsAtEnd left
@@ -199,7 +206,7 @@ IsReadFault name given unread left fault.OutOfMemory = Unit {0}
 IsReadFault name given unread left _ = ⊥
 
 -- the fault that this is the first that is told of the text that is called so
-pub record IsLoss (name : List ℕ) (kept : NotesView) (e : Fault) : Type 0 where
+pub record IsLoss (name : List ℕ) (kept : NotesView) (e : CommandError) : Type 0 where
   pub called : String Global
   pub note : Note
   pub is : e ≡ fault.PassedOver called note
@@ -207,7 +214,7 @@ pub record IsLoss (name : List ℕ) (kept : NotesView) (e : Fault) : Type 0 wher
   pub first : first_note kept ≡ Some (note_view note)
 
 -- the fault that this key of the text that is called so comes again
-pub record IsAgainFault (name key : List ℕ) (e : Fault) : Type 0 where
+pub record IsAgainFault (name key : List ℕ) (e : CommandError) : Type 0 where
   pub called : String Global
   pub again : String Global
   pub is : e ≡ fault.Again called again
@@ -215,11 +222,11 @@ pub record IsAgainFault (name key : List ℕ) (e : Fault) : Type 0 where
   pub same_key : string_bytes again ≡ key
 
 -- the same of a key that the library has
-abbrev pub IsKeyAgain : List ℕ → List Tree → List ℕ → Fault → Type 0
+abbrev pub IsKeyAgain : List ℕ → List Tree → List ℕ → CommandError → Type 0
 IsKeyAgain name library key e = IsTrue (is_some (get key library)) × IsAgainFault name key e
 
 -- the same of the first such key of this part
-pub record IsAgain (name : List ℕ) (library part : List Tree) (e : Fault) : Type 0 where
+pub record IsAgain (name : List ℕ) (library part : List Tree) (e : CommandError) : Type 0 where
   pub before : List Tree
   pub t : Tree
   pub after : List Tree
@@ -229,7 +236,7 @@ pub record IsAgain (name : List ℕ) (library part : List Tree) (e : Fault) : Ty
 
 -- What a fault says of an input, which it names: an error of its text, or, in a strict run, the
 -- first that is told of it. Other faults are none of an input alone.
-abbrev pub IsFaultIn : Options → Fault → Input → Type 0
+abbrev pub IsFaultIn : Options → CommandError → Input → Type 0
 IsFaultIn options (fault.Input name e) input =
     (string_bytes name ≡ string_bytes input.name)
     × IsErrorOf (format_in options (string_bytes input.text)) (string_bytes input.text) e
@@ -240,7 +247,7 @@ IsFaultIn options (fault.PassedOver name note) input =
 IsFaultIn options _ input = ⊥
 
 -- the fault that a key of an input comes again that this library has
-pub record IsAgainIn (options : Options) (library : List Tree) (input : Input) (e : Fault)
+pub record IsAgainIn (options : Options) (library : List Tree) (input : Input) (e : CommandError)
     : Type 0 where
   pub part : List Tree
   pub reads : IsReadAs options (string_bytes input.text) part
@@ -248,12 +255,12 @@ pub record IsAgainIn (options : Options) (library : List Tree) (input : Input) (
   pub strict : IsTrue options.strict
 
 -- a fault of an input behind the library of those before it
-abbrev pub IsFaultBehind : Options → List Tree → Input → Fault → Type 0
+abbrev pub IsFaultBehind : Options → List Tree → Input → CommandError → Type 0
 IsFaultBehind options library input e =
     IsFaultIn options e input ⊎ IsAgainIn options library input e
 
 -- a fault of this input, where those before it are read as a library, and this is told of them
-pub record IsFaultAmong (options : Options) (inputs : List Input) (e : Fault) : Type 0 where
+pub record IsFaultAmong (options : Options) (inputs : List Input) (e : CommandError) : Type 0 where
   pub before : List Input
   pub input : Input
   pub after : List Input
@@ -264,5 +271,5 @@ pub record IsFaultAmong (options : Options) (inputs : List Input) (e : Fault) : 
   pub fault : IsFaultBehind options library input e
 
 -- out of memory, or a fault of one of the inputs
-abbrev pub IsInputFault : Options → List Input → Fault → Type 0
-IsInputFault options inputs e = (e ≡ fault.OutOfMemory) ⊎ IsFaultAmong options inputs e
+abbrev pub IsInputError : Options → List Input → CommandError → Type 0
+IsInputError options inputs e = (e ≡ fault.OutOfMemory) ⊎ IsFaultAmong options inputs e

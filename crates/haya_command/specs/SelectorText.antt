@@ -4,8 +4,8 @@ use Rattle.std.specs.Str.{chars, trim_start}
 use Rattle.hayagriva.specs.Fault.{fault}
 use Rattle.hayagriva.specs.Reading.{EndsAt, TextFails}
 use Rattle.hayagriva.specs.Syntax.{Syntax}
-use Rattle.haya_command.specs.declared.fault.Fault.{Fault}
-use Rattle.haya_command.specs.declared.fault.Fault.TheVariants.{OutOfMemory, Selector, SelectorEnd}
+use Rattle.haya_command.specs.declared.error.CommandError.{CommandError}
+use Rattle.haya_command.specs.declared.error.CommandError.TheVariants.{OutOfMemory, Selector, SelectorEnd}
 
 -- what is behind the selector at the front of a text, white space aside
 abbrev pub rest_behind : List ℕ → ℕ → List ℕ
@@ -23,7 +23,7 @@ FollowsAt text place =
     × (place ≡ length text - length (rest_behind text end))
 
 -- why a text isn't one selector
-abbrev pub IsSelectorFault : List ℕ → Fault → Type 0
+abbrev pub IsSelectorFault : List ℕ → CommandError → Type 0
 IsSelectorFault text (Selector e) = IfSome (fault e) (TextFails (chars text))
 IsSelectorFault text (SelectorEnd place) = FollowsAt text place
 IsSelectorFault text OutOfMemory = Unit {0}

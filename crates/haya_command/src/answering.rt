@@ -3,10 +3,10 @@ ghost use Rattle.std.specs.Prelude.{◌≡◌, [], ◌∷◌, ◌++◌, decimal,
 ghost use Rattle.std.specs.Prelude.{string_bytes};
 ghost use Rattle.haya_asked.specs.Asked.{AreAsked};
 ghost use Rattle.haya_command.specs.Answer.{IsAnswer, IsAnswerFault, IsShown, IsWritten};
-ghost use Rattle.haya_command.specs.declared.fault.Fault.TheVariants.{OutOfMemory as memory};
+ghost use Rattle.haya_command.specs.declared.error.CommandError.TheVariants.{OutOfMemory as memory};
 ghost use Rattle.haya_lines.specs.Signs.{line_feed};
 
-use crate::fault::Fault;
+use crate::error::CommandError;
 use crate::left::LeftNotes;
 use crate::options::Options;
 use crate::picking::picks;
@@ -35,14 +35,14 @@ pub fn ask(
     keys: HashKeys,
     library: &Library,
     options: &Options,
-) -> Result<Answer, Fault>
+) -> Result<Answer, CommandError>
     ensures answer { IfOk result (λ answer.
         IsAnswer options.now library.now (string_bytes answer.text) answer.found) }
     ensures fault { IfErr result (IsAnswerFault options.now) }
 {
     let hits = match picks(alloc, library, options.selector.as_str(), options.invert) {
         Ok(hits) => hits,
-        Err(error) => return Err(Fault::Selector(error)),
+        Err(error) => return Err(CommandError::Selector(error)),
     };
     let asked = asked_hits(alloc, keys, hits, &options.questions)?;
     let found = !asked.is_empty();
@@ -74,7 +74,7 @@ fn shown(
     hits: &[Hit],
     options: &Options,
     left: &mut LeftNotes,
-) -> Result<String, Fault>
+) -> Result<String, CommandError>
     ensures shown { IfOk result (λ text. IsShown options.now hits.now (string_bytes text)) }
     ensures fault { IfErr result (IsAnswerFault options.now) }
 {
@@ -93,7 +93,7 @@ fn written(
     hits: &[Hit],
     options: &Options,
     left: &mut LeftNotes,
-) -> Result<String, Fault>
+) -> Result<String, CommandError>
     ensures written { IfOk result (λ text.
         IsWritten options.now options.now.columns hits.now (string_bytes text)) }
     ensures fault { IfErr result (IsAnswerFault options.now) }
@@ -103,12 +103,12 @@ fn written(
     }
     match hits_text(alloc, hits, options.to, options.strict, left) {
         Ok(text) => Ok(text),
-        Err(error) => Err(Fault::NotPrintable(error)),
+        Err(error) => Err(CommandError::NotPrintable(error)),
     }
 }
 
 // A number in a line of its own.
-fn count_line(alloc: Global, count: usize) -> Result<String, Fault>
+fn count_line(alloc: Global, count: usize) -> Result<String, CommandError>
     ensures line { IfOk result (λ text. string_bytes text ≡ decimal count ++ line_feed ∷ []) }
     ensures error { IsOkUnless result memory }
 {

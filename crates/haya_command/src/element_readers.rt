@@ -5,6 +5,7 @@ use haya_csl::{ItemKey, read_item_line};
 use haya_json::{ElementError, Notes, ReadError, read_member_line};
 use haya_list::EntryReader;
 use hayagriva::{Entry, HashKeys};
+use json::Scratch;
 use std::alloc::Global;
 
 /// Reads the entry that an item of CSL-JSON says, and notes what is lost of it.
@@ -15,6 +16,8 @@ pub(crate) struct ItemReader {
     key: ItemKey,
     // How many items were taken.
     number: usize,
+    // What an item is read in.
+    scratch: Scratch,
     /// What is told of the items that were read.
     pub(crate) notes: Notes,
 }
@@ -33,16 +36,18 @@ impl ItemReader {
             alloc,
             key,
             number: 0,
+            scratch: Scratch::new(alloc),
             notes: Notes::with_hash_keys(alloc, keys),
         }
     }
 }
 
 impl EntryReader for ItemReader {
-    ghost use Rattle.std.specs.Prelude.{◌≡◌};
+    ghost use Rattle.std.specs.Prelude.{◌≡◌, ◌≢◌};
     ghost use Rattle.haya_json.specs.Notes.{notes_view};
+    ghost use Rattle.haya_json.specs.declared.error.ReadError.TheVariants.{OutOfMemory};
     ghost use Rattle.haya_command.specs.AskedLines.{IsElementError, ReadsElement};
-    ghost use Rattle.haya_command.specs.declared.format.Format.TheVariants.{CslJson};
+    ghost use Rattle.haya_formats.specs.declared.format.Format.TheVariants.{CslJson};
 
     type Error = ElementError;
 
@@ -52,10 +57,13 @@ impl EntryReader for ItemReader {
 
     ghost refuses = { λ r line e. IsElementError (CslJson r.key) r.number line e };
 
+    ghost leaves = { λ r _ e t. e.error ≢ OutOfMemory → notes_view t.notes ≡ notes_view r.notes };
+
     fn read(&mut self, line: &str) -> Result<Entry, ElementError> {
         let place = self.number;
         let number = counted(&mut self.number)?;
-        match read_item_line(self.alloc, self.key, place, line, &mut self.notes) {
+        let (scratch, notes) = (&mut self.scratch, &mut self.notes);
+        match read_item_line(self.alloc, self.key, place, line, scratch, notes) {
             Ok(entry) => Ok(entry),
             Err(error) => Err(ElementError { number, error }),
         }
@@ -68,6 +76,8 @@ pub(crate) struct MemberReader {
     alloc: Global,
     // How many members were taken.
     number: usize,
+    // What a member is read in.
+    scratch: Scratch,
     /// What is told of the members that were read.
     pub(crate) notes: Notes,
 }
@@ -84,15 +94,18 @@ impl MemberReader {
         MemberReader {
             alloc,
             number: 0,
+            scratch: Scratch::new(alloc),
             notes: Notes::with_hash_keys(alloc, keys),
         }
     }
 }
 
 impl EntryReader for MemberReader {
+    ghost use Rattle.std.specs.Prelude.{◌≡◌, ◌≢◌};
     ghost use Rattle.haya_json.specs.Notes.{notes_view};
+    ghost use Rattle.haya_json.specs.declared.error.ReadError.TheVariants.{OutOfMemory};
     ghost use Rattle.haya_command.specs.AskedLines.{IsElementError, ReadsElement};
-    ghost use Rattle.haya_command.specs.declared.format.Format.TheVariants.{Hayagriva};
+    ghost use Rattle.haya_formats.specs.declared.format.Format.TheVariants.{Hayagriva};
 
     type Error = ElementError;
 
@@ -101,9 +114,11 @@ impl EntryReader for MemberReader {
 
     ghost refuses = { λ r line e. IsElementError Hayagriva r.number line e };
 
+    ghost leaves = { λ r _ e t. e.error ≢ OutOfMemory → notes_view t.notes ≡ notes_view r.notes };
+
     fn read(&mut self, line: &str) -> Result<Entry, ElementError> {
         let number = counted(&mut self.number)?;
-        match read_member_line(self.alloc, line, &mut self.notes) {
+        match read_member_line(self.alloc, line, &mut self.scratch, &mut self.notes) {
             Ok(entry) => Ok(entry),
             Err(error) => Err(ElementError { number, error }),
         }

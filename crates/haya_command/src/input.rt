@@ -1,23 +1,19 @@
 //! Reads an input, and sees what it is.
 ghost use Rattle.std.specs.Prelude.{◌≡◌, ◌+◌, None, IfErr, IfOk, OnOk, length, string_bytes};
 ghost use Rattle.std.specs.Io.KnownBytes.{IsAtEnd};
-ghost use Rattle.haya_command.specs.Block.{without_mark};
-ghost use Rattle.haya_command.specs.Formats.{format_for};
-ghost use Rattle.haya_command.specs.Likeness.{foreign_for};
+ghost use Rattle.haya_formats.specs.Block.{without_mark};
+ghost use Rattle.haya_formats.specs.Formats.{format_for};
+ghost use Rattle.haya_formats.specs.Likeness.{foreign_for};
 ghost use Rattle.haya_command.specs.Reading.{IsForeignFault, IsReadFault, ReadsText};
 
-use crate::block::without_mark;
-use crate::fault::Fault;
-use crate::foreign::{ForeignInput, foreign_of};
-use crate::foreign_text::{foreign_for, likeness_for};
-use crate::format::{Format, format_for};
+use crate::error::CommandError;
 use crate::options::Input;
+use haya_formats::{
+    ForeignInput, Format, foreign_for, foreign_of, format_for, likeness_for, without_mark,
+};
 use haya_stream::{ByteCounter, read_all};
 use std::alloc::Global;
-use std::io::{ErrorKind, Read};
-
-/// What standard input is called in messages.
-pub const STANDARD_INPUT: &str = "standard input";
+use std::io::Read;
 
 impl Input {
     /// All that a reader has left, under this name, without a byte order mark in front. The counter
@@ -32,7 +28,7 @@ impl Input {
         given: Option<Format>,
         reader: &mut R,
         counter: &mut C,
-    ) -> Result<Input, Fault>
+    ) -> Result<Input, CommandError>
         ensures text { IfOk result (λ input.
             ReadsText given (R.remaining reader.old) (R.remaining reader.new)
             (string_bytes input.text)) }
@@ -44,22 +40,21 @@ impl Input {
         let name = String::from_str(alloc, name)?;
         let mut bytes = match read_all(alloc, reader, counter) {
             Ok(bytes) => bytes,
-            Err(error) if error.kind() == ErrorKind::OutOfMemory => return Err(Fault::OutOfMemory),
-            Err(error) => return Err(Fault::CannotRead(name, error)),
+            Err(error) => return Err(CommandError::of_read(name, error)),
         };
         let marked = drop_mark(&mut bytes);
         if let Some(foreign) = foreign_of(bytes.as_slice()) {
-            return Err(Fault::Foreign(ForeignInput { name, foreign }));
+            return Err(CommandError::Foreign(ForeignInput { name, foreign }));
         }
         let text = match String::from_utf8(bytes) {
             Ok(text) => text,
             Err(error) => {
                 let at = marked + error.utf8_error().valid_up_to() + 1;
-                return Err(Fault::NotUtf8(name, at));
+                return Err(CommandError::NotUtf8(name, at));
             }
         };
         match likeness_for(given, text.as_bytes()) {
-            Some(foreign) => Err(Fault::Foreign(ForeignInput { name, foreign })),
+            Some(foreign) => Err(CommandError::Foreign(ForeignInput { name, foreign })),
             None => Ok(Input { name, text }),
         }
     }
@@ -89,14 +84,14 @@ pub fn input_format(
     name: &str,
     given: Option<Format>,
     bytes: &[u8],
-) -> Result<Format, Fault>
+) -> Result<Format, CommandError>
     ensures format { IfOk result (λ format. format ≡ format_for given bytes.now) }
     ensures own { OnOk result (foreign_for given bytes.now ≡ None) }
     ensures fault { IfErr result (IsForeignFault name.now given bytes.now) }
 {
     if let Some(foreign) = foreign_for(given, bytes) {
         let name = String::from_str(alloc, name)?;
-        return Err(Fault::Foreign(ForeignInput { name, foreign }));
+        return Err(CommandError::Foreign(ForeignInput { name, foreign }));
     }
     Ok(format_for(alloc, given, bytes)?)
 }

@@ -2,14 +2,14 @@
 //! proof.
 ghost use Rattle.std.specs.Prelude.{◌≡◌, ◌<◌, ◌≤◌, ◌↔◌, ◌⊎◌, ◌++◌, ◌∷◌, [], ℕ, All, Bool};
 ghost use Rattle.std.specs.Prelude.{IsTrue, List};
-ghost use Rattle.std.specs.Prelude.{Option, filter, length, map, string_bytes};
+ghost use Rattle.std.specs.Prelude.{None, Option, false, filter, length, map, string_bytes};
 ghost use Rattle.std.specs.List.{AllPairs, AllZip, concat, flat_map};
 ghost use Rattle.std.specs.Str.{IsUtf8, chars};
 ghost use Rattle.std.specs.Io.KnownBytes.{Appends};
 ghost use Rattle.hayagriva.specs.Holds.{holds};
 ghost use Rattle.hayagriva.specs.Library.{AreDistinct, from_entries, push};
 ghost use Rattle.hayagriva.specs.Parts.{AreApart};
-ghost use Rattle.hayagriva.specs.Query.{AreHits, hit_entry};
+ghost use Rattle.hayagriva.specs.Query.{AreHits, IsHit, hit_bound, hit_entry};
 ghost use Rattle.hayagriva.specs.Reading.{TextReads};
 ghost use Rattle.hayagriva.specs.Syntax.{Syntax};
 ghost use Rattle.hayagriva.specs.Tree.{Tree};
@@ -21,28 +21,41 @@ ghost use Rattle.haya_json.specs.JsonLines.{IsListOf};
 ghost use Rattle.haya_json.specs.Libraries as json;
 ghost use Rattle.haya_json.specs.Readable.{EntriesAreReadable};
 ghost use Rattle.haya_command.specs.Answer.{IsAnswer};
-ghost use Rattle.haya_command.specs.Formats.{format_for};
-ghost use Rattle.haya_command.specs.Likeness.{foreign_for};
+ghost use Rattle.haya_command.specs.Bound.{can_bind};
 ghost use Rattle.haya_command.specs.Picks.{wanted};
-ghost use Rattle.haya_command.specs.Plain.{is_plain};
 ghost use Rattle.haya_command.specs.Printed.{FitsLine, IsJsonLineOf};
 ghost use Rattle.haya_command.specs.Reading.{IsWhole, format_in};
 ghost use Rattle.haya_command.specs.Run.{Prints};
 ghost use Rattle.haya_command.specs.AskedLines.{IsListIn};
-ghost use Rattle.haya_command.specs.Streamed.{IsTold, end_text};
-ghost use Rattle.haya_command.specs.declared.block.TheConstants.{FIRST_BLOCK};
-ghost use Rattle.haya_command.specs.declared.format.Format.{Format as FormatData};
+ghost use Rattle.haya_command.specs.Streamable.{is_streamable};
+ghost use Rattle.haya_command.specs.Streamed.{IsTold, IsWithin, end_text, has_enough, passing};
+ghost use Rattle.haya_command.specs.Streamed.{start_text};
+ghost use Rattle.haya_formats.specs.declared.format.Format.{Format as FormatData};
 ghost use Rattle.haya_command.specs.declared.options.Options.{Options as OptionsData};
 
-/// What is printed of the hits of a list as they come, and their number at the end, is the answer
-/// of the list, where no more is asked of them.
+/// What is printed of the hits of a list as they come, between the row of names in front of them and
+/// their number at the end, is the answer of the list, where they are neither sorted nor told from
+/// others. And where the hits of its first entries are enough, it is what these are answered.
 pub fn told_hits_answer()
-    ensures { (options : OptionsData) (s : Syntax) (entries : List Tree) (hits : List HitData)
+    ensures all { (options : OptionsData) (s : Syntax) (entries : List Tree) (hits : List HitData)
         (printed : List ℕ) (found : Bool) →
-        IsTrue (is_plain options) → TextReads (chars (string_bytes options.selector)) s →
-        AreHits (wanted options.invert s) entries hits → IsTold options hits printed →
-        (IsTrue found ↔ (0 < length hits)) →
-        IsAnswer options entries (printed ++ end_text options (length hits)) found }
+        IsTrue (is_streamable options) → TextReads (chars (string_bytes options.selector)) s →
+        AreHits (wanted options.invert s) entries hits →
+        IsWithin options.questions.max (length (passing options hits)) →
+        IsTold options (passing options hits) printed →
+        (IsTrue found ↔ (0 < length (passing options hits))) →
+        IsAnswer options entries
+        (start_text options ++ printed ++ end_text options (length (passing options hits))) found }
+    ensures first { (options : OptionsData) (s : Syntax) (entries : List Tree)
+        (hits others : List HitData) (printed : List ℕ) (found : Bool) →
+        IsTrue (is_streamable options) → TextReads (chars (string_bytes options.selector)) s →
+        AreHits (wanted options.invert s) entries (hits ++ others) →
+        IsWithin options.questions.max (length (passing options hits)) →
+        IsTrue (has_enough options (length (passing options hits))) →
+        IsTold options (passing options hits) printed →
+        (IsTrue found ↔ (0 < length (passing options hits))) →
+        IsAnswer options entries
+        (start_text options ++ printed ++ end_text options (length (passing options hits))) found }
 {}
 
 /// Where the keys of a list are distinct, its answer is what the command prints that reads a
@@ -56,21 +69,18 @@ pub fn distinct_lists_stand()
         Appends before after printed → Prints options (text ∷ []) before after found }
 {}
 
+/// A hit binds no name that its selector can't bind: so no value is ever missed by the refusal of a
+/// place whose name can't be bound.
+pub fn unbound_names_stay()
+    ensures { (s : Syntax) (x : Tree) (hit : HitData) (name : List ℕ) →
+        IsHit s x hit → can_bind name s ≡ false → hit_bound hit name ≡ None }
+{}
+
 /// The library of a list is that of the entries before the last, in which the last replaces the
 /// entry of its key in its place, or follows the others.
 pub fn last_entry_replaces()
     ensures { (entries : List Tree) (t : Tree) →
         from_entries (entries ++ t ∷ []) ≡ push t (from_entries entries) }
-{}
-
-/// What an input is is seen of its first block: whatever is behind that changes neither its format
-/// nor whether it is foreign. So an input that is asked as it is read is taken for the same as one
-/// that is read as a whole.
-pub fn first_block_tells()
-    ensures format { (given : Option FormatData) (first rest : List ℕ) →
-        FIRST_BLOCK ≤ length first → format_for given (first ++ rest) ≡ format_for given first }
-    ensures foreign { (given : Option FormatData) (first rest : List ℕ) →
-        FIRST_BLOCK ≤ length first → foreign_for given (first ++ rest) ≡ foreign_for given first }
 {}
 
 /// Whole lines of JSON and a text behind them list the entries of both, and where no key is in

@@ -1,6 +1,7 @@
 //! What lines leave out of the entries that are printed, as it is told.
 ghost use Rattle.std.specs.Prelude.{◌≡◌, [], OnOk};
 
+use crate::shown::shown_key;
 use haya_printing::LeftOut;
 use haya_text::OutOfMemory;
 use std::alloc::Global;
@@ -72,7 +73,7 @@ fn line_of(alloc: Global, key: &str, left_out: &[LeftOut]) -> Result<String, Out
         let part = part_text(alloc, key, left)?;
         parts.push_str(part.as_str())?;
     }
-    let key = shown(alloc, key)?;
+    let key = shown_key(alloc, key)?;
     Ok(format!(in alloc; "haya: `{key}`: not printed in lines: {parts}\n")?)
 }
 
@@ -82,21 +83,6 @@ fn part_text(alloc: Global, key: &str, left: &LeftOut) -> Result<String, OutOfMe
     if left.key.as_str() == key {
         return Ok(format!(in alloc; "{part}")?);
     }
-    let ancestor = shown(alloc, left.key.as_str())?;
+    let ancestor = shown_key(alloc, left.key.as_str())?;
     Ok(format!(in alloc; "{part} of `{ancestor}`")?)
-}
-
-// A key in one line, as keys are printed.
-fn shown(alloc: Global, key: &str) -> Result<String, OutOfMemory> {
-    let mut text = String::new(alloc);
-    'characters: for c in key.chars() {
-        match c {
-            '\t' => text.push_str("\\t")?,
-            '\n' => text.push_str("\\n")?,
-            '\r' => text.push_str("\\r")?,
-            '\\' => text.push_str("\\\\")?,
-            _ => text.push(c)?,
-        }
-    }
-    Ok(text)
 }

@@ -1,7 +1,8 @@
 //! Messages: what is passed over, what is asked for in vain, and faults.
-use crate::fault::Fault;
+use crate::error::CommandError;
 use crate::marks::{mark, places_text, test_text};
 use crate::near::type_question;
+use crate::shown::shown;
 use haya_json::{Ignored, Notes};
 use haya_text::OutOfMemory;
 use hayagriva::{Selector, SelectorError};
@@ -29,12 +30,14 @@ pub(crate) fn push_notes(
 ) -> Result<(), OutOfMemory> {
     if !told.ignored().is_empty() {
         let members = members_text(alloc, told.ignored())?;
-        let line = format!(in alloc; "haya: {name}: passed over: {members}\n")?;
-        notes.push_str(line.as_str())?;
+        push_line(
+            alloc,
+            notes,
+            format!(in alloc; "haya: {name}: passed over: {members}")?,
+        )?;
     }
     for note in told.lines() {
-        let line = format!(in alloc; "haya: {name}: {note}\n")?;
-        notes.push_str(line.as_str())?;
+        push_line(alloc, notes, format!(in alloc; "haya: {name}: {note}")?)?;
     }
     push_more(alloc, notes, name, told.more())
 }
@@ -43,10 +46,17 @@ pub(crate) fn push_notes(
 fn push_more(alloc: Global, notes: &mut String, name: &str, more: u64) -> Result<(), OutOfMemory> {
     let line = match more {
         0 => return Ok(()),
-        1 => format!(in alloc; "haya: {name}: 1 more value was not read\n")?,
-        _ => format!(in alloc; "haya: {name}: {more} more values were not read\n")?,
+        1 => format!(in alloc; "haya: {name}: 1 more value was not read")?,
+        _ => format!(in alloc; "haya: {name}: {more} more values were not read")?,
     };
-    notes.push_str(line.as_str())?;
+    push_line(alloc, notes, line)
+}
+
+// Puts a message behind the others, in one line.
+fn push_line(alloc: Global, messages: &mut String, message: String) -> Result<(), OutOfMemory> {
+    let line = shown(alloc, message.as_str())?;
+    messages.push_str(line.as_str())?;
+    messages.push('\n')?;
     Ok(())
 }
 
@@ -54,22 +64,28 @@ fn push_more(alloc: Global, notes: &mut String, name: &str, more: u64) -> Result
 pub(crate) fn fault_text(
     alloc: Global,
     selector: &str,
-    fault: &Fault,
+    fault: &CommandError,
 ) -> Result<String, OutOfMemory> {
     match fault {
-        Fault::Selector(SelectorError::OutOfMemory) => { Ok(format!(in alloc; "haya: {fault}\n")?) }
-        Fault::Selector(error) => selector_text(alloc, selector, error),
-        Fault::SelectorEnd(place) => {
+        CommandError::Selector(SelectorError::OutOfMemory) => {
+            Ok(format!(in alloc; "haya: {fault}\n")?)
+        }
+        CommandError::Selector(error) => selector_text(alloc, selector, error),
+        CommandError::SelectorEnd(place) => {
             let mark = mark(alloc, column_of(selector, *place), 1)?;
             Ok(format!(in alloc; "haya: {selector}\n      {mark}{fault}\n")?)
         }
-        Fault::Test(text, error) => test_text(alloc, text.as_str(), error),
-        Fault::Places(text, error) => places_text(alloc, text.as_str(), error),
-        Fault::Unbound(text, name) => {
+        CommandError::Test(text, error) => test_text(alloc, text.as_str(), error),
+        CommandError::Places(text, error) => places_text(alloc, text.as_str(), error),
+        CommandError::Unbound(text, name) => {
             let mark = mark(alloc, 0, name.chars().count().max(1))?;
             Ok(format!(in alloc; "haya: {text}\n      {mark}{fault}\n")?)
         }
-        _ => Ok(format!(in alloc; "haya: {fault}\n")?),
+        _ => {
+            let mut text = String::new(alloc);
+            push_line(alloc, &mut text, format!(in alloc; "haya: {fault}")?)?;
+            Ok(text)
+        }
     }
 }
 

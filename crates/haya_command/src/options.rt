@@ -1,11 +1,12 @@
 //! What a run of the command is asked for.
 ghost use Rattle.std.specs.Prelude.{◌≡◌};
-ghost use Rattle.haya_command.specs.Plain.{is_plain};
+ghost use Rattle.haya_command.specs.Streamable.{is_streamable};
+ghost use Rattle.haya_command.specs.Streamed.{has_enough};
 
 use crate::form::Form;
-use crate::format::Format;
-use haya_asked::{Columns, Questions};
+use haya_asked::{Columns, Questions, Repeats};
 use haya_csl::ItemKey;
+use haya_formats::Format;
 
 /// What is asked, and how it is answered.
 #[derive(Debug, Drop, PartialEq, Eq)]
@@ -37,11 +38,26 @@ pub struct Options {
 }
 
 impl Options {
-    /// Whether nothing is asked of the hits but to be counted, or printed in the form.
-    pub fn is_plain(&self) -> bool
-        ensures { result ≡ is_plain self.now }
+    /// Whether the hits can be answered one by one, as they come: they aren't sorted, nor told from
+    /// others that share their values.
+    pub fn is_streamable(&self) -> bool
+        ensures { result ≡ is_streamable self.now }
     {
-        self.questions.asks_nothing() && self.columns.is_none()
+        self.questions.keys.as_slice().is_empty() && matches!(self.questions.repeats, Repeats::Kept)
+    }
+
+    /// Whether no more hits are needed where so many are there that are asked for: as many as are
+    /// wanted, or, in a quiet run, one.
+    pub fn has_enough(&self, hits: usize) -> bool
+        ensures { result ≡ has_enough self.now hits }
+    {
+        if self.quiet && hits > 0 {
+            return true;
+        }
+        match self.questions.max {
+            Some(most) => most <= hits,
+            None => false,
+        }
     }
 }
 

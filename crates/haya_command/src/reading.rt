@@ -9,21 +9,22 @@ ghost use Rattle.hayagriva.specs.Library.{get, key_of};
 ghost use Rattle.hayagriva.specs.Tree.{Tree};
 ghost use Rattle.haya_command.specs.Reading.{AddsPart, AreCollected, Describes, IsAgain};
 ghost use Rattle.haya_command.specs.Reading.{IsAgainFault};
-ghost use Rattle.haya_command.specs.Reading.{IsErrorOf, IsFaultBehind, IsFaultIn, IsInputFault};
+ghost use Rattle.haya_command.specs.Reading.{IsErrorOf, IsFaultBehind, IsFaultIn, IsInputError};
 ghost use Rattle.haya_command.specs.Reading.{IsLoss};
 ghost use Rattle.haya_command.specs.Reading.{IsKeyAgain, IsReadAs, Tells, TellsBy, again_note};
 ghost use Rattle.haya_command.specs.Reading.{all_pushed};
 ghost use Rattle.haya_command.specs.Reading.{format_in, input_names, keys_again, texts};
 ghost use Rattle.haya_command.specs.Told.{told_names, told_views};
-ghost use Rattle.haya_command.specs.declared.format.Format.TheVariants.{Lines};
+ghost use Rattle.haya_formats.specs.declared.format.Format.TheVariants.{Lines};
 ghost use Rattle.haya_command.specs.declared.options.Options.{Options as OptionsData};
 
-use crate::fault::{Fault, InputError};
-use crate::format::{Format, format_for};
+use crate::error::{CommandError, LibraryError};
 use crate::options::{Input, Options};
 use crate::told::InputNotes;
+use haya_bibtex::read_bibtex_with_hash_keys;
 use haya_csl::read_csl_json_with_hash_keys;
-use haya_input::{InputFault, Repeat, read_library_with_repeats};
+use haya_formats::{Format, format_for};
+use haya_input::{InputError, Repeat, read_library_with_repeats};
 use haya_json::{Lost, Note, Notes, read_json_lines, read_library_with_hash_keys};
 use haya_text::OutOfMemory;
 use haya_yaml_library::read_yaml_with_hash_keys;
@@ -39,7 +40,7 @@ pub fn read(
     keys: HashKeys,
     format: Format,
     text: &str,
-) -> Result<(Library, Notes), InputError>
+) -> Result<(Library, Notes), LibraryError>
     ensures library { IfOk result (λ read. Describes format text.now read.0) }
     ensures notes { IfOk result (λ read. Tells format text.now (notes_view read.1)) }
     ensures error { IfErr result (IsErrorOf format text.now) }
@@ -47,39 +48,43 @@ pub fn read(
     match format {
         Format::Hayagriva => match read_library_with_hash_keys(alloc, keys, text) {
             Ok(read) => Ok(read),
-            Err(error) => Err(InputError::Json(error)),
+            Err(error) => Err(LibraryError::Json(error)),
         },
         Format::Yaml => match read_yaml_with_hash_keys(alloc, keys, text) {
             Ok(read) => Ok(read),
-            Err(error) => Err(InputError::Yaml(error)),
+            Err(error) => Err(LibraryError::Yaml(error)),
+        },
+        Format::Bibtex => match read_bibtex_with_hash_keys(alloc, keys, text) {
+            Ok(read) => Ok(read),
+            Err(error) => Err(LibraryError::Bibtex(error)),
         },
         Format::CslJson(key) => match read_csl_json_with_hash_keys(alloc, keys, key, text) {
             Ok(read) => Ok(read),
-            Err(error) => Err(InputError::Json(error)),
+            Err(error) => Err(LibraryError::Json(error)),
         },
         Format::JsonLines => match read_json_lines(alloc, keys, text) {
             Ok(read) => Ok(read),
-            Err(error) => Err(InputError::JsonLines(error)),
+            Err(error) => Err(LibraryError::JsonLines(error)),
         },
         Format::Lines => read_lines(alloc, keys, text),
     }
 }
 
 // The library that a text describes in lines, and the keys that come again.
-fn read_lines(alloc: Global, keys: HashKeys, text: &str) -> Result<(Library, Notes), InputError>
+fn read_lines(alloc: Global, keys: HashKeys, text: &str) -> Result<(Library, Notes), LibraryError>
     ensures library { IfOk result (λ read. Describes Lines text.now read.0) }
     ensures notes { IfOk result (λ read. Tells Lines text.now (notes_view read.1)) }
     ensures error { IfErr result (IsErrorOf Lines text.now) }
 {
     let (library, repeats) = match read_library_with_repeats(alloc, keys, text) {
         Ok(read) => read,
-        Err(fault) => return Err(InputError::Lines(fault)),
+        Err(fault) => return Err(LibraryError::Lines(fault)),
     };
     match repeats_noted(alloc, keys, repeats) {
         Ok(notes) => Ok((library, notes)),
         Err(OutOfMemory) => {
             drop(library);
-            Err(InputError::Lines(InputFault::OutOfMemory))
+            Err(LibraryError::Lines(InputError::OutOfMemory))
         }
     }
 }
@@ -115,11 +120,11 @@ pub fn read_inputs(
     keys: HashKeys,
     options: &Options,
     inputs: &[Input],
-) -> Result<Collected, Fault>
+) -> Result<Collected, CommandError>
     ensures read { IfOk result (λ read.
         AreCollected options.now (texts inputs.now) read.library (told_views read.told.items)) }
     ensures names { IfOk result (λ read. told_names read.told.items ≡ input_names inputs.now) }
-    ensures fault { IfErr result (IsInputFault options.now inputs.now) }
+    ensures fault { IfErr result (IsInputError options.now inputs.now) }
 {
     let mut library = Library::with_hash_keys(alloc, keys);
     let mut told = Vec::new(alloc);
@@ -140,13 +145,13 @@ fn add_input(
     input: &Input,
     library: &mut Library,
     told: &mut Vec<InputNotes>,
-) -> Result<(), Fault>
+) -> Result<(), CommandError>
     ensures adds { OnOk result (AddsPart options.now (string_bytes input.now.text)
         library.old library.new (told_views told.old.items) (told_views told.new.items)) }
     ensures names { OnOk result (told_names told.new.items
         ≡ told_names told.old.items ++ string_bytes input.now.name ∷ []) }
     ensures fault { IfErr result (λ e.
-        (e ≡ Fault.OutOfMemory) ⊎ IsFaultBehind options.now library.old input.now e) }
+        (e ≡ CommandError.OutOfMemory) ⊎ IsFaultBehind options.now library.old input.now e) }
 {
     let (part, mut notes) = read_input(alloc, keys, options, input)?;
     note_repeats(
@@ -168,13 +173,13 @@ fn read_input(
     keys: HashKeys,
     options: &Options,
     input: &Input,
-) -> Result<(Library, Notes), Fault>
+) -> Result<(Library, Notes), CommandError>
     ensures library { IfOk result
         (λ read. IsReadAs options.now (string_bytes input.now.text) read.0) }
     ensures notes { IfOk result
         (λ read. TellsBy options.now (string_bytes input.now.text) (notes_view read.1)) }
     ensures fault { IfErr result
-        (λ e. (e ≡ Fault.OutOfMemory) ⊎ IsFaultIn options.now e input.now) }
+        (λ e. (e ≡ CommandError.OutOfMemory) ⊎ IsFaultIn options.now e input.now) }
 {
     let format = format_for(alloc, options.from, input.text.as_bytes())?.keyed_by(options.key);
     match read(alloc, keys, format, input.text.as_str()) {
@@ -195,10 +200,10 @@ pub(crate) fn check_notes(
     options: &Options,
     name: &str,
     told: Notes,
-) -> Result<Notes, Fault>
+) -> Result<Notes, CommandError>
     ensures same { IfOk result (λ notes. notes_view notes ≡ notes_view told) }
     ensures none { OnOk result (IsTrue options.now.strict → first_note (notes_view told) ≡ None) }
-    ensures fault { IfErr result (λ e. (e ≡ Fault.OutOfMemory)
+    ensures fault { IfErr result (λ e. (e ≡ CommandError.OutOfMemory)
         ⊎ (IsTrue options.now.strict × IsLoss name.now (notes_view told) e)) }
 {
     if !options.strict {
@@ -211,30 +216,30 @@ pub(crate) fn check_notes(
 }
 
 // The fault that this is the first that is told of the input that is called so.
-fn loss_fault(alloc: Global, name: &str, note: Note) -> Fault
-    ensures { (result ≡ Fault.OutOfMemory)
+fn loss_fault(alloc: Global, name: &str, note: Note) -> CommandError
+    ensures { (result ≡ CommandError.OutOfMemory)
         ⊎ ((kept : NotesView) → first_note kept ≡ Some (note_view note)
         → IsLoss name.now kept result) }
 {
     match String::from_str(alloc, name) {
-        Ok(name) => Fault::PassedOver(name, note),
+        Ok(name) => CommandError::PassedOver(name, note),
         Err(_) => {
             drop(note);
-            Fault::OutOfMemory
+            CommandError::OutOfMemory
         }
     }
 }
 
 // The fault of the input that this is an error of.
-fn error_fault(alloc: Global, input: &Input, error: InputError) -> Fault
+fn error_fault(alloc: Global, input: &Input, error: LibraryError) -> CommandError
     ensures { (options : OptionsData) →
         IsErrorOf (format_in options (string_bytes input.now.text))
         (string_bytes input.now.text) error →
-        (result ≡ Fault.OutOfMemory) ⊎ IsFaultIn options result input.now }
+        (result ≡ CommandError.OutOfMemory) ⊎ IsFaultIn options result input.now }
 {
     match String::from_str(alloc, input.name.as_str()) {
-        Ok(name) => Fault::Input(name, error),
-        Err(_) => Fault::OutOfMemory,
+        Ok(name) => CommandError::Input(name, error),
+        Err(_) => CommandError::OutOfMemory,
     }
 }
 
@@ -248,12 +253,12 @@ fn note_repeats(
     library: &Library,
     more: &Library,
     told: &mut Notes,
-) -> Result<(), Fault>
+) -> Result<(), CommandError>
     ensures told { OnOk result (notes_view told.new
         ≡ all_kept (keys_again library.now more.now) (notes_view told.old)) }
     ensures strict { OnOk result
         (IsTrue options.now.strict → notes_view told.new ≡ notes_view told.old) }
-    ensures fault { IfErr result (λ e. (e ≡ Fault.OutOfMemory)
+    ensures fault { IfErr result (λ e. (e ≡ CommandError.OutOfMemory)
         ⊎ (IsTrue options.now.strict × IsAgain name.now library.now more.now e)) }
 {
     if library.is_empty() {
@@ -274,14 +279,14 @@ fn note_repeat(
     library: &Library,
     key: &str,
     told: &mut Notes,
-) -> Result<(), Fault>
+) -> Result<(), CommandError>
     ensures told { OnOk result (notes_view told.new
         ≡ all_kept (told_again library.now key.now) (notes_view told.old)) }
     ensures none { OnOk result
         (IsTrue options.now.strict → told_again library.now key.now ≡ []) }
     ensures strict { OnOk result
         (IsTrue options.now.strict → notes_view told.new ≡ notes_view told.old) }
-    ensures fault { IfErr result (λ e. (e ≡ Fault.OutOfMemory)
+    ensures fault { IfErr result (λ e. (e ≡ CommandError.OutOfMemory)
         ⊎ (IsTrue options.now.strict × IsKeyAgain name.now library.now key.now e)) }
 {
     if library.get(key).is_none() {
@@ -292,22 +297,22 @@ fn note_repeat(
     }
     match told.add(alloc, key, Lost::again(alloc)) {
         Ok(()) => Ok(()),
-        Err(_) => Err(Fault::OutOfMemory),
+        Err(_) => Err(CommandError::OutOfMemory),
     }
 }
 
 // The fault that a key of the input that is called so comes again.
-fn again_fault(alloc: Global, name: &str, key: &str) -> Fault
-    ensures { (result ≡ Fault.OutOfMemory) ⊎ IsAgainFault name.now key.now result }
+fn again_fault(alloc: Global, name: &str, key: &str) -> CommandError
+    ensures { (result ≡ CommandError.OutOfMemory) ⊎ IsAgainFault name.now key.now result }
 {
     let Ok(name) = String::from_str(alloc, name) else {
-        return Fault::OutOfMemory;
+        return CommandError::OutOfMemory;
     };
     match String::from_str(alloc, key) {
-        Ok(key) => Fault::Again(name, key),
+        Ok(key) => CommandError::Again(name, key),
         Err(_) => {
             drop(name);
-            Fault::OutOfMemory
+            CommandError::OutOfMemory
         }
     }
 }

@@ -7,7 +7,7 @@ ghost use Rattle.haya_command.specs.Run.{Prints, Stands};
 ghost use Rattle.haya_command.specs.SelectorText.{IsOneSelector};
 
 use crate::answering::{Answer, ask};
-use crate::fault::Fault;
+use crate::error::CommandError;
 use crate::hints::{parents_hint, warnings};
 use crate::notes::fault_text;
 use crate::options::{Input, Options};
@@ -51,12 +51,12 @@ pub fn run<W: Write, E: Write>(
 
 /// Tells a fault, where the run isn't quiet and somebody reads what it prints. The answer is the
 /// status that the process is to end with, 2.
-pub fn complain<E: Write>(alloc: Global, options: &Options, fault: &Fault, err: &mut E) -> u8
+pub fn complain<E: Write>(alloc: Global, options: &Options, fault: &CommandError, err: &mut E) -> u8
     ensures status { result ≡ 2 }
     ensures quiet { IsTrue options.now.quiet →
         Keeps (E.contents err.old) (E.contents err.new) }
 {
-    if options.quiet || matches!(fault, Fault::Closed) {
+    if options.quiet || matches!(fault, CommandError::Closed) {
         return 2;
     }
     match fault_text(alloc, options.selector.as_str(), fault) {
@@ -79,7 +79,7 @@ fn print_answer<W: Write, E: Write>(
     inputs: &[Input],
     out: &mut W,
     err: &mut E,
-) -> Result<bool, Fault>
+) -> Result<bool, CommandError>
     ensures answer { IfOk result (λ found. Prints options.now (texts inputs.now)
         (W.contents out.old) (W.contents out.new) found) }
     ensures fault { OnErr result (Stands options.now (texts inputs.now)
@@ -110,7 +110,7 @@ fn hint_for(
     alloc: Global,
     options: &Options,
     library: &Library,
-    asked: &Result<Answer, Fault>,
+    asked: &Result<Answer, CommandError>,
 ) -> String {
     match asked {
         Ok(answer) if !answer.found => {

@@ -33,11 +33,11 @@ module _ (by : ItemKey) (item : Json) (key : List ℕ) where
   kind = kind_of item
 
   -- one that has no place, or another is preferred to it
-  by_choice : (l : Level) (c : Choice) (name : List ℕ) (j : Json) (d : DraftView) (told : List ℕ) → name_by_choice name c ≡ Some told → (chosen l c key name item j d).lost ≡ lost_here (named told) ∷ []
+  by_choice : (l : Level) (c : Choice) (name : List ℕ) (j : Json) (d : DraftView) (told : List ℕ) → name_by_choice item name c ≡ Some told → (chosen l c key name item j d).lost ≡ lost_here (named told) ∷ []
   by_choice l Pass name j d told h = ap (λ n. lost_here (named n) ∷ []) (some_same h)
   by_choice l (Put f) name j d told h = cc
 
-  by_role : (role : Option RoleView) (place : Option Place) (name : List ℕ) (j : Json) (d : DraftView) (told : List ℕ) → name_by_role name role place ≡ Some told
+  by_role : (role : Option RoleView) (place : Option Place) (name : List ℕ) (j : Json) (d : DraftView) (told : List ℕ) → name_by_role item name role place ≡ Some told
       → (with_role_or_place role place key name item j d).lost ≡ lost_here (named told) ∷ []
   by_role (Some role) place name j d told h = cc
   by_role None None name j d told h = ap (λ n. lost_here (named n) ∷ []) (some_same h)
@@ -49,7 +49,7 @@ module _ (by : ItemKey) (item : Json) (key : List ℕ) where
       cases (is_empty j) (bytes_eq name (codes "id")) (bytes_eq name (codes "citation-key")) (bytes_eq name (codes "type")) (is_place_again name item j) h
     where
       cases : (empty id citation type again : Bool)
-          → (if empty || (id || (citation || (type || again))) then None else name_by_role name (role_of name) (place_of (kind_of item) name item)) ≡ Some told
+          → (if empty || (id || (citation || (type || again))) then None else name_by_role item name (role_of name) (place_of (kind_of item) name item)) ≡ Some told
           → (if empty then only_lost [] d else if id then only_lost [] d else if citation then only_lost (citation_key_lost by j) d else if type then only_lost (type_lost (text_in j) item) d
           else if again then only_lost [] d else with_field (kind_of item) key name item j d).lost ≡ lost_here (named told) ∷ []
       cases true id citation type again h = cc

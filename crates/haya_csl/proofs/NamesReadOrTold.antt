@@ -14,8 +14,8 @@ use Rattle.haya_json.specs.Notes.{LostView, all_behind, lost_behind, lost_here, 
 use Rattle.haya_json.specs.Refusal.{to_item, to_member}
 use Rattle.haya_json.specs.declared.fault.Why.TheVariants.{Missing, NotTruth}
 use Rattle.haya_csl.specs.Markup.{markup_read}
-use Rattle.haya_csl.specs.Names.{NameView, PartSetter, PartsView, beside, beside_text, institution, is_true, lost_in, lost_part, name_by, name_said, nameless, no_part, no_parts, part_beside, part_said, part_setter, particles, parts_set, person, person_before, person_by, person_named, person_of_parts, persons_in, true_beside, truth_said, with_named_part, with_part}
-use Rattle.haya_csl.specs.NamesReadOrTold.{HasPart, HasText, IsAmong, IsPartTold, PartIsReadOrTold, TellsAt}
+use Rattle.haya_csl.specs.Names.{NameView, PartSetter, PartsView, alone, beside, beside_text, institution, is_true, lost_in, lost_part, name_by, name_said, names_said, nameless, no_part, no_parts, part_beside, part_said, part_setter, particles, parts_set, person, person_before, person_by, person_named, person_of_parts, persons_in, true_beside, truth_said, with_named_part, with_part}
+use Rattle.haya_csl.specs.NamesReadOrTold.{HasPart, HasText, IsAlone, IsAmong, IsPartTold, PartIsReadOrTold, TellsAt}
 use Rattle.haya_csl.specs.ReadOrTold.{LeavesNone}
 use Rattle.haya_csl.specs.Said.{SaidView}
 use Rattle.haya_csl.specs.Texts.{says_some}
@@ -519,3 +519,12 @@ told_at of js n j x found has = let same : 0 + n ≡ n = omega arith in subst (�
         let place : (m + 1) + n ≡ m + suc n = omega arith in
         subst (λ (k : ℕ). Contains (lost_in of m (json.item i more)) (lost_behind (to_item k) x)) place
         (Contains-append_right (all_behind (to_item m) (name_said of i).lost) (lost_in of (m + 1) more) (lost_behind (to_item (m + 1 + n)) x) (there more n (m + 1) found))
+
+-- a name that is in no list
+pub said_alone : (of : List ℕ) (j : Json) → IsAlone j → names_said of j ≡ alone (name_said of j)
+said_alone of (json.object ms) is = refl
+said_alone of (json.string text) is = refl
+said_alone of (json.number text) is = absurd is
+said_alone of (json.array js) is = absurd is
+said_alone of (json.boolean b) is = absurd is
+said_alone of json.null is = absurd is

@@ -372,7 +372,7 @@ module _ (by : ItemKey) (kind : Kind) (key : List ℕ) (item : Json) where
   ReadOr role place name j m = IsRead role place name item j m.after ⊎ ((x : LostView) × Contains m.lost x)
 
   by_choice : (l : Level) (c : Choice) (name : List ℕ) (j : Json) (d : DraftView) → IsPut l c name item j (chosen l c key name item j d).after ⊎ ((x : LostView) × Contains (chosen l c key name item j d).lost x)
-  by_choice l Pass name j d = inr (told_one (lost_here (named (beside name))))
+  by_choice l Pass name j d = inr (told_one (lost_here (named (beside name item))))
   by_choice l (Put f) name j d = at_place key (setter_of f name item) (HasField f name item j) (AddsNothing f name item j) j (field_set f name item j) l d
 
   by_role : (role : Option RoleView) (place : Option Place) (name : List ℕ) (j : Json) (d : DraftView) → ReadOr role place name j (with_role_or_place role place key name item j d)

@@ -148,7 +148,7 @@ set_at level.Original key set j d =
 
 -- a member that is passed over is lost beside the one that is preferred
 abbrev pub chosen : Level → Choice → List ℕ → List ℕ → Json → Json → DraftView → MemberView
-chosen l Pass key name item j d = is_lost (named (beside name)) d
+chosen l Pass key name item j d = is_lost (named (beside name item)) d
 chosen l (Put field) key name item j d = set_at l key (setter_of field name item) j d
 
 -- the same by the place of the member; one that has none is lost

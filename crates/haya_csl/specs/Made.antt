@@ -11,8 +11,8 @@ use Rattle.haya_json.specs.Refusal.{IsFaultOf, within, to_item}
 use Rattle.haya_json.specs.Told.{told_of}
 use Rattle.haya_json.specs.declared.error.ReadError.{ReadError}
 use Rattle.haya_json.specs.declared.error.ReadError.TheVariants as error
-use Rattle.haya_json.specs.declared.fault.Fault.{Fault}
-use Rattle.haya_json.specs.declared.fault.Fault.TheVariants as fault
+use Rattle.haya_json.specs.declared.fault.ValueError.{ValueError}
+use Rattle.haya_json.specs.declared.fault.ValueError.TheVariants as fault
 use Rattle.haya_csl.specs.Items.{item_of, item_said}
 use Rattle.haya_csl.specs.Libraries.{items_pushed}
 use Rattle.haya_csl.specs.Told.{items_told}
@@ -76,6 +76,6 @@ MakesEntry by j place old new =
     (λ f. new.fault ≡ Some f)
 
 -- what is told of a text where an item has this fault
-abbrev pub IsErrorWith : Fault → ReadError → Type 0
+abbrev pub IsErrorWith : ValueError → ReadError → Type 0
 IsErrorWith (fault.Refused path why) e = e ≡ error.Refused path why
 IsErrorWith fault.OutOfMemory e = e ≡ error.OutOfMemory

@@ -1,11 +1,12 @@
 -- The members of an item: the field that each sets, and the entry whose field that is.
-use Rattle.std.specs.Prelude.{ℕ, List, [], ◌∷◌, Option, None, Some, option_map, unwrap_or, codes, if◌then◌else◌}
+use Rattle.std.specs.Prelude.{ℕ, ◌&&◌, Bool, List, [], ◌∷◌, Option, None, Some, option_map, unwrap_or, codes, if◌then◌else◌}
 use Rattle.std.specs.Map.{lookup}
 use Rattle.std.specs.Str.{bytes_eq}
 use Rattle.json.specs.Json.{Json}
 use Rattle.haya_entry.specs.declared.types.EntryType.{EntryType}
 use Rattle.haya_entry.specs.declared.types.EntryType.TheVariants.{Exhibition}
 use Rattle.haya_csl.specs.Kinds.{has, text_at}
+use Rattle.haya_csl.specs.Serials.{is_of_arxiv}
 use Rattle.haya_csl.specs.declared.kinds.Kind.{Kind}
 use Rattle.haya_csl.specs.declared.kinds.Host.{Host}
 use Rattle.haya_csl.specs.declared.kinds.Own.{Own}
@@ -42,11 +43,17 @@ choice_in table name item = option_map (λ choose. choose item) (lookup (bytes_e
 
 -- ---- what goes to the item's own entry
 
--- where an item is kept: at arXiv that is a number, and otherwise a call number
+-- whether arXiv keeps an item
+abbrev pub is_at_arxiv : Json → Bool
+is_at_arxiv item = bytes_eq (text_at (codes "archive") item) (codes "arXiv")
+
+-- where an item is kept: at arXiv that is a number, where the item's own is none of arXiv, and
+-- otherwise a call number
 abbrev pub archive_location_in : Json → Choice
 archive_location_in item =
-    if bytes_eq (text_at (codes "archive") item) (codes "arXiv") then
-    Put (field.Serial serial.Arxiv)
+    if is_at_arxiv item then (
+    if is_of_arxiv (text_at (codes "number") item) then Pass
+    else Put (field.Serial serial.Arxiv))
     else unless (codes "call-number") field.ArchiveNumber item
 
 abbrev pub own_texts : MemberTable
@@ -269,5 +276,8 @@ beside_table =
     ∷ (codes "shortTitle", codes "shortTitle beside title-short")
     ∷ []
 
-abbrev pub beside : List ℕ → List ℕ
-beside name = unwrap_or (lookup (bytes_eq name) beside_table) name
+abbrev pub beside : List ℕ → Json → List ℕ
+beside name item =
+    if bytes_eq name (codes "archive_location") && is_at_arxiv item then
+    codes "archive_location beside number"
+    else unwrap_or (lookup (bytes_eq name) beside_table) name

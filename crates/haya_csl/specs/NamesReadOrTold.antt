@@ -1,6 +1,7 @@
 -- Each member of a name is read, or told, and so is each name of a list.
-use Rattle.std.specs.Prelude.{◌≡◌, ◌⊎◌, ℕ, false, List, ◌++◌, Some, codes, IsSomeAnd, IsTrue}
+use Rattle.std.specs.Prelude.{◌≡◌, ◌⊎◌, ℕ, false, List, ◌++◌, Some, codes, IsSomeAnd, IsTrue, ⊤}
 use Rattle.std.specs.List.{Contains}
+use Rattle.json.specs.Json as json
 use Rattle.json.specs.Json.{Items, Json, Members, array, object}
 use Rattle.json.specs.Find.{is_null}
 use Rattle.haya_text.specs.Printing.{text_display}
@@ -56,3 +57,9 @@ IsAmong of js p = IsSomeAnd (names_said of (array js)).value (λ persons. Contai
 -- what is lost of a name is told at its place
 abbrev pub TellsAt : List ℕ → Items → ℕ → LostView → Type 0
 TellsAt of js n x = Contains (names_said of (array js)).lost (lost_behind (to_item n) x)
+
+-- a name that is in no list: an object of its parts, or a text
+abbrev pub IsAlone : Json → Type 0
+IsAlone (json.object ms) = ⊤
+IsAlone (json.string text) = ⊤
+IsAlone _ = ⊥

@@ -1,5 +1,5 @@
 -- Serial numbers, without the addresses and names of series in front of them.
-use Rattle.std.specs.Prelude.{ℕ, List, [], ◌∷◌, length, drop, codes, is_some, unwrap_or, Option, None, Some, if◌then◌else◌}
+use Rattle.std.specs.Prelude.{ℕ, ◌==◌, ◌&&◌, Bool, not, List, [], ◌∷◌, length, drop, codes, is_some, unwrap_or, Option, None, Some, if◌then◌else◌}
 use Rattle.std.specs.Str.{trim}
 use Rattle.json.specs.Json.{Json}
 use Rattle.haya_text.specs.Texts.{TextView, without_short}
@@ -41,6 +41,11 @@ bare text = trim (without addresses (trim (without series_names (trim text))))
 abbrev pub number_key : List ℕ → List ℕ
 number_key text =
     if is_some (behind (codes "arXiv:") (trim text)) then codes "arxiv" else codes "serial"
+
+-- one of arXiv, which isn't empty
+abbrev pub is_of_arxiv : List ℕ → Bool
+is_of_arxiv text =
+    is_some (behind (codes "arXiv:") (trim text)) && not (length (bare text) == 0)
 
 -- the key of a serial number
 abbrev pub serial_key : SerialField → List ℕ → List ℕ

@@ -6,7 +6,7 @@ ghost use Rattle.haya_csl.specs.Items.{citation_key_of, given_or, id_of, item_ke
 
 use crate::kinds::filled;
 use haya_json::Why;
-use haya_json::reading::{Fault, read_text, text_in};
+use haya_json::reading::{ValueError, read_text, text_in};
 use json::Value;
 use std::alloc::Global;
 
@@ -21,7 +21,11 @@ pub enum ItemKey {
 }
 
 /// The key of an item.
-pub(crate) fn item_key<'a>(alloc: Global, by: ItemKey, item: &Value<'a>) -> Result<&'a str, Fault>
+pub(crate) fn item_key<'a>(
+    alloc: Global,
+    by: ItemKey,
+    item: &Value<'a>,
+) -> Result<&'a str, ValueError>
     ensures ok { IfOk result (λ key. item_key by (value_view item.now) ≡ Ok key.now) }
     ensures fault { IfErr result (IsFaultOf (item_key by (value_view item.now))) }
 {
@@ -32,7 +36,11 @@ pub(crate) fn item_key<'a>(alloc: Global, by: ItemKey, item: &Value<'a>) -> Resu
 }
 
 // This key, or the `id` where there is none.
-fn key_or_id<'a>(alloc: Global, key: Option<&'a str>, item: &Value<'a>) -> Result<&'a str, Fault>
+fn key_or_id<'a>(
+    alloc: Global,
+    key: Option<&'a str>,
+    item: &Value<'a>,
+) -> Result<&'a str, ValueError>
     ensures ok { IfOk result (λ text. given_or (option_map (λ t. t.now) key.entry)
         (id_of (value_view item.now)) ≡ Ok text.now) }
     ensures fault { IfErr result (IsFaultOf
@@ -52,12 +60,12 @@ fn citation_key<'a>(item: &Value<'a>) -> Option<&'a str>
 }
 
 // The text of `id`, which has to be there.
-fn read_id<'a>(alloc: Global, item: &Value<'a>) -> Result<&'a str, Fault>
+fn read_id<'a>(alloc: Global, item: &Value<'a>) -> Result<&'a str, ValueError>
     ensures ok { IfOk result (λ key. id_of (value_view item.now) ≡ Ok key.now) }
     ensures fault { IfErr result (IsFaultOf (id_of (value_view item.now))) }
 {
     let Some(id) = filled(item, "id") else {
-        return Err(Fault::refused(alloc, Why::Missing).in_member(alloc, "id"));
+        return Err(ValueError::refused(alloc, Why::Missing).in_member(alloc, "id"));
     };
     match read_text(alloc, id) {
         Ok(key) => Ok(key),

@@ -26,7 +26,7 @@ use crate::kinds::{Kind, has, is_empty, kind_named, kind_of, text_at};
 use crate::members::{Choice, Place, beside, place_of};
 use haya_entry::Entry;
 use haya_json::reading::{
-    Fault, Reading, add_in_member, only_named, only_unread, push_reading, text_in,
+    Reading, ValueError, add_in_member, only_named, only_unread, push_reading, text_in,
 };
 use haya_json::{Lost, Notes, Why};
 use haya_people::PersonRole;
@@ -36,13 +36,13 @@ use json::Value;
 use std::alloc::Global;
 
 /// What an item says, an object that has a key.
-pub(crate) fn read_item(alloc: Global, by: ItemKey, item: &Value<'_>) -> Result<Reading, Fault>
+pub(crate) fn read_item(alloc: Global, by: ItemKey, item: &Value<'_>) -> Result<Reading, ValueError>
     ensures ok { IfOk result (λ read.
         item_said by (value_view item.now) ≡ Ok (reading_view read)) }
     ensures fault { IfErr result (IsFaultOf (item_of by (value_view item.now))) }
 {
     let Value::Object(members) = item else {
-        return Err(Fault::refused(alloc, Why::NotObject));
+        return Err(ValueError::refused(alloc, Why::NotObject));
     };
     let key = match item_key(alloc, by, item) {
         Ok(key) => key,
@@ -51,7 +51,7 @@ pub(crate) fn read_item(alloc: Global, by: ItemKey, item: &Value<'_>) -> Result<
     let kind = kind_of(item);
     let mut draft = match Entry::new(alloc, key, kind.entry) {
         Ok(own) => Draft::new(alloc, own),
-        Err(_) => return Err(Fault::OutOfMemory),
+        Err(_) => return Err(ValueError::OutOfMemory),
     };
     match fill(alloc, &mut draft, by, kind, key, item, members) {
         Ok(lost) => Ok(Reading {
@@ -60,7 +60,7 @@ pub(crate) fn read_item(alloc: Global, by: ItemKey, item: &Value<'_>) -> Result<
         }),
         Err(_) => {
             drop(draft);
-            Err(Fault::OutOfMemory)
+            Err(ValueError::OutOfMemory)
         }
     }
 }
@@ -73,13 +73,13 @@ pub(crate) fn push_item(
     item: &Value<'_>,
     library: &mut Library,
     notes: &mut Notes,
-) -> Result<(), Fault>
+) -> Result<(), ValueError>
     ensures ok { OnOk result (PushesItem by (value_view item.now) library.old library.new
         (notes_view notes.old) (notes_view notes.new)) }
     ensures fault { IfErr result (IsFaultOf (item_of by (value_view item.now))) }
 {
     let Value::Object(members) = item else {
-        return Err(Fault::refused(alloc, Why::NotObject));
+        return Err(ValueError::refused(alloc, Why::NotObject));
     };
     let key = match item_key(alloc, by, item) {
         Ok(key) => key,
@@ -87,7 +87,7 @@ pub(crate) fn push_item(
     };
     match push_under(alloc, by, key, item, members, library, notes) {
         Ok(()) => Ok(()),
-        Err(_) => Err(Fault::OutOfMemory),
+        Err(_) => Err(ValueError::OutOfMemory),
     }
 }
 
@@ -307,7 +307,7 @@ fn set_placed(
         return only_named(alloc, name);
     };
     match place.choice {
-        Choice::Pass => only_named(alloc, beside(name)),
+        Choice::Pass => only_named(alloc, beside(name, item)),
         Choice::Put(field) => draft.set(alloc, place.level, key, field, name, item, json),
     }
 }

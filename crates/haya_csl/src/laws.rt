@@ -17,8 +17,8 @@ ghost use Rattle.haya_csl.specs.ItemLines.{LinesList, Lists};
 ghost use Rattle.haya_csl.specs.Items.{item_key, item_said};
 ghost use Rattle.haya_csl.specs.Libraries.{DescribesAsCsl, csl_library_of};
 ghost use Rattle.haya_csl.specs.LostMembers.{lost_as, told_as};
-ghost use Rattle.haya_csl.specs.Names.{name_said};
-ghost use Rattle.haya_csl.specs.NamesReadOrTold.{IsAmong, PartIsReadOrTold, TellsAt};
+ghost use Rattle.haya_csl.specs.Names.{alone, name_said, names_said};
+ghost use Rattle.haya_csl.specs.NamesReadOrTold.{IsAlone, IsAmong, PartIsReadOrTold, TellsAt};
 ghost use Rattle.haya_csl.specs.ReadOrTold.{IsReadOrTold, entries_after, joined};
 ghost use Rattle.haya_csl.specs.Refused.{RefusesLibrary};
 ghost use Rattle.haya_csl.specs.Told.{TellsAsCsl};
@@ -82,12 +82,14 @@ pub fn parts_are_read_or_told()
 {}
 
 /// The person whom a name of a list says is among the persons of the list, and what is lost of the
-/// name is told at its place.
+/// name is told at its place. A name in no list says its person alone, and what is lost of it is lost.
 pub fn names_are_read_or_told()
     ensures person { (of : List ℕ) (js : Items) (n : ℕ) (j : Json) (p : PersonView) →
         get_item n js ≡ Some j → (name_said of j).value ≡ Some p → IsAmong of js p }
     ensures lost { (of : List ℕ) (js : Items) (n : ℕ) (j : Json) (x : LostView) →
         get_item n js ≡ Some j → Contains (name_said of j).lost x → TellsAt of js n x }
+    ensures one { (of : List ℕ) (j : Json) →
+        IsAlone j → names_said of j ≡ alone (name_said of j) }
 {}
 
 /// Each member of a date, the last of its name, is as if it weren't there, or the date has what it

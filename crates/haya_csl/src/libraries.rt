@@ -10,7 +10,7 @@ ghost use Rattle.haya_csl.specs.Told.{TellsAsCsl, items_told, list_in_told, list
 use crate::item_key::ItemKey;
 use crate::items::read_item;
 use crate::turns::read_list_text;
-use haya_json::reading::{Fault, member, name_twice, not_json, push_reading};
+use haya_json::reading::{ValueError, member, name_twice, not_json, push_reading};
 use haya_json::{Notes, ReadError, Why};
 use hayagriva::{HashKeys, Library};
 use json::{Scratch, Value};
@@ -71,8 +71,8 @@ fn read_text(
     match Value::parse_strict(alloc, text, scratch) {
         Ok(json) => match library_and_notes(alloc, keys, by, &json) {
             Ok(read) => Ok(read),
-            Err(Fault::Refused(path, why)) => Err(ReadError::Refused(path, why)),
-            Err(Fault::OutOfMemory) => Err(ReadError::OutOfMemory),
+            Err(ValueError::Refused(path, why)) => Err(ReadError::Refused(path, why)),
+            Err(ValueError::OutOfMemory) => Err(ReadError::OutOfMemory),
         },
         Err(json::Error::Invalid) => Err(not_json(alloc, text)),
         Err(json::Error::DuplicateKey) => Err(name_twice(alloc, text)),
@@ -87,7 +87,7 @@ fn library_and_notes(
     keys: HashKeys,
     by: ItemKey,
     json: &Value<'_>,
-) -> Result<(Library, Notes), Fault>
+) -> Result<(Library, Notes), ValueError>
     ensures ok { IfOk result (λ read. csl_library_of by (value_view json.now) ≡ Ok read.0) }
     ensures notes { IfOk result (λ read.
         notes_view read.1 ≡ kept_of (told by (value_view json.now))) }
@@ -110,7 +110,7 @@ fn library_of(
     by: ItemKey,
     json: &Value<'_>,
     notes: &mut Notes,
-) -> Result<Library, Fault>
+) -> Result<Library, ValueError>
     ensures ok { IfOk result (λ library. csl_library_of by (value_view json.now) ≡ Ok library) }
     ensures notes { OnOk result (notes_view notes.new
         ≡ all_kept (told by (value_view json.now)) (notes_view notes.old)) }
@@ -129,7 +129,7 @@ fn read_in(
     by: ItemKey,
     list: Option<&Value<'_>>,
     notes: &mut Notes,
-) -> Result<Library, Fault>
+) -> Result<Library, ValueError>
     ensures ok { IfOk result (λ library.
         list_in by (option_map (λ j. value_view j.now) list.entry) ≡ Ok library) }
     ensures notes { OnOk result (notes_view notes.new
@@ -139,7 +139,7 @@ fn read_in(
         (list_in by (option_map (λ j. value_view j.now) list.entry))) }
 {
     let Some(list) = list else {
-        return Err(Fault::refused(alloc, Why::NotList));
+        return Err(ValueError::refused(alloc, Why::NotList));
     };
     match read_list(alloc, keys, by, list, notes) {
         Ok(library) => Ok(library),
@@ -154,7 +154,7 @@ fn read_list(
     by: ItemKey,
     json: &Value<'_>,
     notes: &mut Notes,
-) -> Result<Library, Fault>
+) -> Result<Library, ValueError>
     ensures ok { IfOk result (λ library. list_of by (value_view json.now) ≡ Ok library) }
     ensures notes { OnOk result (notes_view notes.new
         ≡ all_kept (list_told by (value_view json.now)) (notes_view notes.old)) }
@@ -162,7 +162,7 @@ fn read_list(
 {
     match json {
         Value::Array(items) => read_items(alloc, keys, by, items, notes),
-        _ => Err(Fault::refused(alloc, Why::NotList)),
+        _ => Err(ValueError::refused(alloc, Why::NotList)),
     }
 }
 
@@ -174,7 +174,7 @@ fn read_items(
     by: ItemKey,
     items: &Vec<Value<'_>>,
     notes: &mut Notes,
-) -> Result<Library, Fault>
+) -> Result<Library, ValueError>
     ensures ok { IfOk result (λ library.
         items_pushed by [] 0 (items_view items.now.items) ≡ Ok library) }
     ensures notes { OnOk result (notes_view notes.new

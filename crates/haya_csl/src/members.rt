@@ -1,7 +1,7 @@
 //! The members of an item: the field that each sets, and the entry whose field that is.
 ghost use Rattle.std.specs.Prelude.{◌≡◌, Some};
 ghost use Rattle.json.specs.Value.{value_view};
-ghost use Rattle.haya_csl.specs.Members.{archive_location_in, beside, choice_in};
+ghost use Rattle.haya_csl.specs.Members.{archive_location_in, beside, choice_in, is_at_arxiv};
 ghost use Rattle.haya_csl.specs.Members.{conference_table};
 ghost use Rattle.haya_csl.specs.Members.{event_title, exceptions, host_book, host_figure};
 ghost use Rattle.haya_csl.specs.Members.{host_issue, host_newspaper, host_place};
@@ -16,6 +16,7 @@ ghost use Rattle.haya_csl.specs.declared.members.Choice.TheVariants.{Put};
 
 use crate::fields::{Field, NumberField, SerialField, TextField};
 use crate::kinds::{Host, Kind, Own, Takes, has, text_at};
+use crate::serials::is_of_arxiv;
 use haya_entry::EntryType;
 use json::Value;
 
@@ -249,12 +250,24 @@ fn own_text(name: &str, item: &Value<'_>) -> Option<Choice>
     }
 }
 
-// Where an item is kept: at arXiv that is a number, and otherwise a call number.
+// Whether arXiv keeps an item.
+fn is_at_arxiv(item: &Value<'_>) -> bool
+    ensures { result ≡ is_at_arxiv (value_view item.now) }
+{
+    text_at(item, "archive") == "arXiv"
+}
+
+// Where an item is kept: at arXiv that is a number, where the item's own is none of arXiv, and
+// otherwise a call number.
 fn archive_location(item: &Value<'_>) -> Choice
     ensures { result ≡ archive_location_in (value_view item.now) }
 {
-    if text_at(item, "archive") == "arXiv" {
-        return Choice::Put(Field::Serial(SerialField::Arxiv));
+    if is_at_arxiv(item) {
+        return if is_of_arxiv(text_at(item, "number")) {
+            Choice::Pass
+        } else {
+            Choice::Put(Field::Serial(SerialField::Arxiv))
+        };
     }
     if has(item, "call-number") {
         Choice::Pass
@@ -442,9 +455,12 @@ fn original_choice(name: &str, item: &Value<'_>) -> Option<Choice>
 }
 
 /// What a member is counted under in whose place the item has another: both names.
-pub(crate) fn beside(name: &str) -> &str
-    ensures { result.now ≡ beside name.now }
+pub(crate) fn beside<'n>(name: &'n str, item: &Value<'_>) -> &'n str
+    ensures { result.now ≡ beside name.now (value_view item.now) }
 {
+    if name == "archive_location" && is_at_arxiv(item) {
+        return "archive_location beside number";
+    }
     match name {
         "annote" => "annote beside note",
         "archive_location" => "archive_location beside call-number",

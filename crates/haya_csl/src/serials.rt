@@ -5,8 +5,8 @@ ghost use Rattle.haya_text.specs.Texts.{text_view};
 ghost use Rattle.haya_csl.specs.Kinds.{begins_with};
 ghost use Rattle.haya_csl.specs.Said.{said_view};
 ghost use Rattle.haya_csl.specs.Serials.{addresses, archive_number_said, bare, behind};
-ghost use Rattle.haya_csl.specs.Serials.{number_key, serial_key, serial_text, series_names};
-ghost use Rattle.haya_csl.specs.Serials.{without};
+ghost use Rattle.haya_csl.specs.Serials.{is_of_arxiv, number_key, serial_key, serial_text};
+ghost use Rattle.haya_csl.specs.Serials.{series_names, without};
 
 use crate::fields::SerialField;
 use crate::markup::read_markup;
@@ -41,6 +41,13 @@ fn number_key(text: &str) -> &str
         Some(_) => "arxiv",
         None => "serial",
     }
+}
+
+/// Whether it is a number of arXiv, which isn't empty.
+pub(crate) fn is_of_arxiv(text: &str) -> bool
+    ensures { result ≡ is_of_arxiv text.now }
+{
+    behind("arXiv:", text.trim()).is_some() && !bare(text).is_empty()
 }
 
 /// The text of a serial number. Some lose what is in front of the number.

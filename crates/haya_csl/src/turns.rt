@@ -13,7 +13,7 @@ ghost use Rattle.haya_csl.specs.Turns.{first_and_left, items_left};
 
 use crate::item_key::ItemKey;
 use crate::items::push_item;
-use haya_json::reading::{ELEMENT_DEPTH, Fault, has_unique_names, name_twice, not_json};
+use haya_json::reading::{ELEMENT_DEPTH, ValueError, has_unique_names, name_twice, not_json};
 use haya_json::{Notes, ReadError};
 use haya_text::OutOfMemory;
 use hayagriva::{HashKeys, Library};
@@ -28,7 +28,7 @@ struct Made {
     // What is told of these items.
     notes: Notes,
     // Why the first that is refused is refused.
-    fault: Option<Fault>,
+    fault: Option<ValueError>,
     // Whether no object in any item has a member twice.
     are_unique: bool,
 }
@@ -204,13 +204,13 @@ impl Made {
     }
 
     // Keeps why an item is refused.
-    fn refuse(&mut self, fault: Fault) -> Result<(), OutOfMemory>
+    fn refuse(&mut self, fault: ValueError) -> Result<(), OutOfMemory>
         ensures { OnOk result (self.new ≡ record self.old { fault = Some fault }) }
     {
         match fault {
-            Fault::OutOfMemory => Err(OutOfMemory),
-            Fault::Refused(path, why) => {
-                self.fault = Some(Fault::Refused(path, why));
+            ValueError::OutOfMemory => Err(OutOfMemory),
+            ValueError::Refused(path, why) => {
+                self.fault = Some(ValueError::Refused(path, why));
                 Ok(())
             }
         }
@@ -255,11 +255,11 @@ impl Made {
 }
 
 // The error of a text with this fault.
-fn error_of(fault: Fault) -> ReadError
+fn error_of(fault: ValueError) -> ReadError
     ensures { IsErrorWith fault result }
 {
     match fault {
-        Fault::Refused(path, why) => ReadError::Refused(path, why),
-        Fault::OutOfMemory => ReadError::OutOfMemory,
+        ValueError::Refused(path, why) => ReadError::Refused(path, why),
+        ValueError::OutOfMemory => ReadError::OutOfMemory,
     }
 }

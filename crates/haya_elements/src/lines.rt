@@ -63,6 +63,9 @@ fn put_lines(brackets: Brackets, place: Place, bytes: &mut [u8]) -> Place
 {
     let mut place = place;
     'bytes: for byte in bytes.iter_mut() {
+        if place.keeps(*byte) {
+            continue;
+        }
         let (next, put) = place.step(brackets, *byte);
         place = next;
         *byte = put;

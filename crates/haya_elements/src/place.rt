@@ -1,5 +1,5 @@
 //! Where in a text a byte stands, and what is put in its place.
-ghost use Rattle.std.specs.Prelude.{◌≡◌, [], ◌∷◌, if◌then◌else◌};
+ghost use Rattle.std.specs.Prelude.{◌≡◌, [], ◌∷◌, if◌then◌else◌, IsTrue};
 ghost use Rattle.json.specs.Lex.{class};
 ghost use Rattle.haya_elements.specs.Elements.{end_of};
 ghost use Rattle.haya_elements.specs.Steps.{blank_byte, closing_bracket, closing_step, comma_step};
@@ -79,6 +79,19 @@ impl Place {
         ensures { end_of self ≡ (if result then [] else mark ∷ []) }
     {
         matches!(self, Place::Closed | Place::Lost)
+    }
+
+    // Whether a byte is one of those that stay as they are and lead nowhere else: most bytes of a
+    // string, and the spaces between two tokens. It spares them the step.
+    #[inline]
+    pub(crate) fn keeps(self, byte: u8) -> bool
+        ensures { IsTrue result → (b : Brackets) → step b self byte ≡ (self, byte) }
+    {
+        match self {
+            Place::Element(Mode::Text, _) => byte >= b' ' && byte != b'"' && byte != b'\\',
+            Place::Element(Mode::Between, _) => byte == b' ',
+            _ => false,
+        }
     }
 
     // The place behind a byte, and the byte that is put in its place.

@@ -1,10 +1,12 @@
 //! What is printed is handed on: the writer is flushed behind it, and a flush that fails is told.
 use crate::runs::{LINES, inputs, options};
 use haya_command::{
-    Asker, Fault, Format, ask_csl_json, ask_hayagriva, ask_json_lines, ask_lines, end_asking, run,
+    Asker, CommandError, Stop, ask_csl_json, ask_hayagriva, ask_json_lines, ask_lines,
+    begin_asking, end_asking, run,
 };
 use haya_csl::ItemKey;
-use haya_stream::{WriteFault, write_text};
+use haya_formats::Format;
+use haya_stream::{WriteError, write_text};
 use hayagriva::HashKeys;
 use std::io;
 use std::io::{Read, Write};
@@ -15,6 +17,8 @@ use std::process::Abort;
 struct FlushWriter {
     taken: usize,
     handed_on: usize,
+    // The most that was taken and not handed on.
+    most_held: usize,
     fails: Option<io::ErrorKind>,
 }
 
@@ -23,6 +27,7 @@ impl FlushWriter {
         FlushWriter {
             taken: 0,
             handed_on: 0,
+            most_held: 0,
             fails,
         }
     }
@@ -31,6 +36,8 @@ impl FlushWriter {
 impl Write for FlushWriter {
     fn write(&mut self, buf: &[u8]) -> io::Result<usize> {
         self.taken = self.taken.saturating_add(buf.len());
+        let held = self.taken.saturating_sub(self.handed_on);
+        self.most_held = self.most_held.max(held);
         Ok(buf.len())
     }
 
@@ -52,12 +59,12 @@ fn texts_are_handed_on(rt: HostRuntime) {
     assert!(&rt; out.handed_on == 6, "it is handed on");
     let mut out = FlushWriter::new(Some(io::ErrorKind::Other));
     assert!(&rt;
-        matches!(write_text(&mut out, "a text"), Err(WriteFault::CannotWrite)),
+        matches!(write_text(&mut out, "a text"), Err(WriteError::CannotWrite)),
         "a flush that fails"
     );
     let mut out = FlushWriter::new(Some(io::ErrorKind::BrokenPipe));
     assert!(&rt;
-        matches!(write_text(&mut out, "a text"), Err(WriteFault::Closed)),
+        matches!(write_text(&mut out, "a text"), Err(WriteError::Closed)),
         "a reader that is gone"
     );
 }
@@ -97,7 +104,7 @@ fn answers_and_messages_are_handed_on(rt: HostRuntime) {
     assert!(&rt; status == 2 && said.taken == 0, "a reader that is gone");
 }
 
-// Gives its bytes at once.
+// Gives its bytes one by one.
 #[derive(Drop)]
 struct Given<'a> {
     bytes: &'a [u8],
@@ -105,7 +112,7 @@ struct Given<'a> {
 
 impl Read for Given<'_> {
     fn read(&mut self, buf: &mut [u8]) -> io::Result<usize> {
-        let n = buf.len().min(self.bytes.len());
+        let n = buf.len().min(self.bytes.len()).min(1);
         buf[..n].copy_from_slice(&self.bytes[..n]);
         self.bytes = &self.bytes[n..];
         Ok(n)
@@ -116,13 +123,16 @@ const INPUTS: &[(Format, &[u8])] = &[
     (Format::Lines, b"0\ta\tbook\n0\tb\tbook\n"),
     (
         Format::JsonLines,
-        b"{\"key\":\"a\",\"entry\":{\"type\":\"book\"}}\n",
+        b"{\"key\":\"a\",\"entry\":{\"type\":\"book\"}}\n{\"key\":\"b\",\"entry\":{\"type\":\"book\"}}\n",
     ),
     (
         Format::CslJson(ItemKey::CitationKey),
-        b"[{\"id\":\"a\",\"type\":\"book\"}]",
+        b"[{\"id\":\"a\",\"type\":\"book\"},{\"id\":\"b\",\"type\":\"book\"}]",
     ),
-    (Format::Hayagriva, b"{\"a\":{\"type\":\"book\"}}"),
+    (
+        Format::Hayagriva,
+        b"{\"a\":{\"type\":\"book\"},\"b\":{\"type\":\"book\"}}",
+    ),
 ];
 
 // What the entries of an input are asked for: their keys, or how many there are.
@@ -131,18 +141,47 @@ fn asked(
     (format, bytes): (Format, &[u8]),
     letters: &str,
     out: &mut FlushWriter,
-) -> Result<(), Fault> {
+) -> Result<(), CommandError> {
     let options = options(rt, "*", letters);
     let asker = Asker::new(rt.alloc(), HashKeys::new(1, 2), &options)?;
     let mut input = Given { bytes };
+    begin_asking(&asker, out)?;
     let asked = match format {
-        Format::Lines => ask_lines(asker, "a file", &mut input, out)?,
-        Format::JsonLines => ask_json_lines(asker, "a file", &mut input, out)?.0,
-        Format::CslJson(key) => ask_csl_json(asker, key, "a file", &mut input, out)?.0,
-        _ => ask_hayagriva(asker, "a file", &mut input, out)?.0,
+        Format::Lines => ask_lines(asker, "a file", &mut input, out),
+        Format::JsonLines => alone(ask_json_lines(asker, "a file", &mut input, out)),
+        Format::CslJson(key) => alone(ask_csl_json(asker, key, "a file", &mut input, out)),
+        _ => alone(ask_hayagriva(asker, "a file", &mut input, out)),
     };
-    end_asking(asked, out)?;
-    Ok(())
+    match asked {
+        Ok(asked) => {
+            end_asking(asked, out)?;
+            Ok(())
+        }
+        Err(stop) => Err(fault_of(stop)),
+    }
+}
+
+// What is asked alone, and not what is told.
+fn alone<'o, N: Drop>(asked: Result<(Asker<'o>, N), Stop<'o>>) -> Result<Asker<'o>, Stop<'o>> {
+    match asked {
+        Ok((asked, notes)) => {
+            drop(notes);
+            Ok(asked)
+        }
+        Err(stop) => Err(stop),
+    }
+}
+
+// The fault at which the asking stops.
+fn fault_of(stop: Stop<'_>) -> CommandError {
+    let Stop {
+        fault,
+        asker,
+        notes,
+    } = stop;
+    drop(asker);
+    drop(notes);
+    fault
 }
 
 #[test]
@@ -152,20 +191,20 @@ fn hits_are_handed_on_as_they_come(rt: HostRuntime) {
             let mut out = FlushWriter::new(None);
             let is_ok = asked(&rt, (*format, *bytes), letters, &mut out).is_ok();
             assert!(&rt;
-                is_ok && out.taken > 0 && out.handed_on == out.taken,
+                is_ok && out.taken > 0 && out.handed_on == out.taken && out.most_held == 2,
                 "{letters}"
             );
             let mut out = FlushWriter::new(Some(io::ErrorKind::Other));
             let fault = asked(&rt, (*format, *bytes), letters, &mut out);
             assert!(&rt;
-                matches!(&fault, Err(Fault::CannotWrite)),
+                matches!(&fault, Err(CommandError::CannotWrite)),
                 "{letters}: it fails"
             );
             drop(fault);
             let mut out = FlushWriter::new(Some(io::ErrorKind::BrokenPipe));
             let fault = asked(&rt, (*format, *bytes), letters, &mut out);
             assert!(&rt;
-                matches!(&fault, Err(Fault::Closed)),
+                matches!(&fault, Err(CommandError::Closed)),
                 "{letters}: nobody reads"
             );
             drop(fault);

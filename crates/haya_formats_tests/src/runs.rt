@@ -1,7 +1,8 @@
 //! Rows: whole runs of the command.
 use haya_asked::Questions;
-use haya_command::{Form, Format, Input, Options, run};
+use haya_command::{Form, Input, Options, run};
 use haya_csl::ItemKey;
+use haya_formats::Format;
 use hayagriva::HashKeys;
 use std::io;
 use std::io::Write;

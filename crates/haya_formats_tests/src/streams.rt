@@ -1,9 +1,11 @@
 //! Rows: what is asked of an input whose reader fails.
 use haya_asked::Questions;
 use haya_command::{
-    Asker, Fault, Form, Format, Options, ask_csl_json, ask_hayagriva, ask_json_lines, ask_lines,
+    Asker, CommandError, Form, Options, Stop, ask_csl_json, ask_hayagriva, ask_json_lines,
+    ask_lines,
 };
 use haya_csl::ItemKey;
+use haya_formats::Format;
 use hayagriva::HashKeys;
 use std::io;
 use std::io::Read;
@@ -94,15 +96,16 @@ fn options(rt: &(impl Abort + AllocGlobal)) -> Options {
 }
 
 // Whether the run ends with the reader's fault, which names the input.
-fn is_cut_off<A: Drop>(asked: Result<A, Fault>) -> bool {
+fn is_cut_off<A: Drop>(asked: Result<A, Stop<'_>>) -> bool {
     match asked {
         Ok(asker) => {
             drop(asker);
             false
         }
-        Err(fault) => {
-            let is = matches!(&fault, Fault::CannotRead(name, _) if name.as_str() == "a file");
-            drop(fault);
+        Err(stop) => {
+            let is =
+                matches!(&stop.fault, CommandError::CannotRead(name, _) if name.as_str() == "a file");
+            drop(stop);
             is
         }
     }
@@ -124,7 +127,7 @@ fn are_printed(
             is_cut_off(ask_csl_json(asker, key, "a file", &mut input, &mut out))
         }
         Format::Hayagriva => is_cut_off(ask_hayagriva(asker, "a file", &mut input, &mut out)),
-        Format::Yaml => false,
+        Format::Yaml | Format::Bibtex => false,
     };
     is_cut_off && out.as_slice() == keys.as_bytes()
 }

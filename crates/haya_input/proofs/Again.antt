@@ -18,7 +18,7 @@ use Rattle.std.specs.Str.Parse.{digits_value}
 use Rattle.hayagriva.specs.EntryType.{type_read}
 use Rattle.hayagriva.specs.declared.types.EntryType.{EntryType}
 use Rattle.haya_lines.specs.Line.{Row, depth_read, fields_read, is_depth, row_read, row_at}
-use Rattle.haya_lines.specs.declared.fault.LineFault.{LineFault}
+use Rattle.haya_lines.specs.declared.error.LineError.{LineError}
 use Rattle.haya_input.specs.Chain.{LastOf, TakesLine, TakesRow, chain_rows, left_rows, opened_rows}
 use Rattle.haya_input.specs.Input.{Describes, rows_of, rows_of_all}
 use Rattle.haya_input.specs.Opened.{Opened}
@@ -109,7 +109,7 @@ begins-row deepest (depth ∷ []) row read = cc
 begins-row deepest (depth ∷ key ∷ []) row read = cc
 begins-row deepest (depth ∷ key ∷ kind ∷ more) row read = by (is_depth deepest depth) refl (type_read kind) refl
   where
-    by_fields : (k : EntryType) (r : Result Fields LineFault) → row_at (digits_value 10 depth) r ≡ Ok row → row.depth ≡ digits_value 10 depth
+    by_fields : (k : EntryType) (r : Result Fields LineError) → row_at (digits_value 10 depth) r ≡ Ok row → row.depth ≡ digits_value 10 depth
     by_fields k (Ok f) is = let same : record { depth = digits_value 10 depth; fields = f } ≡ row = cc in sym (ap (λ (r : Row). r.depth) same)
     by_fields k (Err e) is = cc
 
@@ -327,7 +327,7 @@ module _ (all : List (List ℕ)) (count : ℕ) (library chain : List Tree) (foun
     kept : TakesLine line chain now → KeptAt now now.chain more
     kept takes = by (length line == 0) refl takes
       where
-        at_row : (r : Result Row LineFault) → (length line == 0) ≡ false → row_read (length chain) (items line) ≡ r → IsOkAnd r (λ row. TakesRow row chain now) → KeptAt now now.chain more
+        at_row : (r : Result Row LineError) → (length line == 0) ≡ false → row_read (length chain) (items line) ≡ r → IsOkAnd r (λ row. TakesRow row chain now) → KeptAt now now.chain more
         at_row (Ok row) some read takes_row = row_taken some row read takes_row
         at_row (Err e) some read takes_row = absurd takes_row
 

@@ -6,7 +6,7 @@ use Rattle.hayagriva.specs.Lookups.{add_parent}
 use Rattle.hayagriva.specs.Tree.{Tree, Trees, Fields, node, trees, tree_list, no_trees, one_more, fields, view, with_fields}
 use Rattle.hayagriva.specs.declared.Entry.{Entry}
 use Rattle.haya_lines.specs.Line.{Row, leaf, row_at}
-use Rattle.haya_lines.specs.declared.fault.LineFault.{LineFault}
+use Rattle.haya_lines.specs.declared.error.LineError.{LineError}
 use Rattle.haya_input.specs.Input.{rows_of, rows_of_all}
 use Rattle.haya_input.specs.Chain.{LastOf, OpensEntry, Stands, TakesRow, chain_rows, left_rows, opened_rows}
 use Rattle.haya_input.specs.Opened.{Opened}
@@ -82,12 +82,12 @@ all_closed (Ok a) v old n closed chain none kept few = record {
 all_closed (Err e) v old n closed chain none kept few = tt
 
 -- what holds of the row that was read, whose entry was opened behind those that are left of a chain
-pub row_taken : (read : Result Row LineFault) (d : ℕ) (of_fields : Result Fields LineFault) (chain left closed : List Tree) (now : Opened)
+pub row_taken : (read : Result Row LineError) (d : ℕ) (of_fields : Result Fields LineError) (chain left closed : List Tree) (now : Opened)
     → read ≡ row_at d of_fields → length left ≡ d → OpensEntry of_fields left now.chain → left_rows closed left ≡ chain_rows 0 chain → option_to_list now.closed ≡ closed
     → IsOkAnd read (λ row. TakesRow row chain now)
 row_taken read d of_fields chain left closed now head deep opens kept same = rw head (by of_fields opens)
   where
-    by : (r : Result Fields LineFault) → OpensEntry r left now.chain → IsOkAnd (row_at d r) (λ row. TakesRow row chain now)
+    by : (r : Result Fields LineError) → OpensEntry r left now.chain → IsOkAnd (row_at d r) (λ row. TakesRow row chain now)
     by (Ok f) h =
         let depth : 0 + length left ≡ d = omega (arith, deep) in
         record {
@@ -116,13 +116,13 @@ module _ (olds items : List Entry) (n : ℕ) (x : Entry) (t : Tree) (stands : St
       ap view (at ∙ ap (λ l. get_or l n x) stands.items ∙ ap (λ k. get_or (olds ++ stands.entry ∷ []) k x) here ∙ get_behind olds stands.entry x) ∙ stands.value
 
   -- its fields are read in its place
-  pub opened : (next : Entry) (read : Fields → Result Fields LineFault) → ((f : Fields) → with_fields (λ _. f) t ≡ leaf f)
+  pub opened : (next : Entry) (read : Fields → Result Fields LineError) → ((f : Fields) → with_fields (λ _. f) t ≡ leaf f)
       → IsOkAnd (read (fields (view x))) (λ f. view next ≡ with_fields (λ _. f) (view x)) → OpensEntry (read (fields t)) (map view olds) (map view (set items n next))
   opened next read bare set_fields = by (read (fields t)) (subst (λ u. IsOkAnd (read (fields u)) (λ f. view next ≡ with_fields (λ _. f) u)) opened-view set_fields)
     where
       put : set items n next ≡ olds ++ next ∷ []
       put = ap (λ l. set l n next) stands.items ∙ ap (λ k. set (olds ++ stands.entry ∷ []) k next) here ∙ set_behind olds stands.entry next
 
-      by : (r : Result Fields LineFault) → IsOkAnd r (λ f. view next ≡ with_fields (λ _. f) t) → OpensEntry r (map view olds) (map view (set items n next))
+      by : (r : Result Fields LineError) → IsOkAnd r (λ f. view next ≡ with_fields (λ _. f) t) → OpensEntry r (map view olds) (map view (set items n next))
       by (Ok f) h = ap (map view) put ∙ map-append view olds (next ∷ []) ∙ ap (λ u. map view olds ++ u ∷ []) (h ∙ bare f)
       by (Err e) h = absurd h

@@ -4,7 +4,7 @@ use Rattle.std.specs.Prelude.{codes}
 use Rattle.std.specs.Str.Lines.{lines}
 use Rattle.hayagriva.specs.declared.types.EntryType.TheVariants.{Article, Blog, Book, Periodical, Web}
 use Rattle.hayagriva.specs.Tree.{Tree, new_entry, with_fields, with_parents, with_keyed_serial_number}
-use Rattle.haya_lines.specs.declared.fault.LineFault.TheVariants.{Shape, Depth, UnknownType, UnknownField}
+use Rattle.haya_lines.specs.declared.error.LineError.TheVariants.{Shape, Depth, UnknownType, UnknownField}
 use Rattle.haya_lines.specs.Line.{depth_read, name_and_value}
 use Rattle.haya_input.specs.Input.{Describes, rows_read}
 use Rattle.haya_input.specs.Parts.{AreWholeLines}

@@ -14,8 +14,8 @@ use Rattle.hayagriva.proofs.Parts.{AreApart-all, AreApart-entries, from_entries-
 use Rattle.haya_lines.specs.FieldTable.{and_then}
 use Rattle.haya_lines.specs.Items.{items}
 use Rattle.haya_lines.specs.Line.{Row, depth_read, is_depth, row_read}
-use Rattle.haya_lines.specs.declared.fault.LineFault.{LineFault}
-use Rattle.haya_lines.specs.declared.fault.LineFault.TheVariants.{Depth}
+use Rattle.haya_lines.specs.declared.error.LineError.{LineError}
+use Rattle.haya_lines.specs.declared.error.LineError.TheVariants.{Depth}
 use Rattle.haya_input.specs.Input.{Describes, in_line, rows_of_all, rows_read}
 use Rattle.haya_input.specs.Parts.{AreWholeLines}
 use Rattle.haya_input.proofs.Chains.{rows_of_all-append}
@@ -110,11 +110,11 @@ row_read-deeper d e (depth ∷ key ∷ kind ∷ more) row within read =
     deeper-and_then (depth_read d depth) (depth_read e depth) Depth _ row (λ n. depth_read-deeper d e depth n within) read
 row_read-deeper d e _ row within read = cc
 
-in_line-Ok : (n : ℕ) (r : Result Row LineFault) (row : Row) → in_line n r ≡ Ok row → r ≡ Ok row
+in_line-Ok : (n : ℕ) (r : Result Row LineError) (row : Row) → in_line n r ≡ Ok row → r ≡ Ok row
 in_line-Ok n (Ok row) other h = cc
 in_line-Ok n (Err e) other h = cc
 
-abbrev ok_rows : List Row → Result (List Row) (ℕ × LineFault)
+abbrev ok_rows : List Row → Result (List Row) (ℕ × LineError)
 ok_rows rows = Ok rows
 
 ok_rows-append : (rows others more : List Row) → ok_rows rows ≡ ok_rows others → ok_rows (rows ++ more) ≡ ok_rows (others ++ more)

@@ -6,7 +6,7 @@ use Rattle.std.proofs.lemmas.List.{drop_more, length-take-le, take-append-drop, 
 use Rattle.std.proofs.lemmas.List.Sums.{fold-append}
 use Rattle.hayagriva.specs.Library.{from_entries, push}
 use Rattle.hayagriva.specs.Tree.{Tree}
-use Rattle.haya_input.specs.declared.fault.InputFault.{InputFault}
+use Rattle.haya_input.specs.declared.error.InputError.{InputError}
 use Rattle.haya_input.specs.Chain.{LastOf, Taken, TakesLine}
 use Rattle.haya_input.specs.Input.{Describes, rows_read}
 use Rattle.haya_input.specs.Opened.{Opened}
@@ -42,7 +42,7 @@ module _ (all : List (List ℕ)) (count : ℕ) (library chain : List Tree) (so_f
         of_given = pushed_on so_far.given library next (option_to_list now.closed) so_far.of_given put;
       }
 
-  pub Progress-fault : (line : List ℕ) → count < length all → line ≡ get_or all count line → (e : InputFault) → FaultInLine (count + 1) (length chain) line e → FaultInText (rows_read 1 0 all) e
+  pub Progress-fault : (line : List ℕ) → count < length all → line ≡ get_or all count line → (e : InputError) → FaultInLine (count + 1) (length chain) line e → FaultInText (rows_read 1 0 all) e
   Progress-fault line within is e fault =
       let so_many : length (take count all) ≡ count = length-take-le count all (omega (arith, within)) in
       let whole : take count all ++ line ∷ drop (count + 1) all ≡ all = ap (λ l. take count all ++ l ∷ drop (count + 1) all) is ∙ ap (λ l. take count all ++ l) (sym (drop_more all count line within)) ∙ take-append-drop count all in

@@ -5,9 +5,9 @@ use Rattle.hayagriva.specs.Tree.{Tree, trees}
 use Rattle.haya_lines.specs.FieldTable.{and_then}
 use Rattle.haya_lines.specs.Items.{items}
 use Rattle.haya_lines.specs.Line.{Row, row_read}
-use Rattle.haya_lines.specs.declared.fault.LineFault.{LineFault}
-use Rattle.haya_input.specs.declared.fault.InputFault.{InputFault}
-use Rattle.haya_input.specs.declared.fault.InputFault.TheVariants.{Line}
+use Rattle.haya_lines.specs.declared.error.LineError.{LineError}
+use Rattle.haya_input.specs.declared.error.InputError.{InputError}
+use Rattle.haya_input.specs.declared.error.InputError.TheVariants.{Line}
 use Rattle.haya_input.specs.Chain.{LastOf, Taken, TakesLine, TakesRow, chain_rows, left_rows, opened_rows}
 use Rattle.haya_input.specs.Input.{rows_read, rows_of_all}
 use Rattle.haya_input.specs.Opened.{Opened}
@@ -61,7 +61,7 @@ module _ (lines : List (List ℕ)) (given chain : List Tree) (so_far : Taken lin
   pub Taken-line : (now : Opened) → TakesLine line chain now → Taken (lines ++ line ∷ []) (given ++ option_to_list now.closed) now.chain
   Taken-line now takes = by (length line == 0) refl takes
     where
-      at_row : (r : Result Row LineFault) → (length line == 0) ≡ false → row_read (length chain) (items line) ≡ r → IsOkAnd r (λ row. TakesRow row chain now)
+      at_row : (r : Result Row LineError) → (length line == 0) ≡ false → row_read (length chain) (items line) ≡ r → IsOkAnd r (λ row. TakesRow row chain now)
           → Taken (lines ++ line ∷ []) (given ++ option_to_list now.closed) now.chain
       at_row (Ok row) some read takes = row_taken some row read now takes
       at_row (Err e) some read takes = absurd takes
@@ -74,11 +74,11 @@ module _ (lines : List (List ℕ)) (given chain : List Tree) (so_far : Taken lin
   test : length line ≢ 0 → (length line == 0) ≡ false
   test some = search (rules, tests)
 
-  pub Taken-fault : (more : List (List ℕ)) (e : InputFault) → FaultInLine (length lines + 1) (length chain) line e → FaultInText (rows_read 1 0 (lines ++ line ∷ more)) e
+  pub Taken-fault : (more : List (List ℕ)) (e : InputError) → FaultInLine (length lines + 1) (length chain) line e → FaultInText (rows_read 1 0 (lines ++ line ∷ more)) e
   Taken-fault more e (inl h) = inl h
   Taken-fault more e (inr h) = inr (by (row_read (length chain) (items line)) refl h.1)
     where
-      by : (r : Result Row LineFault) → row_read (length chain) (items line) ≡ r → IsErrAnd r (λ f. e ≡ Line (length lines + 1) f) → IsErrAnd (rows_read 1 0 (lines ++ line ∷ more)) (λ f. e ≡ Line f.0 f.1)
+      by : (r : Result Row LineError) → row_read (length chain) (items line) ≡ r → IsErrAnd r (λ f. e ≡ Line (length lines + 1) f) → IsErrAnd (rows_read 1 0 (lines ++ line ∷ more)) (λ f. e ≡ Line f.0 f.1)
       by (Ok row) read fault = absurd fault
       by (Err f) read fault =
           let step : rows_read 1 0 (lines ++ line ∷ more) ≡ Err (length lines + 1, f) = rw (test h.0, read) at (so_far.reads (line ∷ more)) in

@@ -6,7 +6,7 @@ use Rattle.hayagriva.specs.declared.Entry.{Entry}
 use Rattle.haya_lines.specs.FieldTable.{and_then}
 use Rattle.haya_lines.specs.Items.{items}
 use Rattle.haya_lines.specs.Line.{Row, leaf, row_read}
-use Rattle.haya_lines.specs.declared.fault.LineFault.{LineFault}
+use Rattle.haya_lines.specs.declared.error.LineError.{LineError}
 use Rattle.haya_input.specs.Input.{rows_of, rows_of_all, rows_read}
 use Rattle.haya_input.specs.Opened.{Opened}
 
@@ -50,7 +50,7 @@ abbrev pub chain_view : Vec Entry Global → List Tree
 chain_view chain = map view chain.items
 
 -- an entry of the fields that are read, with no parents yet, stands behind those of a chain
-abbrev pub OpensEntry : Result Fields LineFault → List Tree → List Tree → Type 0
+abbrev pub OpensEntry : Result Fields LineError → List Tree → List Tree → Type 0
 OpensEntry read chain next_chain = IsOkAnd read (λ f. next_chain ≡ chain ++ leaf f ∷ [])
 
 -- an entry of this value stands behind the others

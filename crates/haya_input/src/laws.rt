@@ -12,7 +12,7 @@ ghost use Rattle.haya_input.specs.Input.{Describes, rows_of_all, rows_read};
 ghost use Rattle.haya_input.specs.Opened.{Opened};
 ghost use Rattle.haya_input.specs.Parts.{AreWholeLines};
 ghost use Rattle.haya_input.specs.TextReading.{FaultInLine, FaultInText};
-ghost use Rattle.haya_input.specs.declared.fault.InputFault.{InputFault};
+ghost use Rattle.haya_input.specs.declared.error.InputError.{InputError};
 
 /// Whole lines and a text behind them describe the entries of both, where no key is in both.
 pub fn text_in_parts()
@@ -48,7 +48,7 @@ pub fn lines_in_turn()
         (now : Opened) → LastOf chain now →
         rows_read 1 0 before ≡ Ok (rows_of_all 0 (trees (given ++ option_to_list now.closed))) }
     ensures fault { (before : List (List ℕ)) (given chain : List Tree) → Taken before given chain →
-        (line : List ℕ) (more : List (List ℕ)) (e : InputFault) →
+        (line : List ℕ) (more : List (List ℕ)) (e : InputError) →
         FaultInLine (length before + 1) (length chain) line e →
         FaultInText (rows_read 1 0 (before ++ line ∷ more)) e }
 {}

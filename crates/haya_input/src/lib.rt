@@ -6,13 +6,13 @@
 //! ```
 #![tactic(auto)]
 
-mod fault;
+mod error;
 pub mod laws;
 mod library_text;
 mod open_entries;
 mod repeat;
 
-pub use fault::InputFault;
+pub use error::InputError;
 pub use library_text::{read_library, read_library_with_repeats};
 pub use open_entries::OpenEntries;
 pub use repeat::Repeat;

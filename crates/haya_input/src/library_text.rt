@@ -3,12 +3,12 @@ ghost use Rattle.std.specs.Prelude.{◌≡◌, ◌++◌, IfErr, IfOk, IsOkUnless
 ghost use Rattle.std.specs.Prelude.{option_to_list};
 ghost use Rattle.std.specs.Str.Lines.{lines};
 ghost use Rattle.hayagriva.specs.Library.{push};
-ghost use Rattle.haya_input.specs.declared.fault.InputFault.TheVariants.{OutOfMemory};
+ghost use Rattle.haya_input.specs.declared.error.InputError.TheVariants.{OutOfMemory};
 ghost use Rattle.haya_input.specs.Input.{rows_read, Describes};
 ghost use Rattle.haya_input.specs.Repeats.{DescribesAgain, again_at, repeats_view};
 ghost use Rattle.haya_input.specs.TextReading.{FaultInText};
 
-use crate::fault::InputFault;
+use crate::error::InputError;
 use crate::open_entries::OpenEntries;
 use crate::repeat::Repeat;
 use hayagriva::{HashKeys, Library};
@@ -16,7 +16,7 @@ use std::alloc::Global;
 
 /// The library that the text describes. Its map hashes with the keys. A fault is that of the first
 /// line that has one, or out of memory.
-pub fn read_library(alloc: Global, keys: HashKeys, text: &str) -> Result<Library, InputFault>
+pub fn read_library(alloc: Global, keys: HashKeys, text: &str) -> Result<Library, InputError>
     ensures ok { IfOk result (λ library. Describes text.now library) }
     ensures fault { IfErr result (FaultInText (rows_read 1 0 (lines text.now))) }
 {
@@ -39,7 +39,7 @@ pub fn read_library_with_repeats(
     alloc: Global,
     keys: HashKeys,
     text: &str,
-) -> Result<(Library, Vec<Repeat>), InputFault>
+) -> Result<(Library, Vec<Repeat>), InputError>
     ensures ok { IfOk result (λ p. DescribesAgain text.now p.0 (repeats_view p.1)) }
     ensures fault { IfErr result (FaultInText (rows_read 1 0 (lines text.now))) }
 {
@@ -67,7 +67,7 @@ fn put_repeat(
     library: &Library,
     entries: &OpenEntries,
     repeats: &mut Vec<Repeat>,
-) -> Result<(), InputFault>
+) -> Result<(), InputError>
     ensures error { IsOkUnless result OutOfMemory }
     ensures put { OnOk result (repeats_view repeats.new
         ≡ repeats_view repeats.old ++ again_at line.now number library.now entries.now.chain) }
@@ -86,7 +86,7 @@ fn put_repeat(
 }
 
 // Puts the entry that was closed into the library, if there is one.
-fn insert_closed(library: &mut Library, entries: &mut OpenEntries) -> Result<(), InputFault>
+fn insert_closed(library: &mut Library, entries: &mut OpenEntries) -> Result<(), InputError>
     ensures error { IsOkUnless result OutOfMemory }
     ensures library { OnOk result (library.new ≡
         fold (λ done t. push t done) library.old (option_to_list entries.old.closed)) }

@@ -4,7 +4,7 @@ ghost use Rattle.std.specs.Prelude.{option_map, IfErr, IsOkUnless, OnOk};
 ghost use Rattle.hayagriva.specs.Applied.{entry_value};
 ghost use Rattle.hayagriva.specs.Lookups.{add_parent};
 ghost use Rattle.hayagriva.specs.Tree.{fields, new_entry, view};
-ghost use Rattle.haya_input.specs.declared.fault.InputFault.TheVariants.{OutOfMemory};
+ghost use Rattle.haya_input.specs.declared.error.InputError.TheVariants.{OutOfMemory};
 ghost use Rattle.haya_input.specs.Chain.{LastOf, OpensEntry, Stands, TakesLine};
 ghost use Rattle.haya_input.specs.Chain.{chain_rows, chain_view, left_rows};
 ghost use Rattle.haya_input.specs.Repeats.{begun_of};
@@ -12,8 +12,8 @@ ghost use Rattle.haya_input.specs.TextReading.{FaultInLine};
 ghost use Rattle.haya_lines.specs.Line.{fields_read};
 ghost use Rattle.haya_lines.specs.LineReading.{IsFaultOf};
 
-use crate::fault::InputFault;
-use haya_lines::{Head, Items, LineFault, read_fields, read_head, split_line};
+use crate::error::InputError;
+use haya_lines::{Head, Items, LineError, read_fields, read_head, split_line};
 use hayagriva::Entry;
 use hayagriva::types::EntryType;
 use std::alloc::Global;
@@ -73,7 +73,7 @@ impl OpenEntries {
 
     /// Takes the next line, which has this number. An empty line is passed over. A fault is the
     /// line's first, or out of memory: what is open isn't told then.
-    pub fn take_line(&mut self, alloc: Global, line: &str, number: usize) -> Result<(), InputFault>
+    pub fn take_line(&mut self, alloc: Global, line: &str, number: usize) -> Result<(), InputError>
         ensures taken { OnOk result (TakesLine line.now self.old.chain self.new) }
         ensures fault { IfErr result (FaultInLine number (length self.old.chain) line.now) }
     {
@@ -84,17 +84,17 @@ impl OpenEntries {
         let mut items = split_line(line);
         let head = match read_head(&mut items, self.chain.len()) {
             Ok(head) => head,
-            Err(fault) => return Err(InputFault::of_line(number, fault)),
+            Err(fault) => return Err(InputError::of_line(number, fault)),
         };
         close_to(&mut self.chain, &mut self.closed, head.depth)?;
         match open_entry(alloc, &mut self.chain, head, items) {
             Ok(()) => Ok(()),
-            Err(fault) => Err(InputFault::of_line(number, fault)),
+            Err(fault) => Err(InputError::of_line(number, fault)),
         }
     }
 
     /// Closes what is open: no line is left. The only error is out of memory.
-    pub fn end(&mut self) -> Result<(), InputFault>
+    pub fn end(&mut self) -> Result<(), InputError>
         ensures error { IsOkUnless result OutOfMemory }
         ensures last { OnOk result (LastOf self.old.chain self.new) }
     {
@@ -131,7 +131,7 @@ impl OpenEntries {
 
 // Leaves so many entries open, or as many as there are: from the last on, each is put behind the
 // parents of the one before it, and that of depth 0 is closed.
-fn close_to(chain: &mut Vec<Entry>, closed: &mut Vec<Entry>, depth: usize) -> Result<(), InputFault>
+fn close_to(chain: &mut Vec<Entry>, closed: &mut Vec<Entry>, depth: usize) -> Result<(), InputError>
     requires { closed.old.items ≡ [] }
     ensures error { IsOkUnless result OutOfMemory }
     ensures length { OnOk result
@@ -148,7 +148,7 @@ fn close_to(chain: &mut Vec<Entry>, closed: &mut Vec<Entry>, depth: usize) -> Re
 
 // Puts the last open entry behind the parents of the one before it. That of depth 0 is closed where
 // it lies: the two lists change places.
-fn close_last(chain: &mut Vec<Entry>, closed: &mut Vec<Entry>) -> Result<(), InputFault>
+fn close_last(chain: &mut Vec<Entry>, closed: &mut Vec<Entry>) -> Result<(), InputError>
     requires some { 0 < length chain.old.items }
     requires none { closed.old.items ≡ [] }
     ensures error { IsOkUnless result OutOfMemory }
@@ -174,7 +174,7 @@ fn open_entry(
     chain: &mut Vec<Entry>,
     head: Head,
     items: Items,
-) -> Result<(), LineFault>
+) -> Result<(), LineError>
     ensures opened { OnOk result (OpensEntry
         (fields_read (fields (new_entry head.entry.key.now head.entry.kind)) items.entry)
         (chain_view chain.old) (chain_view chain.new)) }
@@ -194,14 +194,14 @@ fn push_new(
     chain: &mut Vec<Entry>,
     key: &str,
     kind: EntryType,
-) -> Result<(), LineFault>
+) -> Result<(), LineError>
     ensures ok { OnOk result (Stands (new_entry key.now kind) chain.old.items chain.new.items) }
-    ensures fault { IfErr result (λ e. e ≡ LineFault.OutOfMemory) }
+    ensures fault { IfErr result (λ e. e ≡ LineError.OutOfMemory) }
 {
     chain.reserve(1)?;
     // Without `?`, by which the entry would be moved once more.
     let Ok(entry) = Entry::new(alloc, key, kind) else {
-        return Err(LineFault::OutOfMemory);
+        return Err(LineError::OutOfMemory);
     };
     chain.push_reserved(entry);
     Ok(())
@@ -236,7 +236,7 @@ fn shrink<T>(list: &mut Option<Vec<T>>)
 }
 
 // Puts a parent behind those that the entry has.
-fn put_parent(entry: &mut Entry, parent: Entry) -> Result<(), InputFault>
+fn put_parent(entry: &mut Entry, parent: Entry) -> Result<(), InputError>
     ensures error { IsOkUnless result OutOfMemory }
     ensures ok { OnOk result (view entry.new ≡ add_parent (view parent) (view entry.old)) }
 {
@@ -245,7 +245,7 @@ fn put_parent(entry: &mut Entry, parent: Entry) -> Result<(), InputFault>
 }
 
 // Puts an entry behind those of a list.
-fn put_behind(list: &mut Vec<Entry>, entry: Entry) -> Result<(), InputFault>
+fn put_behind(list: &mut Vec<Entry>, entry: Entry) -> Result<(), InputError>
     ensures error { IsOkUnless result OutOfMemory }
     ensures ok { OnOk result (list.new.items ≡ list.old.items ++ entry ∷ []) }
 {

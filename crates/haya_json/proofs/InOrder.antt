@@ -9,7 +9,7 @@ use Rattle.json.specs.Strict.{HasUniqueKeys, keys}
 use Rattle.haya_entry.specs.Tree.{Tree}
 use Rattle.hayagriva.specs.Library.{AreDistinct, key_of, push, from_entries}
 use Rattle.hayagriva.proofs.Parts.{from_entries-distinct}
-use Rattle.haya_json.specs.declared.fault.Fault.{Fault}
+use Rattle.haya_json.specs.declared.fault.ValueError.{ValueError}
 use Rattle.haya_json.specs.Refusal.{Refusal, within, and_then, to_member, IsFaultOf}
 use Rattle.haya_json.specs.Entries.{entry_of}
 use Rattle.haya_json.specs.Libraries.{entries_of, entries_pushed, library_of}
@@ -69,7 +69,7 @@ pushed_in_order ms library distinct is = by (entries_of ms) refl (sym (pushed ms
     by (Err e) all h = cc
 
 -- and what is refused of it is refused of the entries
-pub pushed_fails : (ms : Members) (e : Fault) → IsFaultOf (entries_pushed [] ms) e → IsFaultOf (entries_of ms) e
+pub pushed_fails : (ms : Members) (e : ValueError) → IsFaultOf (entries_pushed [] ms) e → IsFaultOf (entries_of ms) e
 pushed_fails ms e (inl memory) = inl memory
 pushed_fails ms e (inr is) = inr (by (entries_of ms) _ (sym (pushed ms []) ∙ is))
   where

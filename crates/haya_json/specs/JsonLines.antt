@@ -17,7 +17,7 @@ use Rattle.haya_json.specs.Refusal.{Refusal, and_then}
 use Rattle.haya_json.specs.Told.{told_alone, told_first}
 use Rattle.haya_json.specs.declared.error.ReadError.{ReadError}
 use Rattle.haya_json.specs.declared.error.ReadError.TheVariants.{OutOfMemory}
-use Rattle.haya_json.specs.declared.error.LineError.{LineError}
+use Rattle.haya_json.specs.declared.error.JsonLineError.{JsonLineError}
 
 -- ---- one line
 
@@ -47,8 +47,8 @@ pub record IsReadingOf (line : List ℕ) (said : EntryView) : Type 0 where
   pub read : line_said value ≡ Ok said
 
 -- what an error says of a line
-abbrev pub IsLineErrorOf : List ℕ → ReadError → Type 0
-IsLineErrorOf line error = IsErrorOfReading entry_in line error
+abbrev pub IsJsonLineErrorOf : List ℕ → ReadError → Type 0
+IsJsonLineErrorOf line error = IsErrorOfReading entry_in line error
 
 -- What is told of a line: what is lost of its entry. Members beside the entry aren't told, and a key
 -- that comes again isn't looked for.
@@ -83,7 +83,7 @@ TellsLine line old new before after =
 
 -- the error of a line that isn't empty, or out of memory
 abbrev pub ErrorInLine : List ℕ → ReadError → Type 0
-ErrorInLine line error = (error ≡ OutOfMemory) ⊎ ((length line ≢ 0) × IsLineErrorOf line error)
+ErrorInLine line error = (error ≡ OutOfMemory) ⊎ ((length line ≢ 0) × IsJsonLineErrorOf line error)
 
 -- ---- a text
 
@@ -101,7 +101,7 @@ abbrev pub Tells : List ℕ → NotesView → Type 0
 Tells text kept = kept ≡ kept_of (lines_told [] (lines text))
 
 -- the first line that says no entry, with its number, from 1 on
-pub record FirstError (text : List ℕ) (fault : LineError) : Type 0 where
+pub record FirstError (text : List ℕ) (fault : JsonLineError) : Type 0 where
   pub first : List (List ℕ)
   pub line : List ℕ
   pub more : List (List ℕ)
@@ -112,5 +112,5 @@ pub record FirstError (text : List ℕ) (fault : LineError) : Type 0 where
   pub error : ErrorInLine line fault.error
 
 -- that line's error, or out of memory, which says nothing of the text
-abbrev pub IsErrorOf : List ℕ → LineError → Type 0
+abbrev pub IsErrorOf : List ℕ → JsonLineError → Type 0
 IsErrorOf text fault = (fault.error ≡ OutOfMemory) ⊎ FirstError text fault

@@ -5,7 +5,7 @@ use Rattle.std.specs.Fmt.{decimal}
 use Rattle.std.specs.Str.{chars}
 use Rattle.haya_json.specs.Refusal.{StepView, to_member, to_item, step_view}
 use Rattle.haya_json.specs.declared.error.ElementError.{ElementError}
-use Rattle.haya_json.specs.declared.error.LineError.{LineError}
+use Rattle.haya_json.specs.declared.error.JsonLineError.{JsonLineError}
 use Rattle.haya_json.specs.declared.error.ReadError.{ReadError}
 use Rattle.haya_json.specs.declared.error.ReadError.TheVariants.{NotJson, NameTwice, Refused, OutOfMemory}
 use Rattle.haya_json.specs.declared.fault.Why.{Why}
@@ -65,7 +65,7 @@ text_in_line n (Refused path why) =
 text_in_line n OutOfMemory =
     codes "line " ++ (decimal n ++ (codes ": " ++ error_text OutOfMemory))
 
-abbrev pub line_error_text : LineError → List ℕ
+abbrev pub line_error_text : JsonLineError → List ℕ
 line_error_text e = text_in_line e.line e.error
 
 -- an error of the element with this number: a position is one in the element, a path one in the text

@@ -4,8 +4,8 @@ use Rattle.haya_json.specs.declared.fault.Why.{Why}
 use Rattle.haya_json.specs.declared.fault.Why.TheVariants.{NotObject}
 use Rattle.haya_json.specs.declared.fault.Step.{Step}
 use Rattle.haya_json.specs.declared.fault.Step.TheVariants.{Name, Place}
-use Rattle.haya_json.specs.declared.fault.Fault.{Fault}
-use Rattle.haya_json.specs.declared.fault.Fault.TheVariants.{Refused, OutOfMemory}
+use Rattle.haya_json.specs.declared.fault.ValueError.{ValueError}
+use Rattle.haya_json.specs.declared.fault.ValueError.TheVariants.{Refused, OutOfMemory}
 
 -- a step into a value: to the member with this name, or to the item at this place, from 0 on
 pub data StepView : Type 0 where
@@ -50,15 +50,15 @@ abbrev pub refusal_at : List Step → Why → Refusal
 refusal_at path why = record { path = map step_view path; why = why }
 
 -- the refusal of a fault that isn't out of memory
-abbrev pub refusal_of : Fault → Refusal
+abbrev pub refusal_of : ValueError → Refusal
 refusal_of (Refused path why) = refusal_at path.items why
 refusal_of OutOfMemory = here NotObject
 
 -- the refusal that is read, or out of memory
-abbrev pub IsFaultOf : {T : Type 0} → Result T Refusal → Fault → Type 0
+abbrev pub IsFaultOf : {T : Type 0} → Result T Refusal → ValueError → Type 0
 IsFaultOf read e = (e ≡ OutOfMemory) ⊎ (read ≡ Err (refusal_of e))
 
 -- the fault that e is from one step further out, or out of memory
-pub record IsOutside (step : StepView) (e f : Fault) : Type 0 where
+pub record IsOutside (step : StepView) (e f : ValueError) : Type 0 where
   pub memory : e ≡ OutOfMemory → f ≡ OutOfMemory
   pub refusal : (f ≡ OutOfMemory) ⊎ (refusal_of f ≡ from_outside step (refusal_of e))

@@ -12,7 +12,7 @@ ghost use Rattle.haya_json.specs.Parts.{plain_of};
 ghost use Rattle.haya_json.specs.Readings.{entry_view, parents_view, reading_view};
 ghost use Rattle.haya_json.specs.Refusal.{IsFaultOf};
 
-use crate::fault::{Fault, Why};
+use crate::fault::{ValueError, Why};
 use crate::fields::set_field;
 use crate::from_json::{member, text_in};
 use crate::losts::{add_in_item, add_in_member, only, only_refused, only_unread};
@@ -31,17 +31,17 @@ pub(crate) fn read_entry(
     key: &str,
     default: Option<EntryType>,
     json: &Value<'_>,
-) -> Result<Reading, Fault>
+) -> Result<Reading, ValueError>
     ensures ok { IfOk result (λ read.
         entry_said key.now default (value_view json.now) ≡ Ok (reading_view read)) }
     ensures fault { IfErr result (IsFaultOf (entry_said key.now default (value_view json.now))) }
 {
     let Value::Object(members) = json else {
-        return Err(Fault::refused(alloc, Why::NotObject));
+        return Err(ValueError::refused(alloc, Why::NotObject));
     };
     match read_object(alloc, key, default, json, members) {
         Ok(read) => Ok(read),
-        Err(_) => Err(Fault::OutOfMemory),
+        Err(_) => Err(ValueError::OutOfMemory),
     }
 }
 
@@ -284,10 +284,10 @@ fn add_parent(
             parents.entries.push(entry)?;
             add_in_item(alloc, &mut parents.lost, lost, place)
         }
-        Err(Fault::Refused(path, why)) => {
+        Err(ValueError::Refused(path, why)) => {
             let lost = only_refused(alloc, path, why, json)?;
             add_in_item(alloc, &mut parents.lost, lost, place)
         }
-        Err(Fault::OutOfMemory) => Err(OutOfMemory),
+        Err(ValueError::OutOfMemory) => Err(OutOfMemory),
     }
 }

@@ -43,14 +43,14 @@ impl std::error::Error for ReadError {}
 
 /// Why a line of a text is no entry.
 #[derive(Debug, Drop)]
-pub struct LineError {
+pub struct JsonLineError {
     /// The number of the line, from 1 on.
     pub line: usize,
     /// What is wrong with it. A position is one in the line alone, and so its line is 1.
     pub error: ReadError,
 }
 
-impl fmt::Display for LineError {
+impl fmt::Display for JsonLineError {
     ghost output = { λ e. Some (line_error_text e) };
 
     /// What is wrong, behind its place in the text: `line 3, column 7: invalid JSON`, or
@@ -71,7 +71,7 @@ impl fmt::Display for LineError {
     }
 }
 
-impl std::error::Error for LineError {}
+impl std::error::Error for JsonLineError {}
 
 /// Why an element of a text, an item or a member, is no entry.
 #[derive(Debug, Drop)]

@@ -52,7 +52,7 @@ pub enum Step {
 
 /// Why nothing is read of a value.
 #[derive(Debug, Drop)]
-pub enum Fault {
+pub enum ValueError {
     /// The value at the end of these steps is refused.
     Refused(Vec<Step>, Why),
     /// An allocation failed, which says nothing of the value.
@@ -61,71 +61,71 @@ pub enum Fault {
 
 impl std::error::Error for Why {}
 
-impl Fault {
+impl ValueError {
     /// The value itself is refused.
-    pub fn refused(alloc: Global, why: Why) -> Fault
+    pub fn refused(alloc: Global, why: Why) -> ValueError
         ensures { refusal_of result ≡ here why }
     {
-        Fault::Refused(Vec::new(alloc), why)
+        ValueError::Refused(Vec::new(alloc), why)
     }
 
     /// The same fault, seen from the object that has the value under this name.
-    pub fn in_member(self, alloc: Global, name: &str) -> Fault
+    pub fn in_member(self, alloc: Global, name: &str) -> ValueError
         ensures { IsOutside (to_member name.now) self result }
     {
         match String::from_str(alloc, name) {
             Ok(name) => self.behind(Step::Name(name)),
-            Err(_) => Fault::OutOfMemory,
+            Err(_) => ValueError::OutOfMemory,
         }
     }
 
     /// The same fault, seen from the array that has the value at this place.
-    pub fn in_item(self, place: usize) -> Fault
+    pub fn in_item(self, place: usize) -> ValueError
         ensures { IsOutside (to_item place) self result }
     {
         self.behind(Step::Place(place))
     }
 
     // The same fault, seen from one step further out.
-    fn behind(self, step: Step) -> Fault
+    fn behind(self, step: Step) -> ValueError
         ensures { IsOutside (step_view step) self result }
     {
         match self {
-            Fault::OutOfMemory => Fault::OutOfMemory,
-            Fault::Refused(mut path, why) => match path.insert(0, step) {
-                Ok(()) => Fault::Refused(path, why),
-                Err(_) => Fault::OutOfMemory,
+            ValueError::OutOfMemory => ValueError::OutOfMemory,
+            ValueError::Refused(mut path, why) => match path.insert(0, step) {
+                Ok(()) => ValueError::Refused(path, why),
+                Err(_) => ValueError::OutOfMemory,
             },
         }
     }
 }
 
-impl From<OutOfMemory> for Fault {
-    ghost use Rattle.haya_json.specs.declared.fault.Fault.TheVariants as fault;
+impl From<OutOfMemory> for ValueError {
+    ghost use Rattle.haya_json.specs.declared.fault.ValueError.TheVariants as fault;
 
     ghost from_gives = { λ _ e. e ≡ fault.OutOfMemory };
 
-    fn from(_error: OutOfMemory) -> Fault {
-        Fault::OutOfMemory
+    fn from(_error: OutOfMemory) -> ValueError {
+        ValueError::OutOfMemory
     }
 }
 
-impl From<AllocError> for Fault {
-    ghost use Rattle.haya_json.specs.declared.fault.Fault.TheVariants as fault;
+impl From<AllocError> for ValueError {
+    ghost use Rattle.haya_json.specs.declared.fault.ValueError.TheVariants as fault;
 
     ghost from_gives = { λ _ e. e ≡ fault.OutOfMemory };
 
-    fn from(_error: AllocError) -> Fault {
-        Fault::OutOfMemory
+    fn from(_error: AllocError) -> ValueError {
+        ValueError::OutOfMemory
     }
 }
 
-impl<T: Drop> From<AllocFailed<T>> for Fault {
-    ghost use Rattle.haya_json.specs.declared.fault.Fault.TheVariants as fault;
+impl<T: Drop> From<AllocFailed<T>> for ValueError {
+    ghost use Rattle.haya_json.specs.declared.fault.ValueError.TheVariants as fault;
 
     ghost from_gives = { λ _ e. e ≡ fault.OutOfMemory };
 
-    fn from(_error: AllocFailed<T>) -> Fault {
-        Fault::OutOfMemory
+    fn from(_error: AllocFailed<T>) -> ValueError {
+        ValueError::OutOfMemory
     }
 }

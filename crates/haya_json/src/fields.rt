@@ -10,7 +10,7 @@ ghost use Rattle.haya_json.specs.Parts.{one_or_many};
 ghost use Rattle.haya_json.specs.Readings.{entry_view, field_view};
 ghost use Rattle.haya_json.specs.Refusal.{refusal_of};
 
-use crate::fault::{Fault, Why};
+use crate::fault::{ValueError, Why};
 use crate::from_json::FromJson;
 use crate::lost_parts::{HasParts, many_lost, parts_lost};
 use crate::losts::{only_named, only_refused, only_unread};
@@ -160,13 +160,13 @@ fn read_people<T: FromJson + HasParts + Drop>(
 }
 
 // What a fault says of a value is lost of it.
-fn lost_by(alloc: Global, fault: Fault, json: &Value<'_>) -> Result<Vec<Lost>, OutOfMemory>
+fn lost_by(alloc: Global, fault: ValueError, json: &Value<'_>) -> Result<Vec<Lost>, OutOfMemory>
     ensures lost { IfOk result (λ lost. losts_view lost.items ≡ lost_of (refusal_of fault) ∷ []) }
-    ensures memory { fault ≡ Fault.OutOfMemory → IsErr result }
+    ensures memory { fault ≡ ValueError.OutOfMemory → IsErr result }
 {
     match fault {
-        Fault::Refused(path, why) => only_refused(alloc, path, why, json),
-        Fault::OutOfMemory => Err(OutOfMemory),
+        ValueError::Refused(path, why) => only_refused(alloc, path, why, json),
+        ValueError::OutOfMemory => Err(OutOfMemory),
     }
 }
 

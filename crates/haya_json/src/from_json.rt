@@ -5,7 +5,7 @@ ghost use Rattle.haya_json.specs.Refusal.{IsFaultOf};
 ghost use Rattle.haya_json.specs.Parts.{bytes_of, flag, items_of, member_of, needed, one_or_many};
 ghost use Rattle.haya_json.specs.Parts.{optional, read_by, text_in};
 
-use crate::fault::{Fault, Why};
+use crate::fault::{ValueError, Why};
 use haya_text::{ReadFault, ReadText};
 use json::Value;
 use std::alloc::Global;
@@ -26,7 +26,7 @@ pub trait FromJson: Sized {
     ghost reads: { Json → Result View Refusal };
 
     /// The value that this JSON says.
-    fn from_json(alloc: Global, json: &Value<'_>) -> Result<Self, Fault>
+    fn from_json(alloc: Global, json: &Value<'_>) -> Result<Self, ValueError>
         ensures ok { IfOk result (λ v. reads (value_view json.now) ≡ Ok (view v)) }
         ensures fault { IfErr result (IsFaultOf (reads (value_view json.now))) };
 }
@@ -43,28 +43,28 @@ pub fn text_in<'a>(json: &Value<'a>) -> Option<&'a str>
 }
 
 /// The text of a value, where it has one.
-pub fn read_text<'a>(alloc: Global, json: &Value<'a>) -> Result<&'a str, Fault>
+pub fn read_text<'a>(alloc: Global, json: &Value<'a>) -> Result<&'a str, ValueError>
     ensures ok { IfOk result (λ text. bytes_of (value_view json.now) ≡ Ok text.now) }
     ensures fault { IfErr result (IsFaultOf (bytes_of (value_view json.now))) }
 {
     match text_in(json) {
         Some(text) => Ok(text),
-        None => Err(Fault::refused(alloc, Why::NotText)),
+        None => Err(ValueError::refused(alloc, Why::NotText)),
     }
 }
 
 /// What the text of the value reads as. A text that isn't read is refused for this reason.
-pub fn read_by<T: ReadText>(alloc: Global, json: &Value<'_>, why: Why) -> Result<T, Fault>
+pub fn read_by<T: ReadText>(alloc: Global, json: &Value<'_>, why: Why) -> Result<T, ValueError>
     ensures ok { IfOk result (λ v. read_by why T.reads (value_view json.now) ≡ Ok (T.value v)) }
     ensures fault { IfErr result (IsFaultOf (read_by why T.reads (value_view json.now))) }
 {
     let Some(text) = text_in(json) else {
-        return Err(Fault::refused(alloc, Why::NotText));
+        return Err(ValueError::refused(alloc, Why::NotText));
     };
     match T::from_str(alloc, text) {
         Ok(read) => Ok(read),
-        Err(fault) if fault.is_out_of_memory() => Err(Fault::OutOfMemory),
-        Err(_) => Err(Fault::refused(alloc, why)),
+        Err(fault) if fault.is_out_of_memory() => Err(ValueError::OutOfMemory),
+        Err(_) => Err(ValueError::refused(alloc, why)),
     }
 }
 
@@ -79,10 +79,10 @@ impl FromJson for String {
     ghost reads = { plain_of };
 
     /// The text as it stands.
-    fn from_json(alloc: Global, json: &Value<'_>) -> Result<String, Fault> {
+    fn from_json(alloc: Global, json: &Value<'_>) -> Result<String, ValueError> {
         match text_in(json) {
             Some(text) => Ok(String::from_str(alloc, text)?),
-            None => Err(Fault::refused(alloc, Why::NotText)),
+            None => Err(ValueError::refused(alloc, Why::NotText)),
         }
     }
 }
@@ -97,10 +97,10 @@ impl FromJson for bool {
 
     ghost reads = { truth_of };
 
-    fn from_json(alloc: Global, json: &Value<'_>) -> Result<bool, Fault> {
+    fn from_json(alloc: Global, json: &Value<'_>) -> Result<bool, ValueError> {
         match json.as_bool() {
             Some(truth) => Ok(truth),
-            None => Err(Fault::refused(alloc, Why::NotTruth)),
+            None => Err(ValueError::refused(alloc, Why::NotTruth)),
         }
     }
 }
@@ -114,13 +114,13 @@ pub fn member<'v, 'a>(json: &'v Value<'a>, name: &str) -> Option<&'v Value<'a>>
 }
 
 /// What a member that has to be there reads as.
-pub fn needed<T: FromJson>(alloc: Global, json: &Value<'_>, name: &str) -> Result<T, Fault>
+pub fn needed<T: FromJson>(alloc: Global, json: &Value<'_>, name: &str) -> Result<T, ValueError>
     ensures ok { IfOk result
         (λ v. needed name.now T.reads (value_view json.now) ≡ Ok (T.view v)) }
     ensures fault { IfErr result (IsFaultOf (needed name.now T.reads (value_view json.now))) }
 {
     let Some(member) = member(json, name) else {
-        return Err(Fault::refused(alloc, Why::Missing).in_member(alloc, name));
+        return Err(ValueError::refused(alloc, Why::Missing).in_member(alloc, name));
     };
     match T::from_json(alloc, member) {
         Ok(read) => Ok(read),
@@ -133,7 +133,7 @@ pub fn optional<T: FromJson>(
     alloc: Global,
     json: &Value<'_>,
     name: &str,
-) -> Result<Option<T>, Fault>
+) -> Result<Option<T>, ValueError>
     ensures ok { IfOk result
         (λ v. optional name.now T.reads (value_view json.now) ≡ Ok (option_map T.view v)) }
     ensures fault { IfErr result (IsFaultOf (optional name.now T.reads (value_view json.now))) }
@@ -148,7 +148,7 @@ pub fn optional<T: FromJson>(
 }
 
 /// Whether the member with this name is true. One that is left out isn't.
-pub fn flag(alloc: Global, json: &Value<'_>, name: &str) -> Result<bool, Fault>
+pub fn flag(alloc: Global, json: &Value<'_>, name: &str) -> Result<bool, ValueError>
     ensures ok { IfOk result (λ b. flag name.now (value_view json.now) ≡ Ok b) }
     ensures fault { IfErr result (IsFaultOf (flag name.now (value_view json.now))) }
 {
@@ -169,7 +169,7 @@ impl<T: FromJson + Drop> FromJson for Vec<T> {
     ghost reads = { one_or_many T.reads };
 
     /// One value alone, or an array of them.
-    fn from_json(alloc: Global, json: &Value<'_>) -> Result<Vec<T>, Fault> {
+    fn from_json(alloc: Global, json: &Value<'_>) -> Result<Vec<T>, ValueError> {
         match json {
             Value::Array(items) => read_items(alloc, items),
             _ => {
@@ -185,7 +185,7 @@ impl<T: FromJson + Drop> FromJson for Vec<T> {
 pub fn read_items<T: FromJson + Drop>(
     alloc: Global,
     items: &Vec<Value<'_>>,
-) -> Result<Vec<T>, Fault>
+) -> Result<Vec<T>, ValueError>
     ensures ok { IfOk result (λ vs.
         items_of T.reads 0 (items_view items.now.items) ≡ Ok (map T.view vs.items)) }
     ensures fault { IfErr result (IsFaultOf (items_of T.reads 0 (items_view items.now.items))) }

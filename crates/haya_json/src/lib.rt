@@ -33,7 +33,7 @@ mod unique;
 mod values;
 mod writing;
 
-pub use error::{ElementError, LineError, ReadError};
+pub use error::{ElementError, JsonLineError, ReadError};
 pub use fault::{Step, Why};
 pub use ignored::{Ignored, IgnoredNames};
 pub use json_lines::{read_entry_line, read_json_lines};

@@ -13,7 +13,7 @@ ghost use Rattle.haya_json.specs.Told.{Tells, entries_told, told, told_alone};
 
 use crate::entries::read_entry;
 use crate::error::ReadError;
-use crate::fault::{Fault, Why};
+use crate::fault::{ValueError, Why};
 use crate::notes::Notes;
 use crate::parse_errors::{name_twice, not_json};
 use crate::told::take_entry;
@@ -54,8 +54,8 @@ pub fn read_library_with_hash_keys(
     match Value::parse_strict(alloc, text, &mut scratch) {
         Ok(json) => match library_and_notes(alloc, keys, json) {
             Ok(read) => Ok(read),
-            Err(Fault::Refused(path, why)) => Err(ReadError::Refused(path, why)),
-            Err(Fault::OutOfMemory) => Err(ReadError::OutOfMemory),
+            Err(ValueError::Refused(path, why)) => Err(ReadError::Refused(path, why)),
+            Err(ValueError::OutOfMemory) => Err(ReadError::OutOfMemory),
         },
         Err(json::Error::Invalid) => Err(not_json(alloc, text)),
         Err(json::Error::DuplicateKey) => Err(name_twice(alloc, text)),
@@ -69,7 +69,7 @@ fn library_and_notes(
     alloc: Global,
     keys: HashKeys,
     json: Value<'_>,
-) -> Result<(Library, Notes), Fault>
+) -> Result<(Library, Notes), ValueError>
     ensures library { IfOk result (λ read. HasUniqueKeys (value_view json.entry)
         → library_of (value_view json.entry) ≡ Ok read.0) }
     ensures notes { IfOk result (λ read.
@@ -90,7 +90,7 @@ fn library_of(
     keys: HashKeys,
     json: Value<'_>,
     notes: &mut Notes,
-) -> Result<Library, Fault>
+) -> Result<Library, ValueError>
     ensures library { IfOk result (λ library. HasUniqueKeys (value_view json.entry)
         → library_of (value_view json.entry) ≡ Ok library) }
     ensures notes { OnOk result (notes_view notes.new
@@ -99,7 +99,7 @@ fn library_of(
 {
     match json {
         Value::Object(members) => read_entries(alloc, keys, members, notes),
-        _ => Err(Fault::refused(alloc, Why::NotObject)),
+        _ => Err(ValueError::refused(alloc, Why::NotObject)),
     }
 }
 
@@ -109,7 +109,7 @@ fn read_entries(
     keys: HashKeys,
     members: Vec<(&str, Value<'_>)>,
     notes: &mut Notes,
-) -> Result<Library, Fault>
+) -> Result<Library, ValueError>
     ensures library { IfOk result (λ library. AreDistinct (names (members_view members.entry.items))
         → entries_of (members_view members.entry.items) ≡ Ok library) }
     ensures notes { OnOk result (notes_view notes.new
@@ -130,7 +130,7 @@ fn push_entries(
     keys: HashKeys,
     members: Vec<(&str, Value<'_>)>,
     notes: &mut Notes,
-) -> Result<Library, Fault>
+) -> Result<Library, ValueError>
     ensures library { IfOk result (λ library.
         entries_pushed [] (members_view members.entry.items) ≡ Ok library) }
     ensures notes { OnOk result (notes_view notes.new
@@ -158,7 +158,7 @@ fn push_entry(
     name: &str,
     json: &Value<'_>,
     notes: &mut Notes,
-) -> Result<(), Fault>
+) -> Result<(), ValueError>
     ensures library { OnOk result ((entry : Tree)
         × (entry_of name.now None (value_view json.now) ≡ Ok entry)
         × (library.new ≡ push entry library.old)) }

@@ -14,7 +14,7 @@ ghost use Rattle.haya_json.specs.Told.{told_alone};
 use crate::alone::read_alone;
 use crate::entries::read_entry;
 use crate::error::ReadError;
-use crate::fault::Fault;
+use crate::fault::ValueError;
 use crate::notes::Notes;
 use crate::parse_errors::{name_twice_in_line, no_member};
 use crate::told::take_entry;
@@ -24,11 +24,17 @@ use std::alloc::Global;
 
 /// The entry that a line says: a member of the object that a text in hayagriva's file format is,
 /// without the commas round it. Its name is the key. What is lost of the entry is told in `notes`.
+/// The reader works in `scratch`, which is kept from line to line.
 ///
 /// `NotJson`: the line is no member, or its value nests more than 127 deep. `NameTwice`: it is one,
 /// and an object in it has a member twice. `Refused`: the entry is no object; the path is to the
 /// member. At each of these `notes` is as before.
-pub fn read_member_line(alloc: Global, line: &str, notes: &mut Notes) -> Result<Entry, ReadError>
+pub fn read_member_line(
+    alloc: Global,
+    line: &str,
+    scratch: &mut Scratch,
+    notes: &mut Notes,
+) -> Result<Entry, ReadError>
     ensures entry { IfOk result (λ entry. IsMemberLineOf line.now (view entry)) }
     ensures notes { OnOk result (notes_view notes.new
         ≡ all_kept (line_told line.now) (notes_view notes.old)) }
@@ -36,12 +42,11 @@ pub fn read_member_line(alloc: Global, line: &str, notes: &mut Notes) -> Result<
     ensures unchanged { IfErr result
         (λ e. e ≢ ReadError.OutOfMemory → notes_view notes.new ≡ notes_view notes.old) }
 {
-    let mut scratch = Scratch::new(alloc);
-    let (name, json) = member_in(alloc, line, &mut scratch)?;
+    let (name, json) = member_in(alloc, line, scratch)?;
     match read_named(alloc, name, &json, notes) {
         Ok(entry) => Ok(entry),
-        Err(Fault::Refused(path, why)) => Err(ReadError::Refused(path, why)),
-        Err(Fault::OutOfMemory) => Err(ReadError::OutOfMemory),
+        Err(ValueError::Refused(path, why)) => Err(ReadError::Refused(path, why)),
+        Err(ValueError::OutOfMemory) => Err(ReadError::OutOfMemory),
     }
 }
 
@@ -77,7 +82,7 @@ fn read_named(
     name: &str,
     json: &Value<'_>,
     notes: &mut Notes,
-) -> Result<Entry, Fault>
+) -> Result<Entry, ValueError>
     ensures entry { IfOk result
         (λ entry. entry_of name.now None (value_view json.now) ≡ Ok (view entry)) }
     ensures notes { OnOk result (notes_view notes.new
@@ -86,12 +91,12 @@ fn read_named(
     ensures fault { IfErr result (IsFaultOf
         (within (to_member name.now) (entry_of name.now None (value_view json.now)))) }
     ensures unchanged { IfErr result
-        (λ e. e ≢ Fault.OutOfMemory → notes_view notes.new ≡ notes_view notes.old) }
+        (λ e. e ≢ ValueError.OutOfMemory → notes_view notes.new ≡ notes_view notes.old) }
 {
     match read_entry(alloc, name, None, json) {
         Ok(read) => match take_entry(alloc, notes, read) {
             Ok(entry) => Ok(entry),
-            Err(_) => Err(Fault::OutOfMemory),
+            Err(_) => Err(ValueError::OutOfMemory),
         },
         Err(fault) => Err(fault.in_member(alloc, name)),
     }

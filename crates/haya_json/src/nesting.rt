@@ -68,6 +68,14 @@ impl Nesting {
         }
     }
 
+    /// Whether a name may stand next.
+    pub(crate) fn expects_name(&self) -> bool {
+        match self.open.last() {
+            Some(open) => *open == Open::Object,
+            None => self.next == Next::Name,
+        }
+    }
+
     // A value stands alone, in an array or behind a name.
     fn takes_value(&mut self) -> bool {
         match self.open.last_mut() {

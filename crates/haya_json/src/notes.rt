@@ -51,18 +51,22 @@ pub struct Note {
 
 impl fmt::Display for Note {
     /// The entry's key, and what is lost of it, behind its place in the entry: `` `key` comes again ``,
-    /// or `` `key`: number-of-pages: no number: "399, [1]" ``.
+    /// or `` `key`: number-of-pages: no number: "399, [1]" ``. What is lost of no entry has no key, and
+    /// what is lost of the whole no place.
     fn fmt<W: fmt::Write>(&self, f: &mut fmt::Formatter<W>) -> fmt::Result {
-        write!(f, "`{}`", self.key)?;
-        match &self.lost.loss {
-            Loss::Again => return f.write_str(" comes again"),
-            _ => f.write_str(": ")?,
+        if matches!(&self.lost.loss, Loss::Again) {
+            return write!(f, "`{}` comes again", self.key);
         }
-        write!(f, "{}", Place(&self.lost.path))?;
+        if !self.key.is_empty() {
+            write!(f, "`{}`: ", self.key)?;
+        }
+        if !self.lost.path.is_empty() {
+            write!(f, "{}: ", Place(&self.lost.path))?;
+        }
         match &self.lost.loss {
-            Loss::Named(name) => write!(f, ": passed over: {name}"),
-            Loss::Unread(why, value) if value.is_empty() => write!(f, ": {why}"),
-            Loss::Unread(why, value) => write!(f, ": {why}: {value}"),
+            Loss::Named(name) => write!(f, "passed over: {name}"),
+            Loss::Unread(why, value) if value.is_empty() => write!(f, "{why}"),
+            Loss::Unread(why, value) => write!(f, "{why}: {value}"),
             Loss::Again => Ok(()),
         }
     }

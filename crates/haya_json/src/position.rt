@@ -45,11 +45,45 @@ pub(crate) fn position_of_fault(
     let mut place = reader.offset();
     'tokens: while let Some(token) = reader.next() {
         if !nesting.takes(&token)? {
+            if nesting.expects_name() {
+                place = place_of_colon(text, place);
+            }
             break;
         }
         place = reader.offset();
     }
     Ok(position_at(text, place))
+}
+
+// Where the colon is missing behind the name that begins at this place of a text, or the place
+// itself, where none begins there, or a colon follows it.
+fn place_of_colon(text: &str, place: usize) -> usize {
+    let Some(rest) = text.get(place..) else {
+        return place;
+    };
+    let length = length_before_colon(rest.as_bytes());
+    place.checked_add(length).unwrap_or(place)
+}
+
+// How many bytes a name in front takes, with the white space behind it; none where a colon follows
+// them, or there is no name.
+fn length_before_colon(text: &[u8]) -> usize {
+    let Some((b'"', rest)) = text.split_first() else {
+        return 0;
+    };
+    let (mut is_escaped, mut is_behind) = (false, false);
+    'bytes: for (at, &byte) in rest.iter().enumerate() {
+        match byte {
+            _ if is_escaped => is_escaped = false,
+            b' ' | b'\t' | b'\n' | b'\r' if is_behind => {}
+            b':' if is_behind => return 0,
+            _ if is_behind => return at + 1,
+            b'\\' => is_escaped = true,
+            b'"' => is_behind = true,
+            _ => {}
+        }
+    }
+    if is_behind { text.len() } else { 0 }
 }
 
 /// Where a name stands the second time in an object of a text that is JSON: the first such place,

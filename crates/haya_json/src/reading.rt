@@ -1,7 +1,7 @@
 //! For readers of other formats that are written as JSON: faults with their place, the errors of a
 //! text, whether names come twice, what members and texts read as, and lists of what is lost.
 pub use crate::alone::{ELEMENT_DEPTH, read_alone};
-pub use crate::fault::Fault;
+pub use crate::fault::ValueError;
 pub use crate::from_json::{
     FromJson, member, needed, optional, read_by, read_items, read_text, text_in,
 };

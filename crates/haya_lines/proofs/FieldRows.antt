@@ -6,7 +6,7 @@ use Rattle.haya_entry.specs.declared.types.EntryType.TheVariants.{Book}
 use Rattle.haya_people.specs.Person.{PersonView}
 use Rattle.haya_people.specs.Roles.{role_named}
 use Rattle.haya_entry.specs.Tree.{Fields, no_fields}
-use Rattle.haya_lines.specs.declared.fault.LineFault.TheVariants.{Shape, UnknownField, RefusedValue}
+use Rattle.haya_lines.specs.declared.error.LineError.TheVariants.{Shape, UnknownField, RefusedValue}
 use Rattle.haya_lines.specs.FieldTable.{and_then, person_of, with_field}
 
 abbrev bare : Fields

@@ -2,7 +2,7 @@
 use Rattle.std.proofs.Common.{◌≡◌, ℕ, List, ◌∷◌, Result, Ok, Err, refl, sym, ap, ◌∙◌, subst}
 use Rattle.std.specs.Prelude.{IsOkAnd}
 use Rattle.haya_entry.specs.Tree.{Tree, Fields, node, fields, with_fields}
-use Rattle.haya_lines.specs.declared.fault.LineFault.{LineFault}
+use Rattle.haya_lines.specs.declared.error.LineError.{LineError}
 use Rattle.haya_lines.specs.FieldTable.{and_then}
 use Rattle.haya_lines.specs.Line.{field_read, fields_read}
 
@@ -29,7 +29,7 @@ Left-next : (first : Tree) (all : List (List ℕ)) (now : Tree) (item : List ℕ
     → Left first all now (item ∷ rest) → IsOkAnd (field_read (fields now) item) (λ f. Has now f next) → Left first all next rest
 Left-next first all now item rest next left set = by (field_read (fields now) item) refl set
   where
-    by : (r : Result Fields LineFault) → field_read (fields now) item ≡ r → IsOkAnd r (λ f. Has now f next) → Left first all next rest
+    by : (r : Result Fields LineError) → field_read (fields now) item ≡ r → IsOkAnd r (λ f. Has now f next) → Left first all next rest
     by (Err e) is h = absurd h
     by (Ok f) is h =
         let kept : fields next ≡ f = ap fields h ∙ fields-set f now in

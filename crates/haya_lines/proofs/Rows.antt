@@ -4,32 +4,32 @@ use Rattle.std.specs.Prelude.{IsOkAnd, IfOk, ok_or}
 use Rattle.haya_entry.specs.declared.types.EntryType.{EntryType}
 use Rattle.haya_entry.specs.EntryType.{type_read}
 use Rattle.haya_entry.specs.Tree.{Tree, Fields, fields, with_fields, new_entry}
-use Rattle.haya_lines.specs.declared.fault.LineFault.{LineFault}
-use Rattle.haya_lines.specs.declared.fault.LineFault.TheVariants.{Depth, OutOfMemory, Shape, UnknownType}
+use Rattle.haya_lines.specs.declared.error.LineError.{LineError}
+use Rattle.haya_lines.specs.declared.error.LineError.TheVariants.{Depth, OutOfMemory, Shape, UnknownType}
 use Rattle.haya_lines.specs.FieldTable.{and_then}
 use Rattle.haya_lines.specs.Line.{Row, leaf, depth_read, fields_read, row_at, row_read}
 
 -- an entry that is made bare, and whose fields are then set
-set_leaf : (key : List ℕ) (k : EntryType) (first last : Tree) (read : Fields → Result Fields LineFault) → first ≡ new_entry key k
+set_leaf : (key : List ℕ) (k : EntryType) (first last : Tree) (read : Fields → Result Fields LineError) → first ≡ new_entry key k
     → IsOkAnd (read (fields first)) (λ f. last ≡ with_fields (λ _. f) first) → IsOkAnd (read (fields (new_entry key k))) (λ f. last ≡ leaf f)
 set_leaf key k first last read made set = by (read (fields (new_entry key k))) (subst (λ t. IsOkAnd (read (fields t)) (λ f. last ≡ with_fields (λ _. f) t)) made set)
   where
-    by : (r : Result Fields LineFault) → IsOkAnd r (λ f. last ≡ with_fields (λ _. f) (new_entry key k)) → IsOkAnd r (λ f. last ≡ leaf f)
+    by : (r : Result Fields LineError) → IsOkAnd r (λ f. last ≡ with_fields (λ _. f) (new_entry key k)) → IsOkAnd r (λ f. last ≡ leaf f)
     by (Ok f) h = h
     by (Err e) h = absurd h
 
 -- the row of an entry whose fields are set
-pub row_at-ok : (n : ℕ) (key : List ℕ) (k : EntryType) (first last : Tree) (read : Fields → Result Fields LineFault) → first ≡ new_entry key k
+pub row_at-ok : (n : ℕ) (key : List ℕ) (k : EntryType) (first last : Tree) (read : Fields → Result Fields LineError) → first ≡ new_entry key k
     → IsOkAnd (read (fields first)) (λ f. last ≡ with_fields (λ _. f) first)
     → IsOkAnd (row_at n (read (fields (new_entry key k)))) (λ row. (n ≡ row.depth) × (last ≡ leaf row.fields))
 row_at-ok n key k first last read made set = by (read (fields (new_entry key k))) (set_leaf key k first last read made set)
   where
-    by : (r : Result Fields LineFault) → IsOkAnd r (λ f. last ≡ leaf f) → IsOkAnd (row_at n r) (λ row. (n ≡ row.depth) × (last ≡ leaf row.fields))
+    by : (r : Result Fields LineError) → IsOkAnd r (λ f. last ≡ leaf f) → IsOkAnd (row_at n r) (λ row. (n ≡ row.depth) × (last ≡ leaf row.fields))
     by (Ok f) h = (refl, h)
     by (Err e) h = absurd h
 
 -- a fault of its fields is the row's
-pub row_at-err : (n : ℕ) (key : List ℕ) (k : EntryType) (first : Tree) (read : Fields → Result Fields LineFault) (e : LineFault) → first ≡ new_entry key k
+pub row_at-err : (n : ℕ) (key : List ℕ) (k : EntryType) (first : Tree) (read : Fields → Result Fields LineError) (e : LineError) → first ≡ new_entry key k
     → (e ≡ OutOfMemory) ⊎ (read (fields first) ≡ Err e) → (e ≡ OutOfMemory) ⊎ (row_at n (read (fields (new_entry key k))) ≡ Err e)
 row_at-err n key k first read e made fault =
     ⊎_elim (λ h. inl h) (λ h. inr (ap (row_at n) (ap (λ t. read (fields t)) (sym made) ∙ h))) fault
@@ -54,7 +54,7 @@ row_read-short deepest (a ∷ b ∷ c ∷ more) short = absurd (omega arith)
 pub row_within : (deepest : ℕ) (items : List (List ℕ)) → IfOk (row_read deepest items) (λ row. row.depth ≤ deepest)
 row_within deepest (a ∷ b ∷ c ∷ more) = by (depth_read deepest a) (depth_within deepest a) (type_read c)
   where
-    fields_within : (d : ℕ) → d ≤ deepest → (r : Result Fields LineFault) → IfOk {T = Row} (and_then r (λ f. Ok (record { depth = d; fields = f }))) (λ row. row.depth ≤ deepest)
+    fields_within : (d : ℕ) → d ≤ deepest → (r : Result Fields LineError) → IfOk {T = Row} (and_then r (λ f. Ok (record { depth = d; fields = f }))) (λ row. row.depth ≤ deepest)
     fields_within d within (Ok f) = within
     fields_within d within (Err e) = tt
 
@@ -80,6 +80,6 @@ row_taken m deepest items n entry Q same = subst (λ d. Read d → All → Taken
     Taken : Type 0
     Taken = IsOkAnd (row_read deepest items) Q
 
-    by : (r : Result Row LineFault) → IfOk r (λ row. row.depth ≤ deepest) → IsOkAnd r (λ row. (n ≡ row.depth) × (entry ≡ leaf row.fields)) → All → IsOkAnd r Q
+    by : (r : Result Row LineError) → IfOk r (λ row. row.depth ≤ deepest) → IsOkAnd r (λ row. (n ≡ row.depth) × (entry ≡ leaf row.fields)) → All → IsOkAnd r Q
     by (Ok row) within h all = all row h.0 (omega arith) h.1
     by (Err e) within h all = h

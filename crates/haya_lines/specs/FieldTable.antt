@@ -25,8 +25,8 @@ use Rattle.haya_entry.specs.FieldName.{field_name, field_named}
 use Rattle.haya_entry.specs.SerialNumber.{with_serial}
 use Rattle.haya_entry.specs.Tree.{Fields}
 use Rattle.haya_lines.specs.Signs.{colon}
-use Rattle.haya_lines.specs.declared.fault.LineFault.{LineFault}
-use Rattle.haya_lines.specs.declared.fault.LineFault.TheVariants.{Shape, UnknownField, RefusedValue}
+use Rattle.haya_lines.specs.declared.error.LineError.{LineError}
+use Rattle.haya_lines.specs.declared.error.LineError.TheVariants.{Shape, UnknownField, RefusedValue}
 
 -- what follows from a value, or the fault
 abbrev pub and_then : {T U E : Type 0} → Result T E → (T → Result U E) → Result U E
@@ -41,47 +41,47 @@ cut_at sign text =
 -- ---- what a value reads as, or why it is refused
 
 -- what is read, or a refused value
-abbrev pub ok_or_refused : {V : Type 0} → Option V → Result V LineFault
+abbrev pub ok_or_refused : {V : Type 0} → Option V → Result V LineError
 ok_or_refused read = ok_or read RefusedValue
 
-abbrev pub bytes_of : List ℕ → Result (List ℕ) LineFault
+abbrev pub bytes_of : List ℕ → Result (List ℕ) LineError
 bytes_of value = Ok value
 
-abbrev pub text_of : List ℕ → Result TextView LineFault
+abbrev pub text_of : List ℕ → Result TextView LineError
 text_of value = ok_or_refused (text_read value)
 
-abbrev pub person_of : List ℕ → Result PersonView LineFault
+abbrev pub person_of : List ℕ → Result PersonView LineError
 person_of value = ok_or_refused (result_ok (person_read value))
 
-abbrev pub number_of : List ℕ → Result NumericView LineFault
+abbrev pub number_of : List ℕ → Result NumericView LineError
 number_of value = ok_or_refused (result_ok (numeric_read value))
 
-abbrev pub date_of : List ℕ → Result Date LineFault
+abbrev pub date_of : List ℕ → Result Date LineError
 date_of value = ok_or_refused (result_ok (date_read (chars value)))
 
-abbrev pub publisher_of : List ℕ → Result PublisherView LineFault
+abbrev pub publisher_of : List ℕ → Result PublisherView LineError
 publisher_of value = ok_or_refused (publisher_read value)
 
-abbrev pub url_of : List ℕ → Result UrlView LineFault
+abbrev pub url_of : List ℕ → Result UrlView LineError
 url_of value = Ok (undated value)
 
-abbrev pub number_or_text_of : List ℕ → Result (TypedOrText NumericView) LineFault
+abbrev pub number_or_text_of : List ℕ → Result (TypedOrText NumericView) LineError
 number_or_text_of value = Ok (typed_or_text (result_ok (numeric_read value)) value)
 
-abbrev pub pages_or_text_of : List ℕ → Result (TypedOrText (List PartView)) LineFault
+abbrev pub pages_or_text_of : List ℕ → Result (TypedOrText (List PartView)) LineError
 pages_or_text_of value = Ok (typed_or_text (result_ok (pages_read (chars value))) value)
 
-abbrev pub range_or_text_of : List ℕ → Result (TypedOrText DurationRange) LineFault
+abbrev pub range_or_text_of : List ℕ → Result (TypedOrText DurationRange) LineError
 range_or_text_of value = Ok (typed_or_text (result_ok (range_read (chars value))) value)
 
-abbrev pub duration_or_text_of : List ℕ → Result (TypedOrText Duration) LineFault
+abbrev pub duration_or_text_of : List ℕ → Result (TypedOrText Duration) LineError
 duration_or_text_of value = Ok (typed_or_text (result_ok (duration_read (chars value))) value)
 
-abbrev pub role_of : List ℕ → Result RoleView LineFault
+abbrev pub role_of : List ℕ → Result RoleView LineError
 role_of name = ok_or_refused (option_map role_view (role_read name))
 
 -- a role and one person, separated by the first colon
-abbrev pub affiliated_of : List ℕ → Result RolesView LineFault
+abbrev pub affiliated_of : List ℕ → Result RolesView LineError
 affiliated_of value =
     and_then (ok_or (cut_at colon value) Shape) (λ cut.
     and_then (role_of cut.0) (λ role.
@@ -92,10 +92,10 @@ affiliated_of value =
 
 -- what makes of a value and fields the fields after it is set, or says why it can't be
 abbrev pub Setter : Type 0
-Setter = List ℕ → Fields → Result Fields LineFault
+Setter = List ℕ → Fields → Result Fields LineError
 
 -- the setter of a field: it puts there what the value reads as
-abbrev pub field_setter : {V : Type 0} → (List ℕ → Result V LineFault) → (V → Fields → Fields)
+abbrev pub field_setter : {V : Type 0} → (List ℕ → Result V LineError) → (V → Fields → Fields)
     → Setter
 field_setter read with_value value f = and_then (read value) (λ v. Ok (with_value v f))
 

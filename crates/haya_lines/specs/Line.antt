@@ -7,8 +7,8 @@ use Rattle.haya_entry.specs.EntryType.{type_read}
 use Rattle.haya_entry.specs.Tree.{Tree, Fields, node, no_trees, fields, new_entry}
 use Rattle.haya_lines.specs.FieldTable.{and_then, cut_at, with_field}
 use Rattle.haya_lines.specs.Signs.{equals_sign}
-use Rattle.haya_lines.specs.declared.fault.LineFault.{LineFault}
-use Rattle.haya_lines.specs.declared.fault.LineFault.TheVariants.{Shape, Depth, UnknownType}
+use Rattle.haya_lines.specs.declared.error.LineError.{LineError}
+use Rattle.haya_lines.specs.declared.error.LineError.TheVariants.{Shape, Depth, UnknownType}
 
 -- one to three digits, for a depth of at most 500 that is no deeper than this
 abbrev pub is_depth : ℕ → List ℕ → Bool
@@ -24,12 +24,12 @@ abbrev pub name_and_value : List ℕ → Option (List ℕ × List ℕ)
 name_and_value item = cut_at equals_sign item
 
 -- the fields after the item's is set, or its fault
-abbrev pub field_read : Fields → List ℕ → Result Fields LineFault
+abbrev pub field_read : Fields → List ℕ → Result Fields LineError
 field_read f item =
     and_then (ok_or (name_and_value item) Shape) (λ field. with_field field.0 field.1 f)
 
 -- the fields after those of all items are set in turn, or the first fault
-abbrev pub fields_read : Fields → List (List ℕ) → Result Fields LineFault
+abbrev pub fields_read : Fields → List (List ℕ) → Result Fields LineError
 fields_read f [] = Ok f
 fields_read f (item ∷ more) = and_then (field_read f item) (λ g. fields_read g more)
 
@@ -39,11 +39,11 @@ pub record Row : Type 0 where
   pub fields : Fields
 
 -- the row of a depth and of the fields that are read
-abbrev pub row_at : ℕ → Result Fields LineFault → Result Row LineFault
+abbrev pub row_at : ℕ → Result Fields LineError → Result Row LineError
 row_at d read = and_then read (λ f. Ok (record { depth = d; fields = f }))
 
 -- the row that items make, or their first fault
-abbrev pub row_read : ℕ → List (List ℕ) → Result Row LineFault
+abbrev pub row_read : ℕ → List (List ℕ) → Result Row LineError
 row_read deepest (depth ∷ key ∷ kind ∷ more) =
     and_then (ok_or (depth_read deepest depth) Depth) (λ d.
     and_then (ok_or (type_read kind) UnknownType) (λ k.

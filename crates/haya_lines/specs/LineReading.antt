@@ -4,11 +4,11 @@ use Rattle.haya_entry.specs.Tree.{Fields, fields, new_entry, view, with_fields}
 use Rattle.haya_entry.specs.declared.entry.Entry.{Entry}
 use Rattle.haya_lines.specs.Line.{Row, fields_read, leaf, row_at, row_read}
 use Rattle.haya_lines.specs.declared.line.Head.{Head}
-use Rattle.haya_lines.specs.declared.fault.LineFault.{LineFault}
-use Rattle.haya_lines.specs.declared.fault.LineFault.TheVariants.{OutOfMemory}
+use Rattle.haya_lines.specs.declared.error.LineError.{LineError}
+use Rattle.haya_lines.specs.declared.error.LineError.TheVariants.{OutOfMemory}
 
 -- the depth and the entry of the row that is read
-abbrev pub IsRow : Result Row LineFault → ℕ × Entry → Type 0
+abbrev pub IsRow : Result Row LineError → ℕ × Entry → Type 0
 IsRow read found = IsOkAnd read (λ row. (found.0 ≡ row.depth) × (view found.1 ≡ leaf row.fields))
 
 -- what is left of the row's items to read are the fields of an entry with the head's key and type
@@ -19,9 +19,9 @@ IsHead deepest items left head =
     × (head.depth ≤ deepest)
 
 -- the entry has the fields that are read in the place of its own
-abbrev pub SetsFields : Result Fields LineFault → Entry → Entry → Type 0
+abbrev pub SetsFields : Result Fields LineError → Entry → Entry → Type 0
 SetsFields read old new = IsOkAnd read (λ f. view new ≡ with_fields (λ _. f) (view old))
 
 -- the fault that is read, or out of memory
-abbrev pub IsFaultOf : {T : Type 0} → Result T LineFault → LineFault → Type 0
+abbrev pub IsFaultOf : {T : Type 0} → Result T LineError → LineError → Type 0
 IsFaultOf read e = (e ≡ OutOfMemory) ⊎ (read ≡ Err e)

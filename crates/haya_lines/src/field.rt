@@ -8,7 +8,7 @@ ghost use Rattle.haya_lines.specs.FieldTable.{role_of, setter, with_field, with_
 ghost use Rattle.haya_lines.specs.Line.{field_read, fields_read};
 ghost use Rattle.haya_lines.specs.LineReading.{IsFaultOf, SetsFields};
 
-use crate::fault::LineFault;
+use crate::error::LineError;
 use crate::items::Items;
 use haya_entry::{Entry, FieldName};
 use haya_people::{Person, PersonRole, PersonsWithRoles};
@@ -18,7 +18,7 @@ use std::alloc::{AllocError, Global};
 
 /// Sets the field of each item in turn, in the place of what was there. Where an item has a fault,
 /// those before it are set.
-pub fn read_fields(alloc: Global, entry: &mut Entry, items: Items) -> Result<(), LineFault>
+pub fn read_fields(alloc: Global, entry: &mut Entry, items: Items) -> Result<(), LineError>
     ensures ok { OnOk result (SetsFields
         (fields_read (fields (view entry.old)) items.entry) entry.old entry.new) }
     ensures fault { IfErr result (IsFaultOf
@@ -31,33 +31,33 @@ pub fn read_fields(alloc: Global, entry: &mut Entry, items: Items) -> Result<(),
 }
 
 // Sets the field of one item.
-fn read_field(alloc: Global, entry: &mut Entry, item: &str) -> Result<(), LineFault>
+fn read_field(alloc: Global, entry: &mut Entry, item: &str) -> Result<(), LineError>
     ensures ok { OnOk result (SetsFields
         (field_read (fields (view entry.old)) item.now) entry.old entry.new) }
     ensures fault { IfErr result (IsFaultOf (field_read (fields (view entry.old)) item.now)) }
 {
     match item.split_once('=') {
         Some((name, value)) => set_field(alloc, entry, name, value),
-        None => Err(LineFault::Shape),
+        None => Err(LineError::Shape),
     }
 }
 
 // Sets the field with this name to what the value reads as.
-fn set_field(alloc: Global, entry: &mut Entry, name: &str, value: &str) -> Result<(), LineFault>
+fn set_field(alloc: Global, entry: &mut Entry, name: &str, value: &str) -> Result<(), LineError>
     ensures ok { OnOk result (SetsFields
         (with_field name.now value.now (fields (view entry.old))) entry.old entry.new) }
     ensures fault { IfErr result
         (IsFaultOf (with_field name.now value.now (fields (view entry.old)))) }
 {
     let Ok(field) = name.parse::<FieldName>() else {
-        return Err(LineFault::UnknownField);
+        return Err(LineError::UnknownField);
     };
     set(alloc, entry, field, value)
 }
 
 // Sets a field to what the value reads as. Authors, editors and affiliated people are appended; any
 // other value takes the place of what was there.
-fn set(alloc: Global, entry: &mut Entry, field: FieldName, value: &str) -> Result<(), LineFault>
+fn set(alloc: Global, entry: &mut Entry, field: FieldName, value: &str) -> Result<(), LineError>
     ensures ok { OnOk result (SetsFields
         (setter field value.now (fields (view entry.old))) entry.old entry.new) }
     ensures fault { IfErr result (IsFaultOf (setter field value.now (fields (view entry.old)))) }
@@ -99,7 +99,7 @@ fn read_into<T: ReadText + Drop>(
     alloc: Global,
     field: &mut Option<T>,
     value: &str,
-) -> Result<(), LineFault>
+) -> Result<(), LineError>
     ensures ok { OnOk result (IsSomeAnd field.new (λ v. T.reads value.now ≡ Some (T.value v))) }
     ensures fault { IfErr result (IsFaultOf (ok_or_refused (T.reads value.now))) }
 {
@@ -108,34 +108,34 @@ fn read_into<T: ReadText + Drop>(
 }
 
 // What the value reads as, or why it isn't read.
-fn read_value<T: ReadText>(alloc: Global, value: &str) -> Result<T, LineFault>
+fn read_value<T: ReadText>(alloc: Global, value: &str) -> Result<T, LineError>
     ensures ok { IfOk result (λ v. T.reads value.now ≡ Some (T.value v)) }
     ensures fault { IfErr result (IsFaultOf (ok_or_refused (T.reads value.now))) }
 {
     match T::from_str(alloc, value) {
         Ok(read) => Ok(read),
-        Err(fault) if fault.is_out_of_memory() => Err(LineFault::OutOfMemory),
-        Err(_) => Err(LineFault::RefusedValue),
+        Err(fault) if fault.is_out_of_memory() => Err(LineError::OutOfMemory),
+        Err(_) => Err(LineError::RefusedValue),
     }
 }
 
 // The same of a date, which takes no memory.
-fn read_date(value: &str) -> Result<Date, LineFault>
+fn read_date(value: &str) -> Result<Date, LineError>
     ensures { result ≡ date_of value.now }
 {
     let Ok(date) = value.parse::<Date>() else {
-        return Err(LineFault::RefusedValue);
+        return Err(LineError::RefusedValue);
     };
     Ok(date)
 }
 
 // A role and one person, separated by the first colon.
-fn read_affiliated(alloc: Global, value: &str) -> Result<PersonsWithRoles, LineFault>
+fn read_affiliated(alloc: Global, value: &str) -> Result<PersonsWithRoles, LineError>
     ensures ok { IfOk result (λ v. affiliated_of value.now ≡ Ok (roles_view v)) }
     ensures fault { IfErr result (IsFaultOf (affiliated_of value.now)) }
 {
     let Some((role, person)) = value.split_once(':') else {
-        return Err(LineFault::Shape);
+        return Err(LineError::Shape);
     };
     let role = read_role(role)?;
     let person = read_value::<Person>(alloc, person)?;
@@ -143,18 +143,18 @@ fn read_affiliated(alloc: Global, value: &str) -> Result<PersonsWithRoles, LineF
 }
 
 // The role of this name.
-fn read_role(name: &str) -> Result<PersonRole, LineFault>
+fn read_role(name: &str) -> Result<PersonRole, LineError>
     ensures ok { IfOk result (λ role. role_of name.now ≡ Ok (role_view role)) }
     ensures fault { IfErr result (λ e. role_of name.now ≡ Err e) }
 {
     let Ok(role) = name.parse::<PersonRole>() else {
-        return Err(LineFault::RefusedValue);
+        return Err(LineError::RefusedValue);
     };
     Ok(role)
 }
 
 // One more author.
-fn add_author(alloc: Global, entry: &mut Entry, value: &str) -> Result<(), LineFault>
+fn add_author(alloc: Global, entry: &mut Entry, value: &str) -> Result<(), LineError>
     ensures ok { OnOk result (SetsFields
         (setter field.Author value.now (fields (view entry.old))) entry.old entry.new) }
     ensures fault { IfErr result (IsFaultOf (person_of value.now)) }
@@ -164,7 +164,7 @@ fn add_author(alloc: Global, entry: &mut Entry, value: &str) -> Result<(), LineF
 }
 
 // One more editor.
-fn add_editor(alloc: Global, entry: &mut Entry, value: &str) -> Result<(), LineFault>
+fn add_editor(alloc: Global, entry: &mut Entry, value: &str) -> Result<(), LineError>
     ensures ok { OnOk result (SetsFields
         (setter field.Editor value.now (fields (view entry.old))) entry.old entry.new) }
     ensures fault { IfErr result (IsFaultOf (person_of value.now)) }
@@ -174,7 +174,7 @@ fn add_editor(alloc: Global, entry: &mut Entry, value: &str) -> Result<(), LineF
 }
 
 // One more person with a role.
-fn add_affiliated(alloc: Global, entry: &mut Entry, value: &str) -> Result<(), LineFault>
+fn add_affiliated(alloc: Global, entry: &mut Entry, value: &str) -> Result<(), LineError>
     ensures ok { OnOk result (SetsFields
         (setter field.Affiliated value.now (fields (view entry.old))) entry.old entry.new) }
     ensures fault { IfErr result (IsFaultOf (affiliated_of value.now)) }
@@ -184,7 +184,7 @@ fn add_affiliated(alloc: Global, entry: &mut Entry, value: &str) -> Result<(), L
 }
 
 // Sets the date.
-fn set_date(entry: &mut Entry, value: &str) -> Result<(), LineFault>
+fn set_date(entry: &mut Entry, value: &str) -> Result<(), LineError>
     ensures ok { OnOk result (SetsFields
         (setter field.Date value.now (fields (view entry.old))) entry.old entry.new) }
     ensures fault { IfErr result (IsFaultOf (date_of value.now)) }
@@ -194,10 +194,10 @@ fn set_date(entry: &mut Entry, value: &str) -> Result<(), LineFault>
 }
 
 // Sets the language.
-fn set_language(alloc: Global, entry: &mut Entry, value: &str) -> Result<(), LineFault>
+fn set_language(alloc: Global, entry: &mut Entry, value: &str) -> Result<(), LineError>
     ensures ok { OnOk result (SetsFields
         (setter field.Language value.now (fields (view entry.old))) entry.old entry.new) }
-    ensures fault { IfErr result (λ e. e ≡ LineFault.OutOfMemory) }
+    ensures fault { IfErr result (λ e. e ≡ LineError.OutOfMemory) }
 {
     entry.language = Some(String::from_str(alloc, value)?);
     Ok(())
@@ -213,9 +213,9 @@ fn append<T: Drop>(alloc: Global, list: &mut Option<Vec<T>>, item: T) -> Result<
 }
 
 // Keeps the serial number under this key.
-fn set_number(alloc: Global, entry: &mut Entry, key: &str, value: &str) -> Result<(), LineFault>
+fn set_number(alloc: Global, entry: &mut Entry, key: &str, value: &str) -> Result<(), LineError>
     ensures ok { OnOk result (Sets entry.old entry.new (with_number key.now value.now)) }
-    ensures fault { IfErr result (λ e. e ≡ LineFault.OutOfMemory) }
+    ensures fault { IfErr result (λ e. e ≡ LineError.OutOfMemory) }
 {
     entry.set_keyed_serial_number(key, String::from_str(alloc, value)?)?;
     Ok(())

@@ -7,13 +7,13 @@
 //! ```
 #![tactic(auto)]
 
-mod fault;
+mod error;
 mod field;
 mod items;
 pub mod laws;
 mod line;
 
-pub use fault::LineFault;
+pub use error::LineError;
 pub use field::read_fields;
 pub use items::{Items, split_line};
 pub use line::{Head, read_head, read_line};

@@ -6,7 +6,7 @@ ghost use Rattle.haya_lines.specs.Items.{items};
 ghost use Rattle.haya_lines.specs.Line.{depth_read, row_read};
 ghost use Rattle.haya_lines.specs.LineReading.{IsFaultOf, IsHead, IsRow};
 
-use crate::fault::LineFault;
+use crate::error::LineError;
 use crate::field::read_fields;
 use crate::items::{Items, split_line};
 use haya_entry::{Entry, EntryType};
@@ -33,7 +33,7 @@ pub struct Head<'a> {
 /// ```
 /// let (depth, entry) = read_line(alloc, "0\tx\tbook\tdoi=10.1/x\tauthor=Doe, Jane", 0)?;
 /// ```
-pub fn read_line(alloc: Global, line: &str, deepest: usize) -> Result<(usize, Entry), LineFault>
+pub fn read_line(alloc: Global, line: &str, deepest: usize) -> Result<(usize, Entry), LineError>
     ensures row { IfOk result (IsRow (row_read deepest (items line.now))) }
     ensures fault { IfErr result (IsFaultOf (row_read deepest (items line.now))) }
 {
@@ -46,18 +46,18 @@ pub fn read_line(alloc: Global, line: &str, deepest: usize) -> Result<(usize, En
 
 /// Takes the head of a line, of which these are the items: what is left are its fields. Fails with
 /// the first fault in it.
-pub fn read_head<'a>(items: &mut Items<'a>, deepest: usize) -> Result<Head<'a>, LineFault>
+pub fn read_head<'a>(items: &mut Items<'a>, deepest: usize) -> Result<Head<'a>, LineError>
     ensures head { IfOk result (IsHead deepest items.old items.new) }
     ensures fault { IfErr result (λ e. row_read deepest items.old ≡ Err e) }
 {
     let Some((depth, key, kind)) = take_three(items) else {
-        return Err(LineFault::Shape);
+        return Err(LineError::Shape);
     };
     let Some(depth) = depth_of(depth, deepest) else {
-        return Err(LineFault::Depth);
+        return Err(LineError::Depth);
     };
     let Ok(kind) = kind.parse::<EntryType>() else {
-        return Err(LineFault::UnknownType);
+        return Err(LineError::UnknownType);
     };
     Ok(Head { depth, key, kind })
 }

@@ -10,8 +10,8 @@ use Rattle.haya_elements.specs.declared.place.Brackets.{Brackets}
 use Rattle.haya_elements.specs.declared.place.Place.{Place}
 use Rattle.haya_list.specs.Lent.{known_while}
 use Rattle.haya_list.specs.Listed.{AnswersEnough, AnswersList, AnswersPart}
-use Rattle.haya_list.specs.declared.fault.ListRefusal.{ListRefusal}
-use Rattle.haya_stream.specs.declared.fault.StreamFault.{StreamFault}
+use Rattle.haya_list.specs.declared.error.ListError.{ListError}
+use Rattle.haya_stream.specs.declared.error.StreamError.{StreamError}
 
 -- ---- a reader that is lent
 
@@ -54,11 +54,11 @@ module _ {X : Type 0} (name : X → ℕ) (loan : ℕ) (remaining : X → Option 
           → AnswersEnough BeginsList answers is_done s t (Some text) (lines_remaining remaining new) before after
       enough_of_reader {BeginsList} {t} a = of_reader (λ unread rest. AnswersEnough BeginsList answers is_done s t unread rest before after) a.text a.read a
 
-      pub part_of_reader : {BeginsList : Option (List ℕ) → List ℕ → List Tree → Type 0} {L E : Type 0} {IsFault : List ℕ → L → Type 0} {refuses : S → Tree → E → Type 0} {fault : StreamFault (ListRefusal L E)}
-          → AnswersPart BeginsList IsFault answers is_done refuses s (lent_lines old) (lent_lines new) before after fault
-          → AnswersPart BeginsList IsFault answers is_done refuses s (Some text) (lines_remaining remaining new) before after fault
-      part_of_reader {BeginsList} {IsFault} {refuses} {fault} a =
-          of_reader (λ unread rest. AnswersPart BeginsList IsFault answers is_done refuses s unread rest before after fault) a.text a.read a
+      pub part_of_reader : {BeginsList : Option (List ℕ) → List ℕ → List Tree → Type 0} {L E : Type 0} {IsFault : List ℕ → L → Type 0} {refuses : S → Tree → E → Type 0} {Leaves : List ℕ → List Tree → StreamError (ListError L E) → Type 0} {t : S} {fault : StreamError (ListError L E)}
+          → AnswersPart BeginsList IsFault Leaves answers is_done refuses s t (lent_lines old) (lent_lines new) before after fault
+          → AnswersPart BeginsList IsFault Leaves answers is_done refuses s t (Some text) (lines_remaining remaining new) before after fault
+      part_of_reader {BeginsList} {IsFault} {refuses} {Leaves} {t} {fault} a =
+          of_reader (λ unread rest. AnswersPart BeginsList IsFault Leaves answers is_done refuses s t unread rest before after fault) a.text a.read a
 
 -- ---- all elements
 

@@ -8,13 +8,15 @@ use Rattle.haya_elements.proofs.NonemptyLines.{nonempty_lines-append}
 use Rattle.haya_stream.proofs.Taken.{folds_on}
 use Rattle.haya_stream.specs.Answered as stream
 use Rattle.haya_stream.specs.Streamed as streamed
-use Rattle.haya_stream.specs.declared.fault.StreamFault.{StreamFault}
+use Rattle.haya_stream.specs.Turns.{turns_in}
+use Rattle.haya_stream.specs.declared.error.StreamError.{StreamError}
+use Rattle.haya_stream.specs.declared.error.StreamError.TheVariants.{CannotRead, CannotWrite, NotText, OutOfMemory, Refused}
 use Rattle.haya_list.specs.Listed.{AnswersEnough, AnswersList, AnswersPart}
-use Rattle.haya_list.specs.EntryLines.{AnswersTurn, IsFaultOf, ReadsFirst, ReadsLines, RefusesTurn}
-use Rattle.haya_list.specs.declared.fault.EntryFault.{EntryFault}
-use Rattle.haya_list.specs.declared.fault.EntryFault.TheVariants as fault
-use Rattle.haya_list.specs.declared.fault.ListRefusal.{ListRefusal}
-use Rattle.haya_list.specs.declared.fault.ListRefusal.TheVariants.{Line}
+use Rattle.haya_list.specs.EntryLines.{AnswersTurn, IsFaultOf, LeavesNext, LeavesReader, ReadsFirst, ReadsLines, RefusesTurn}
+use Rattle.haya_list.specs.declared.error.EntryError.{EntryError}
+use Rattle.haya_list.specs.declared.error.EntryError.TheVariants as fault
+use Rattle.haya_list.specs.declared.error.ListError.{ListError}
+use Rattle.haya_list.specs.declared.error.ListError.TheVariants.{Entry, Line}
 use Rattle.haya_list.proofs.Inputs.{list_all, list_enough, list_part}
 use Rattle.haya_list.proofs.Lists.{Replied, no_reply, one_reply}
 
@@ -31,7 +33,8 @@ module _ {R : Type 0} (says : R → List ℕ → Tree → R → Type 0) (before 
     run = so_far.run;
   }
 
-  reads_one : (length line == 0) ≡ false → (entry : Tree) (q : R) → says r line entry q → ReadsLines says (before ++ line ∷ []) (given ++ entry ∷ []) r0 q
+  -- one line more
+  pub reads_one : (length line == 0) ≡ false → (entry : Tree) (q : R) → says r line entry q → ReadsLines says (before ++ line ∷ []) (given ++ entry ∷ []) r0 q
   reads_one some entry q read = record {
     parts = so_far.parts ++ (line, entry) ∷ [];
     of_lines =
@@ -103,14 +106,14 @@ module _ {S A R : Type 0} (number : S → ℕ) (reader : S → R) (state : S →
           list_enough state answers is_done Turn Taken Whole at_line at_end s (none_taken s zero same) t unread left before after
           (λ _ text given. ReadsFirst says text given r0 (reader t)) (λ text first more given. begins text first more given t) (λ text given at_end. ends text given t)
 
-    module _ {L E : Type 0} (refuses_line : R → List ℕ → L → Type 0) (refuses : A → Tree → E → Type 0) where
-      abbrev Refuses : S → Option (List ℕ) → ListRefusal (EntryFault L) E → Type 0
-      Refuses u turn e = RefusesTurn refuses_line refuses (number u + 1) (reader u) (state u) turn e
+    module _ {L E : Type 0} (refuses_line : R → List ℕ → L → Type 0) (leaves : R → List ℕ → L → R → Type 0) (refuses : A → Tree → E → Type 0) (v : S) where
+      abbrev Refuses : S → Option (List ℕ) → ListError (EntryError L) E → S → Type 0
+      Refuses u turn e w = RefusesTurn says refuses_line leaves refuses (number u + 1) (reader u) (state u) turn e (reader w) (state w)
 
-      line_fault : (text : List ℕ) (first : List (List ℕ)) (line : List ℕ) (more : List (List ℕ)) (given : List Tree) (t : S) (e : EntryFault L) → lines text ≡ first ++ line ∷ more
-          → Taken first given t → Refuses t (Some line) (Line e) → IsFaultOf says refuses_line r0 text e
+      line_fault : (text : List ℕ) (first : List (List ℕ)) (line : List ℕ) (more : List (List ℕ)) (given : List Tree) (t : S) (e : EntryError L) → lines text ≡ first ++ line ∷ more
+          → Taken first given t → Refuses t (Some line) (Line e) v → IsFaultOf says refuses_line r0 text e
       line_fault text first line more given t fault.TooMany parts taken why =
-          rw (parts, length-append first (line ∷ more)) (let count = taken.count in omega arith)
+          rw (parts, length-append first (line ∷ more)) (let count = taken.count in let at = why.0 in omega arith)
       line_fault text first line more given t (fault.Line at e) parts taken why = record {
         first = first;
         line = line;
@@ -119,17 +122,52 @@ module _ {S A R : Type 0} (number : S → ℕ) (reader : S → R) (state : S →
         after = reader t;
         parts = parts;
         reads = taken.reads;
-        count = why.count ∙ ap (λ n. n + 1) taken.count;
-        some = why.some;
-        why = why.why;
+        count = why.0.count ∙ ap (λ n. n + 1) taken.count;
+        some = why.0.some;
+        why = why.0.why;
       }
 
-      end_fault : (text : List ℕ) (t : S) (e : EntryFault L) → Refuses t None (Line e) → IsFaultOf says refuses_line r0 text e
-      end_fault text t e why = absurd why
+      end_fault : (text : List ℕ) (t : S) (e : EntryError L) → Refuses t None (Line e) v → IsFaultOf says refuses_line r0 text e
+      end_fault text t e why = absurd why.0
 
-      pub entries_part : (unread left before after : Option (List ℕ)) (fault : StreamFault (ListRefusal (EntryFault L) E)) → streamed.AnswersPart Asks Refuses s unread left before after fault
-          → AnswersPart (λ _ text given. (q : R) × ReadsFirst says text given r0 q) (IsFaultOf says refuses_line r0) answers is_done refuses (state s) unread left before after fault
+      entry_refused : (turn : Option (List ℕ)) (t : S) (e : E) → Refuses t turn (Entry e) v → (entry : Tree) × refuses (state t) entry e
+      entry_refused None t e why = absurd why
+      entry_refused (Some line) t e why = (why.1, why.3)
+
+      -- how the reader is left in front of the lines whose turns come later
+      next_left : (more : List (List ℕ)) (t : S) (unwritten : List ℕ) (fault : StreamError (ListError (EntryError L) E)) → streamed.Why Refuses t (turns_in more) unwritten v fault
+          → LeavesNext says leaves (reader t) more (reader v) fault
+      next_left more t unwritten (CannotRead e) why = ap reader why.2
+      next_left more t unwritten (CannotWrite e) why = tt
+      next_left more t unwritten OutOfMemory why = tt
+      next_left [] t unwritten NotText why = ap reader why.0.1
+      next_left (line ∷ more) t unwritten NotText why = ap reader why.0.1
+      next_left [] t unwritten (Refused (Line e)) why = absurd why.0.0
+      next_left (line ∷ more) t unwritten (Refused (Line (fault.Line at e))) why = why.0.1
+      next_left (line ∷ more) t unwritten (Refused (Line fault.TooMany)) why = why.0.1
+      next_left [] t unwritten (Refused (Entry e)) why = absurd why.0
+      next_left (line ∷ more) t unwritten (Refused (Entry e)) why = (why.0.0, why.0.1, why.0.2)
+
+      left_begun : (text : List ℕ) (first more : List (List ℕ)) (given : List Tree) (t : S) (unwritten : List ℕ) (fault : StreamError (ListError (EntryError L) E)) → lines text ≡ first ++ more
+          → Taken first given t → streamed.Why Refuses t (turns_in more) unwritten v fault → LeavesReader says leaves r0 (reader v) text given fault
+      left_begun text first more given t unwritten fault parts taken why =
+          record { first = first; more = more; after = reader t; parts = parts; reads = taken.reads; next = next_left more t unwritten fault why }
+
+      none_left : (t : S) (unwritten : List ℕ) (fault : StreamError (ListError (EntryError L) E)) → streamed.Why Refuses t [] unwritten v fault → LeavesNext says leaves (reader t) [] (reader v) fault
+      none_left t unwritten (CannotRead e) why = ap reader why.2
+      none_left t unwritten (CannotWrite e) why = tt
+      none_left t unwritten OutOfMemory why = tt
+      none_left t unwritten NotText why = absurd why.0
+      none_left t unwritten (Refused e) why = absurd why.0
+
+      left_ended : (text : List ℕ) (given : List Tree) (t : S) (unwritten : List ℕ) (fault : StreamError (ListError (EntryError L) E)) → Whole (lines text) given t
+          → streamed.Why Refuses t [] unwritten v fault → LeavesReader says leaves r0 (reader v) text given fault
+      left_ended text given t unwritten fault whole why =
+          record { first = lines text; more = []; after = reader t; parts = sym (append-nil (lines text)); reads = whole; next = none_left t unwritten fault why }
+
+      pub entries_part : (unread left before after : Option (List ℕ)) (fault : StreamError (ListError (EntryError L) E)) → streamed.AnswersPart Asks Refuses s v unread left before after fault
+          → AnswersPart (λ _ text given. (q : R) × ReadsFirst says text given r0 q) (IsFaultOf says refuses_line r0) (LeavesReader says leaves r0 (reader v)) answers is_done refuses (state s) (state v) unread left before after fault
       entries_part =
           list_part state answers is_done Turn Taken Whole at_line at_end s (none_taken s zero same) (λ _ text given. (q : R) × ReadsFirst says text given r0 q)
           (λ left text first more given t parts taken. (reader t, begins text first more given t parts taken)) (λ left text given t at_end whole. (reader t, ends text given t whole))
-          (IsFaultOf says refuses_line r0) refuses Refuses line_fault end_fault (λ turn t e why. why)
+          (IsFaultOf says refuses_line r0) refuses Refuses v line_fault end_fault entry_refused (λ turn t e why. why.2) (LeavesReader says leaves r0 (reader v)) left_begun left_ended

@@ -8,12 +8,12 @@ use Rattle.hayagriva.specs.Tree.{Tree}
 use Rattle.haya_stream.specs.Answered as stream
 use Rattle.haya_stream.specs.Streamed as streamed
 use Rattle.haya_stream.specs.Turns.{turns_in}
-use Rattle.haya_stream.specs.declared.fault.StreamFault.{StreamFault}
-use Rattle.haya_stream.specs.declared.fault.StreamFault.TheVariants.{CannotRead, CannotWrite, NotText, OutOfMemory, Refused}
+use Rattle.haya_stream.specs.declared.error.StreamError.{StreamError}
+use Rattle.haya_stream.specs.declared.error.StreamError.TheVariants.{CannotRead, CannotWrite, NotText, OutOfMemory, Refused}
 use Rattle.haya_stream.proofs.Ended.{enough_ended, part_ended}
-use Rattle.haya_list.specs.Listed.{AnswersEnough, AnswersList, AnswersPart, Why, entries_of}
-use Rattle.haya_list.specs.declared.fault.ListRefusal.{ListRefusal}
-use Rattle.haya_list.specs.declared.fault.ListRefusal.TheVariants.{Line, Entry}
+use Rattle.haya_list.specs.Listed.{AnswersEnough, AnswersList, AnswersPart, IsLeftAs, Why, entries_of}
+use Rattle.haya_list.specs.declared.error.ListError.{ListError}
+use Rattle.haya_list.specs.declared.error.ListError.TheVariants.{Line, Entry}
 use Rattle.haya_list.proofs.Lists.{Asked, Reaches, Replied, go}
 
 some_between : {X : Type 0} (P : X → Type 0) (xs : List X) (y : X) (ys : List X) → P y → Any P (xs ++ y ∷ ys)
@@ -95,12 +95,18 @@ module _ {S A : Type 0} (state : S → A) (answers : A → Tree → List ℕ →
   module _ {L E : Type 0} (BeginsList : Option (List ℕ) → List ℕ → List Tree → Type 0)
       (begins : (left : Option (List ℕ)) (text : List ℕ) (first more : List (List ℕ)) (given : List Tree) (t : S) → lines text ≡ first ++ more → Taken first given t → BeginsList left text given)
       (ends : (left : Option (List ℕ)) (text : List ℕ) (given : List Tree) (t : S) → IsAtEnd left → Whole (lines text) given t → BeginsList left text given)
-      (IsFault : List ℕ → L → Type 0) (refuses : A → Tree → E → Type 0) (Refuses : S → Option (List ℕ) → ListRefusal L E → Type 0)
+      (IsFault : List ℕ → L → Type 0) (refuses : A → Tree → E → Type 0) (Refuses : S → Option (List ℕ) → ListError L E → S → Type 0) (v : S)
       (line_fault : (text : List ℕ) (first : List (List ℕ)) (line : List ℕ) (more : List (List ℕ)) (given : List Tree) (t : S) (e : L) → lines text ≡ first ++ line ∷ more → Taken first given t
-      → Refuses t (Some line) (Line e) → IsFault text e)
-      (end_fault : (text : List ℕ) (t : S) (e : L) → Refuses t None (Line e) → IsFault text e)
-      (entry_refused : (turn : Option (List ℕ)) (t : S) (e : E) → Refuses t turn (Entry e) → (entry : Tree) × refuses (state t) entry e) where
-    abbrev WhyIn : S → List ℕ → List ℕ → StreamFault (ListRefusal L E) → Type 0
+      → Refuses t (Some line) (Line e) v → IsFault text e)
+      (end_fault : (text : List ℕ) (t : S) (e : L) → Refuses t None (Line e) v → IsFault text e)
+      (entry_refused : (turn : Option (List ℕ)) (t : S) (e : E) → Refuses t turn (Entry e) v → (entry : Tree) × refuses (state t) entry e)
+      (same_answerer : (turn : Option (List ℕ)) (t : S) (e : L) → Refuses t turn (Line e) v → state v ≡ state t)
+      (Leaves : List ℕ → List Tree → StreamError (ListError L E) → Type 0)
+      (leaves_begun : (text : List ℕ) (first more : List (List ℕ)) (given : List Tree) (t : S) (unwritten : List ℕ) (fault : StreamError (ListError L E)) → lines text ≡ first ++ more → Taken first given t
+      → streamed.Why Refuses t (turns_in more) unwritten v fault → Leaves text given fault)
+      (leaves_ended : (text : List ℕ) (given : List Tree) (t : S) (unwritten : List ℕ) (fault : StreamError (ListError L E)) → Whole (lines text) given t
+      → streamed.Why Refuses t [] unwritten v fault → Leaves text given fault) where
+    abbrev WhyIn : S → List ℕ → List ℕ → StreamError (ListError L E) → Type 0
     WhyIn t text unwritten fault = Why IsFault (λ e. (entry : Tree) × refuses (state t) entry e) text unwritten fault
 
     begun : (left : Option (List ℕ)) (text : List ℕ) (later : List (Option (List ℕ))) (given : List Tree) (t : S) → (later ≡ [] → IsAtEnd left) → Reached text later given t → BeginsList left text given
@@ -116,28 +122,43 @@ module _ {S A : Type 0} (state : S → A) (answers : A → Tree → List ℕ →
         let next = next_line line later b.more b.left in
         rw (b.parts, next.is) (some_between (λ line. ¬ IsUtf8 line) b.first line next.rest why)
 
-    line_refused : (text : List ℕ) (turn : Option (List ℕ)) (later : List (Option (List ℕ))) (given : List Tree) (t : S) (e : L) → Reached text (turn ∷ later) given t → Refuses t turn (Line e) → IsFault text e
+    line_refused : (text : List ℕ) (turn : Option (List ℕ)) (later : List (Option (List ℕ))) (given : List Tree) (t : S) (e : L) → Reached text (turn ∷ later) given t → Refuses t turn (Line e) v → IsFault text e
     line_refused text turn later given t e (inr end) why = absurd (let none = end.left in cc)
     line_refused text None later given t e (inl b) why = end_fault text t e why
     line_refused text (Some line) later given t e (inl b) why =
         let next = next_line line later b.more b.left in
         line_fault text b.first line next.rest given t e (b.parts ∙ ap (λ l. b.first ++ l) next.is) b.taken why
 
-    why_part : (text : List ℕ) (later : List (Option (List ℕ))) (t : S) (given : List Tree) (unwritten : List ℕ) (fault : StreamFault (ListRefusal L E)) → Reached text later given t
-        → streamed.Why Refuses t later unwritten fault → WhyIn t text unwritten fault
+    why_part : (text : List ℕ) (later : List (Option (List ℕ))) (t : S) (given : List Tree) (unwritten : List ℕ) (fault : StreamError (ListError L E)) → Reached text later given t
+        → streamed.Why Refuses t later unwritten v fault → WhyIn t text unwritten fault
     why_part text later t given unwritten (CannotWrite e) reached why = tt
     why_part text later t given unwritten (CannotRead e) reached why = why.1
     why_part text later t given unwritten OutOfMemory reached why = why
     why_part text [] t given unwritten NotText reached why = absurd why.0
     why_part text [] t given unwritten (Refused e) reached why = absurd why.0
-    why_part text (turn ∷ later) t given unwritten NotText reached why = (not_text text turn later given t reached why.0, why.1)
+    why_part text (turn ∷ later) t given unwritten NotText reached why = (not_text text turn later given t reached why.0.0, why.1)
     why_part text (turn ∷ later) t given unwritten (Refused (Entry e)) reached why = (entry_refused turn t e why.0, why.1)
     why_part text (turn ∷ later) t given unwritten (Refused (Line e)) reached why = (line_refused text turn later given t e reached why.0, why.1)
 
-    pub list_part : (unread left before after : Option (List ℕ)) (fault : StreamFault (ListRefusal L E)) → streamed.AnswersPart Asks Refuses s unread left before after fault
-        → AnswersPart BeginsList IsFault answers is_done refuses (state s) unread left before after fault
+    kept : (later : List (Option (List ℕ))) (t : S) (unwritten : List ℕ) (fault : StreamError (ListError L E)) → streamed.Why Refuses t later unwritten v fault → IsLeftAs (state t) (state v) fault
+    kept later t unwritten (CannotWrite e) why = tt
+    kept later t unwritten (CannotRead e) why = ap state why.2
+    kept later t unwritten OutOfMemory why = tt
+    kept [] t unwritten NotText why = absurd why.0
+    kept [] t unwritten (Refused e) why = absurd why.0
+    kept (turn ∷ later) t unwritten NotText why = ap state why.0.1
+    kept (turn ∷ later) t unwritten (Refused (Entry e)) why = tt
+    kept (turn ∷ later) t unwritten (Refused (Line e)) why = same_answerer turn t e why.0
+
+    left_so : (text : List ℕ) (later : List (Option (List ℕ))) (given : List Tree) (t : S) (unwritten : List ℕ) (fault : StreamError (ListError L E)) → Reached text later given t
+        → streamed.Why Refuses t later unwritten v fault → Leaves text given fault
+    left_so text later given t unwritten fault (inl b) why = leaves_begun text b.first b.more given t unwritten fault b.parts b.taken (rw b.left at why)
+    left_so text later given t unwritten fault (inr e) why = leaves_ended text given t unwritten fault e.whole (rw e.left at why)
+
+    pub list_part : (unread left before after : Option (List ℕ)) (fault : StreamError (ListError L E)) → streamed.AnswersPart Asks Refuses s v unread left before after fault
+        → AnswersPart BeginsList IsFault Leaves answers is_done refuses (state s) (state v) unread left before after fault
     list_part unread left before after fault a =
-        let p = part_ended Asks Refuses s unread left before after fault a in
+        let p = part_ended Asks Refuses v s unread left before after fault a in
         let w = p.2 in
         let r = replied p.0 w.later w.last (w.written ++ w.unwritten) w.first in
         record {
@@ -153,5 +174,7 @@ module _ {S A : Type 0} (state : S → A) (answers : A → Tree → List ℕ →
           run = r.run;
           parts = sym r.prints;
           why = why_part p.0 w.later w.last (entries_of r.replies) w.unwritten fault r.holds w.why;
+          answerer = kept w.later w.last w.unwritten fault w.why;
+          leaves = left_so p.0 w.later (entries_of r.replies) w.last w.unwritten fault r.holds w.why;
           prints = w.prints;
         }

@@ -7,15 +7,15 @@ use Rattle.hayagriva.specs.Tree.{Tree, trees}
 use Rattle.haya_input.specs.Chain as chain
 use Rattle.haya_input.specs.Input.{rows_of_all, rows_read}
 use Rattle.haya_input.specs.Opened.{Opened}
-use Rattle.haya_input.specs.declared.fault.InputFault.{InputFault}
+use Rattle.haya_input.specs.declared.error.InputError.{InputError}
 use Rattle.haya_input.proofs.Takings.{Taken-end, Taken-fault, Taken-line, Taken-start}
 use Rattle.haya_stream.specs.Answered as stream
 use Rattle.haya_stream.specs.Streamed as streamed
-use Rattle.haya_stream.specs.declared.fault.StreamFault.{StreamFault}
+use Rattle.haya_stream.specs.declared.error.StreamError.{StreamError}
 use Rattle.haya_list.specs.Listed.{AnswersEnough, AnswersList, AnswersPart}
 use Rattle.haya_list.specs.Lines.{AnswersClosed, AnswersTurn, BeginsList, IsFaultOf, IsListOf, RefusesTurn}
-use Rattle.haya_list.specs.declared.fault.ListRefusal.{ListRefusal}
-use Rattle.haya_list.specs.declared.fault.ListRefusal.TheVariants.{Line}
+use Rattle.haya_list.specs.declared.error.ListError.{ListError}
+use Rattle.haya_list.specs.declared.error.ListError.TheVariants.{Line}
 use Rattle.haya_list.proofs.Inputs.{list_all, list_enough, list_part}
 use Rattle.haya_list.proofs.Lists.{Replied, no_reply, one_reply}
 
@@ -77,16 +77,17 @@ module _ {S A : Type 0} (number : S → ℕ) (opened : S → Opened) (state : S 
           (λ text first more given. begins left text first more given t) (λ text given. ends left text given t)
 
     module _ {E : Type 0} (refuses : A → Tree → E → Type 0) where
-      abbrev Refuses : S → Option (List ℕ) → ListRefusal InputFault E → Type 0
-      Refuses u turn e = RefusesTurn refuses (number u + 1) (opened u).chain (state u) turn e
+      abbrev Refuses : S → Option (List ℕ) → ListError InputError E → S → Type 0
+      Refuses u turn e v = RefusesTurn refuses (number u + 1) (opened u).chain (state u) turn e (state v)
 
-      line_fault : (text : List ℕ) (first : List (List ℕ)) (line : List ℕ) (more : List (List ℕ)) (given : List Tree) (t : S) (e : InputFault) → lines text ≡ first ++ line ∷ more → Taken first given t
-          → Refuses t (Some line) (Line e) → IsFaultOf text e
-      line_fault text first line more given t e parts taken why =
-          rw parts (Taken-fault first given (opened t).chain taken.taken line more e (rw (← taken.count) why))
+      line_fault : (v : S) (text : List ℕ) (first : List (List ℕ)) (line : List ℕ) (more : List (List ℕ)) (given : List Tree) (t : S) (e : InputError) → lines text ≡ first ++ line ∷ more → Taken first given t
+          → Refuses t (Some line) (Line e) v → IsFaultOf text e
+      line_fault v text first line more given t e parts taken why =
+          rw parts (Taken-fault first given (opened t).chain taken.taken line more e (rw (← taken.count) why.0))
 
-      pub lines_part : (unread left before after : Option (List ℕ)) (fault : StreamFault (ListRefusal InputFault E)) → streamed.AnswersPart Asks Refuses s unread left before after fault
-          → AnswersPart BeginsList IsFaultOf answers is_done refuses (state s) unread left before after fault
-      lines_part =
-          list_part state answers is_done Turn Taken Whole at_line at_end s (none_taken s zero none) BeginsList begins ends IsFaultOf refuses Refuses line_fault
-          (λ text t e why. inl why) (λ turn t e why. (why.entry, why.refused))
+      pub lines_part : (v : S) (unread left before after : Option (List ℕ)) (fault : StreamError (ListError InputError E)) → streamed.AnswersPart Asks Refuses s v unread left before after fault
+          → AnswersPart BeginsList IsFaultOf (λ _ _ _. Unit {0}) answers is_done refuses (state s) (state v) unread left before after fault
+      lines_part v =
+          list_part state answers is_done Turn Taken Whole at_line at_end s (none_taken s zero none) BeginsList begins ends IsFaultOf refuses Refuses v (line_fault v)
+          (λ text t e why. inl why.0) (λ turn t e why. (why.entry, why.refused)) (λ turn t e why. why.1) (λ _ _ _. Unit {0})
+          (λ text first more given t unwritten fault parts taken why. tt) (λ text given t unwritten fault whole why. tt)

@@ -7,10 +7,10 @@ use Rattle.haya_input.specs.Chain.{LastOf, Taken, TakesLine}
 use Rattle.haya_input.specs.Input.{rows_of_all, rows_read}
 use Rattle.haya_input.specs.Opened.{Opened}
 use Rattle.haya_input.specs.TextReading.{FaultInLine, FaultInText}
-use Rattle.haya_input.specs.declared.fault.InputFault.{InputFault}
-use Rattle.haya_input.specs.declared.fault.InputFault.TheVariants.{OutOfMemory}
-use Rattle.haya_list.specs.declared.fault.ListRefusal.{ListRefusal}
-use Rattle.haya_list.specs.declared.fault.ListRefusal.TheVariants.{Line, Entry}
+use Rattle.haya_input.specs.declared.error.InputError.{InputError}
+use Rattle.haya_input.specs.declared.error.InputError.TheVariants.{OutOfMemory}
+use Rattle.haya_list.specs.declared.error.ListError.{ListError}
+use Rattle.haya_list.specs.declared.error.ListError.TheVariants.{Line, Entry}
 
 -- the entries that a text in lines lists, in order, repeated keys and all: its rows are theirs
 abbrev pub IsListOf : List ℕ → List Tree → Type 0
@@ -31,7 +31,7 @@ BeginsList left text entries =
     ClosesFirst text entries ⊎ (IsAtEnd left × IsListOf text entries)
 
 -- the fault of the first line that has one, or out of memory
-abbrev pub IsFaultOf : List ℕ → InputFault → Type 0
+abbrev pub IsFaultOf : List ℕ → InputError → Type 0
 IsFaultOf text e = FaultInText (rows_read 1 0 (lines text)) e
 
 -- ---- a turn of one who reads lines
@@ -54,7 +54,7 @@ pub record AnswersTurn {S : Type 0} (answers : S → Tree → List ℕ → S →
   pub closed : AnswersClosed answers s now.closed printed t
 
 -- a line has a fault; the end has none
-abbrev pub FaultInTurn : ℕ → List Tree → Option (List ℕ) → InputFault → Type 0
+abbrev pub FaultInTurn : ℕ → List Tree → Option (List ℕ) → InputError → Type 0
 FaultInTurn number chain (Some line) e = FaultInLine number (length chain) line e
 FaultInTurn number chain None e = e ≡ OutOfMemory
 
@@ -67,7 +67,8 @@ pub record RefusesClosed {S E : Type 0} (refuses : S → Tree → E → Type 0) 
   pub closed : now.closed ≡ Some entry
   pub refused : refuses s entry e
 
+-- why a turn isn't answered, and the answerer that this leaves
 abbrev pub RefusesTurn : {S E : Type 0} → (S → Tree → E → Type 0) → ℕ → List Tree → S
-    → Option (List ℕ) → ListRefusal InputFault E → Type 0
-RefusesTurn refuses number chain s turn (Line e) = FaultInTurn number chain turn e
-RefusesTurn refuses number chain s turn (Entry e) = RefusesClosed refuses chain s turn e
+    → Option (List ℕ) → ListError InputError E → S → Type 0
+RefusesTurn refuses number chain s turn (Line e) t = FaultInTurn number chain turn e × (t ≡ s)
+RefusesTurn refuses number chain s turn (Entry e) t = RefusesClosed refuses chain s turn e

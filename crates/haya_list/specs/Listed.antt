@@ -6,10 +6,10 @@ use Rattle.std.specs.Str.{IsUtf8}
 use Rattle.std.specs.Str.Lines.{lines}
 use Rattle.hayagriva.specs.Tree.{Tree}
 use Rattle.haya_stream.specs.Streamed.{IsEndedPart}
-use Rattle.haya_stream.specs.declared.fault.StreamFault.{StreamFault}
-use Rattle.haya_stream.specs.declared.fault.StreamFault.TheVariants.{CannotRead, CannotWrite, NotText, OutOfMemory, Refused}
-use Rattle.haya_list.specs.declared.fault.ListRefusal.{ListRefusal}
-use Rattle.haya_list.specs.declared.fault.ListRefusal.TheVariants.{Line, Entry}
+use Rattle.haya_stream.specs.declared.error.StreamError.{StreamError}
+use Rattle.haya_stream.specs.declared.error.StreamError.TheVariants.{CannotRead, CannotWrite, NotText, OutOfMemory, Refused}
+use Rattle.haya_list.specs.declared.error.ListError.{ListError}
+use Rattle.haya_list.specs.declared.error.ListError.TheVariants.{Line, Entry}
 
 -- ---- entries
 
@@ -62,7 +62,7 @@ pub record AnswersEnough {S : Type 0}
 -- what a fault says of a text, and of what isn't written: of a line, as `IsFault` has it, or of an
 -- entry, as `IsRefusal` has it
 abbrev pub Why : {L E : Type 0} → (List ℕ → L → Type 0) → (E → Type 0) → List ℕ → List ℕ
-    → StreamFault (ListRefusal L E) → Type 0
+    → StreamError (ListError L E) → Type 0
 Why IsFault IsRefusal text unwritten (CannotWrite e) = Unit {0}
 Why IsFault IsRefusal text unwritten (Refused (Line e)) = IsFault text e × (unwritten ≡ [])
 Why IsFault IsRefusal text unwritten (Refused (Entry e)) = IsRefusal e × (unwritten ≡ [])
@@ -71,13 +71,26 @@ Why IsFault IsRefusal text unwritten NotText =
     Any (λ line. ¬ IsUtf8 line) (lines text) × (unwritten ≡ [])
 Why IsFault IsRefusal text unwritten OutOfMemory = unwritten ≡ []
 
--- a first part of the input is read, entries of those of its lines that have ended are answered,
--- and there it stops: what is printed of them is written, but where the writer fails
+-- The answerer that is left at a fault is as the entries leave it that are answered. Nothing is said
+-- of it where it refuses one itself, where a write fails or memory is out.
+abbrev pub IsLeftAs : {S L E : Type 0} → S → S → StreamError (ListError L E) → Type 0
+IsLeftAs last t (CannotRead e) = t ≡ last
+IsLeftAs last t NotText = t ≡ last
+IsLeftAs last t (Refused (Line e)) = t ≡ last
+IsLeftAs last t (Refused (Entry e)) = Unit {0}
+IsLeftAs last t (CannotWrite e) = Unit {0}
+IsLeftAs last t OutOfMemory = Unit {0}
+
+-- A first part of the input is read, entries of those of its lines that have ended are answered,
+-- and there it stops: what is printed of them is written, but where the writer fails. What is left
+-- are an answerer t and what `Leaves` says of the part, of its entries and of the fault.
 pub record AnswersPart {S L E : Type 0}
     (BeginsList : Option (List ℕ) → List ℕ → List Tree → Type 0)
-    (IsFault : List ℕ → L → Type 0) (answers : S → Tree → List ℕ → S → Type 0)
-    (is_done : S → Bool) (refuses : S → Tree → E → Type 0) (s : S)
-    (unread left before after : Option (List ℕ)) (fault : StreamFault (ListRefusal L E))
+    (IsFault : List ℕ → L → Type 0)
+    (Leaves : List ℕ → List Tree → StreamError (ListError L E) → Type 0)
+    (answers : S → Tree → List ℕ → S → Type 0)
+    (is_done : S → Bool) (refuses : S → Tree → E → Type 0) (s t : S)
+    (unread left before after : Option (List ℕ)) (fault : StreamError (ListError L E))
     : Type 0 where
   pub text : List ℕ
   pub part : List ℕ
@@ -91,4 +104,6 @@ pub record AnswersPart {S L E : Type 0}
   pub run : Run answers is_done s replies last
   pub parts : printed_of replies ≡ written ++ unwritten
   pub why : Why IsFault (λ e. (entry : Tree) × refuses last entry e) part unwritten fault
+  pub answerer : IsLeftAs last t fault
+  pub leaves : Leaves part (entries_of replies) fault
   pub prints : Appends before after written

@@ -3,16 +3,16 @@ ghost use Rattle.std.specs.Prelude.{◌≡◌, ◌⊎◌, ℕ, List, Option, Som
 ghost use Rattle.std.specs.Str.Lines.{lines};
 ghost use Rattle.haya_elements.specs.Elements.{element_lines};
 ghost use Rattle.haya_list.specs.Elements.{lines_left, loan_of};
-ghost use Rattle.haya_list.specs.EntryLines.{IsFaultOf, ReadsFirst, ReadsLines};
+ghost use Rattle.haya_list.specs.EntryLines.{IsFaultOf, LeavesReader, ReadsFirst, ReadsLines};
 ghost use Rattle.haya_list.specs.Listed.{AnswersEnough, AnswersList, AnswersPart};
 
 use crate::entry_answerer::EntryAnswerer;
 use crate::entry_lines::answer_entry_lines;
 use crate::entry_reader::EntryReader;
-use crate::fault::{EntryFault, ListRefusal};
+use crate::error::{EntryError, ListError, Stopped};
 use crate::lent::{Lent, Loan};
 use haya_elements::{Brackets, ElementLines};
-use haya_stream::StreamFault;
+use haya_stream::StreamError;
 use std::alloc::Global;
 use std::io::{Read, Write};
 use std::marker::{Brand, PhantomData};
@@ -23,7 +23,8 @@ use std::marker::{Brand, PhantomData};
 /// is given each as a line of `ElementLines`. Keys that come again are not looked for. The answerer
 /// and the reader are handed back.
 ///
-/// At a fault the entries in front of it are answered.
+/// At a fault the entries in front of it are answered, and the answerer and the reader are handed
+/// back as they are left there.
 pub fn answer_elements<L: EntryReader + Drop, A: EntryAnswerer + Drop, R: Read, W: Write>(
     alloc: Global,
     brackets: Brackets,
@@ -31,7 +32,7 @@ pub fn answer_elements<L: EntryReader + Drop, A: EntryAnswerer + Drop, R: Read, 
     answerer: A,
     input: &mut R,
     out: &mut W,
-) -> Result<(A, L), StreamFault<ListRefusal<EntryFault<L::Error>, A::Refusal>>>
+) -> Result<(A, L), Stopped<StreamError<ListError<EntryError<L::Error>, A::Refusal>>, A, L>>
     ensures all { (text : List ℕ) → R.remaining input.old ≡ Some text → IfOk result (λ done.
         AnswersList (λ bytes entries.
         ReadsLines L.says (lines (element_lines brackets bytes)) entries reader done.1)
@@ -41,12 +42,13 @@ pub fn answer_elements<L: EntryReader + Drop, A: EntryAnswerer + Drop, R: Read, 
         × AnswersEnough (λ _ part entries. ReadsFirst L.says part entries reader done.1)
         A.answers A.is_done answerer done.0 (Some (element_lines brackets text)) left
         (W.contents out.old) (W.contents out.new)) }
-    ensures part { (text : List ℕ) → R.remaining input.old ≡ Some text → IfErr result (λ fault.
+    ensures part { (text : List ℕ) → R.remaining input.old ≡ Some text → IfErr result (λ stopped.
         (left : Option (List ℕ)) × AnswersPart
         (λ _ part entries. (after : L) × ReadsFirst L.says part entries reader after)
-        (IsFaultOf L.says L.refuses reader) A.answers A.is_done A.refuses answerer
+        (IsFaultOf L.says L.refuses reader) (LeavesReader L.says L.leaves reader stopped.reader)
+        A.answers A.is_done A.refuses answerer stopped.answerer
         (Some (element_lines brackets text)) left
-        (W.contents out.old) (W.contents out.new) fault) }
+        (W.contents out.old) (W.contents out.new) stopped.fault) }
 {
     let lent = Lent::<R, Brand> {
         reader: input,
@@ -63,7 +65,7 @@ fn answer_lent<K: Loan, L: EntryReader + Drop, A: EntryAnswerer + Drop, R: Read,
     answerer: A,
     elements: &mut ElementLines<Lent<'_, R, K>>,
     out: &mut W,
-) -> Result<(A, L), StreamFault<ListRefusal<EntryFault<L::Error>, A::Refusal>>>
+) -> Result<(A, L), Stopped<StreamError<ListError<EntryError<L::Error>, A::Refusal>>, A, L>>
     requires { loan_of elements.old ≡ K.name }
     ensures same_loan { (text : List ℕ) → lines_left R.remaining elements.old ≡ Some text
         → loan_of elements.new ≡ loan_of elements.old }
@@ -76,11 +78,12 @@ fn answer_lent<K: Loan, L: EntryReader + Drop, A: EntryAnswerer + Drop, R: Read,
         A.answers A.is_done answerer done.0 (Some text) (lines_left R.remaining elements.new)
         (W.contents out.old) (W.contents out.new)) }
     ensures part { (text : List ℕ) → lines_left R.remaining elements.old ≡ Some text
-        → IfErr result (AnswersPart
+        → IfErr result (λ stopped. AnswersPart
         (λ _ part entries. (after : L) × ReadsFirst L.says part entries reader after)
-        (IsFaultOf L.says L.refuses reader) A.answers A.is_done A.refuses answerer
+        (IsFaultOf L.says L.refuses reader) (LeavesReader L.says L.leaves reader stopped.reader)
+        A.answers A.is_done A.refuses answerer stopped.answerer
         (Some text) (lines_left R.remaining elements.new)
-        (W.contents out.old) (W.contents out.new)) }
+        (W.contents out.old) (W.contents out.new) stopped.fault) }
 {
     answer_entry_lines(alloc, reader, answerer, elements, out)
 }

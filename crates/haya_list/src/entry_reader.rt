@@ -13,9 +13,12 @@ pub trait EntryReader {
     ghost says: { Self → List ℕ → Tree → Self → Type 0 };
     // What an error says of the line that is read in a state.
     ghost refuses: { Self → List ℕ → Self.Error → Type 0 };
+    // The state that an error leaves of the one in which a line is read.
+    ghost leaves: { Self → List ℕ → Self.Error → Self → Type 0 };
 
     /// The entry that a line says, which isn't empty and is given without its line feed.
     fn read(&mut self, line: &str) -> Result<Entry, Self::Error>
         ensures says { IfOk result (λ entry. says self.old line.now (view entry) self.new) }
-        ensures refuses { IfErr result (refuses self.old line.now) };
+        ensures refuses { IfErr result (refuses self.old line.now) }
+        ensures leaves { IfErr result (λ e. leaves self.old line.now e self.new) };
 }

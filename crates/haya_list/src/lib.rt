@@ -5,7 +5,7 @@ mod elements;
 mod entry_answerer;
 mod entry_lines;
 mod entry_reader;
-mod fault;
+mod error;
 mod lent;
 mod lines;
 
@@ -13,5 +13,5 @@ pub use elements::answer_elements;
 pub use entry_answerer::EntryAnswerer;
 pub use entry_lines::answer_entry_lines;
 pub use entry_reader::EntryReader;
-pub use fault::{EntryFault, ListRefusal};
+pub use error::{EntryError, ListError, Stopped};
 pub use lines::answer_lines;

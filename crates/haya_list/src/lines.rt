@@ -6,9 +6,9 @@ ghost use Rattle.haya_list.specs.Lines.{AnswersClosed, BeginsList, IsFaultOf, Is
 ghost use Rattle.haya_list.specs.Listed.{AnswersEnough, AnswersList, AnswersPart};
 
 use crate::entry_answerer::EntryAnswerer;
-use crate::fault::ListRefusal;
-use haya_input::{InputFault, OpenEntries};
-use haya_stream::{Answerer, StreamFault, answer_all};
+use crate::error::{ListError, Stopped};
+use haya_input::{InputError, OpenEntries};
+use haya_stream::{Answerer, StreamError, answer_all};
 use std::alloc::Global;
 use std::io::{Read, Write};
 
@@ -16,21 +16,22 @@ use std::io::{Read, Write};
 /// input ends; or the entries of a first part of it, where the answerer is done with these. Keys
 /// that come again are not looked for.
 ///
-/// At a fault the entries in front of it are answered.
+/// At a fault the entries in front of it are answered, and the answerer is handed back as it is left
+/// there.
 pub fn answer_lines<A: EntryAnswerer + Drop, R: Read, W: Write>(
     alloc: Global,
     answerer: A,
     input: &mut R,
     out: &mut W,
-) -> Result<A, StreamFault<ListRefusal<InputFault, A::Refusal>>>
+) -> Result<A, Stopped<StreamError<ListError<InputError, A::Refusal>>, A, ()>>
     ensures all { IfOk result (λ answered.
         AnswersList IsListOf A.answers A.is_done answerer answered (R.remaining input.old)
         (R.remaining input.new) (W.contents out.old) (W.contents out.new)
         ⊎ AnswersEnough BeginsList A.answers A.is_done answerer answered (R.remaining input.old)
         (R.remaining input.new) (W.contents out.old) (W.contents out.new)) }
-    ensures part { IfErr result (AnswersPart BeginsList IsFaultOf
-        A.answers A.is_done A.refuses answerer (R.remaining input.old)
-        (R.remaining input.new) (W.contents out.old) (W.contents out.new)) }
+    ensures part { IfErr result (λ stopped. AnswersPart BeginsList IsFaultOf (λ _ _ _. Unit {0})
+        A.answers A.is_done A.refuses answerer stopped.answerer (R.remaining input.old)
+        (R.remaining input.new) (W.contents out.old) (W.contents out.new) stopped.fault) }
 {
     let mut list = LineList {
         alloc,
@@ -40,10 +41,11 @@ pub fn answer_lines<A: EntryAnswerer + Drop, R: Read, W: Write>(
     };
     match answer_all(alloc, &mut list, input, out) {
         Ok(()) => Ok(answerer_of(list)),
-        Err(fault) => {
-            drop(list);
-            Err(fault)
-        }
+        Err(fault) => Err(Stopped {
+            fault,
+            answerer: answerer_of(list),
+            reader: (),
+        }),
     }
 }
 
@@ -70,14 +72,14 @@ impl<A: EntryAnswerer> LineList<A> {
     fn answer_closed(
         &mut self,
         printed: &mut String,
-    ) -> Result<(), ListRefusal<InputFault, A::Refusal>>
+    ) -> Result<(), ListError<InputError, A::Refusal>>
         ensures answers { OnOk result ((more : List ℕ)
             × AnswersClosed A.answers self.old.answerer self.old.entries.closed more
             self.new.answerer
             × (string_bytes printed.new ≡ string_bytes printed.old ++ more)) }
         ensures entries { self.new.entries ≡ self.old.entries }
         ensures number { self.new.number ≡ self.old.number }
-        ensures refuses { IfErr result (λ e. (r : A.Refusal) × (e ≡ ListRefusal.Entry r)
+        ensures refuses { IfErr result (λ e. (r : A.Refusal) × (e ≡ ListError.Entry r)
             × (entry : Tree) × (self.old.entries.closed ≡ Some entry)
             × A.refuses self.old.answerer entry r) }
     {
@@ -86,7 +88,7 @@ impl<A: EntryAnswerer> LineList<A> {
         };
         match self.answerer.answer(entry, printed) {
             Ok(()) => Ok(()),
-            Err(refusal) => Err(ListRefusal::Entry(refusal)),
+            Err(refusal) => Err(ListError::Entry(refusal)),
         }
     }
 }
@@ -95,13 +97,13 @@ impl<A: EntryAnswerer> Answerer for LineList<A> {
     ghost use Rattle.std.specs.Prelude.{◌≡◌, ◌+◌};
     ghost use Rattle.haya_list.specs.Lines.{AnswersTurn, RefusesTurn};
 
-    type Refusal = ListRefusal<InputFault, A::Refusal>;
+    type Refusal = ListError<InputError, A::Refusal>;
 
     ghost answers = { λ s turn printed t. (t.number ≡ s.number + 1)
         × AnswersTurn A.answers s.entries.chain s.answerer turn printed t.entries t.answerer };
 
-    ghost refuses = { λ s turn e.
-        RefusesTurn A.refuses (s.number + 1) s.entries.chain s.answerer turn e };
+    ghost refuses = { λ s turn e t.
+        RefusesTurn A.refuses (s.number + 1) s.entries.chain s.answerer turn e t.answerer };
 
     ghost is_done = { λ s. A.is_done s.answerer };
 
@@ -109,23 +111,23 @@ impl<A: EntryAnswerer> Answerer for LineList<A> {
         &mut self,
         line: &str,
         printed: &mut String,
-    ) -> Result<(), ListRefusal<InputFault, A::Refusal>> {
+    ) -> Result<(), ListError<InputError, A::Refusal>> {
         let Some(number) = self.number.checked_add(1) else {
-            return Err(ListRefusal::Line(InputFault::OutOfMemory));
+            return Err(ListError::Line(InputError::OutOfMemory));
         };
         if let Err(fault) = self.entries.take_line(self.alloc, line, number) {
-            return Err(ListRefusal::Line(fault));
+            return Err(ListError::Line(fault));
         }
         self.number = number;
         self.answer_closed(printed)
     }
 
-    fn end(&mut self, printed: &mut String) -> Result<(), ListRefusal<InputFault, A::Refusal>> {
+    fn end(&mut self, printed: &mut String) -> Result<(), ListError<InputError, A::Refusal>> {
         let Some(number) = self.number.checked_add(1) else {
-            return Err(ListRefusal::Line(InputFault::OutOfMemory));
+            return Err(ListError::Line(InputError::OutOfMemory));
         };
         if let Err(fault) = self.entries.end() {
-            return Err(ListRefusal::Line(fault));
+            return Err(ListError::Line(fault));
         }
         self.number = number;
         self.answer_closed(printed)

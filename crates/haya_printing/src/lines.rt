@@ -12,7 +12,7 @@ use crate::error::LinesError;
 use crate::fields::{push_last, push_numbers, push_people, push_texts};
 use crate::unsaid::unsaid;
 use haya_entry::Entry;
-use haya_input::{InputFault, read_library};
+use haya_input::{InputError, read_library};
 use haya_text::OutOfMemory;
 use hayagriva::{HashKeys, Library};
 use std::alloc::Global;
@@ -42,8 +42,8 @@ pub(crate) fn is_said(alloc: Global, text: &str, entry: &Entry) -> Result<bool, 
     haya_input::laws::one_library();
     match read_library(alloc, HashKeys::new(0, 0), text) {
         Ok(read) => Ok(is_alone(&read, entry)),
-        Err(InputFault::OutOfMemory) => Err(OutOfMemory),
-        Err(InputFault::Line(_, _)) => Ok(false),
+        Err(InputError::OutOfMemory) => Err(OutOfMemory),
+        Err(InputError::Line(_, _)) => Ok(false),
     }
 }
 

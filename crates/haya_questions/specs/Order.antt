@@ -82,13 +82,16 @@ rank_of (TextValue text) = text_rank text
 rank_of (KeyValue text) = text_rank text
 rank_of (UntypedValue text) = record (of_kind kind.Untyped) { text = Some text }
 
--- by kind; dates, numbers and pages as citation styles have them
-abbrev pub typed_order : Rank → Rank → Ordering
-typed_order =
-    then_cmp (on (λ r. kinds_before r.kind) nat_cmp)
-    (then_cmp (on (λ r. r.date) (option_cmp date_csl_cmp))
+-- dates, numbers and pages as citation styles have them
+abbrev pub counted_order : Rank → Rank → Ordering
+counted_order =
+    then_cmp (on (λ r. r.date) (option_cmp date_csl_cmp))
     (then_cmp (on (λ r. r.number) (option_cmp csl_order))
-    (on (λ r. r.pages) (option_cmp pages_order))))
+    (on (λ r. r.pages) (option_cmp pages_order)))
+
+-- by kind, and then dates, numbers and pages
+abbrev pub typed_order : Rank → Rank → Ordering
+typed_order = then_cmp (on (λ r. kinds_before r.kind) nat_cmp) counted_order
 
 -- durations by length, persons by the parts of their names, texts by their bytes
 abbrev pub named_order : Rank → Rank → Ordering

@@ -7,8 +7,8 @@ ghost use Rattle.haya_numbers.specs.Pages.{parts};
 ghost use Rattle.haya_numbers.specs.PagesOrder.{pages_order};
 ghost use Rattle.haya_people.specs.Person.{person_view};
 ghost use Rattle.haya_time.specs.DateOrder.{date_csl_cmp};
-ghost use Rattle.haya_questions.specs.Order.{duration_rank, is_missing, kinds_before, named_order};
-ghost use Rattle.haya_questions.specs.Order.{of_kind, person_rank, rank_of, rank_order};
+ghost use Rattle.haya_questions.specs.Order.{counted_order, duration_rank, is_missing, kinds_before};
+ghost use Rattle.haya_questions.specs.Order.{named_order, of_kind, person_rank, rank_of, rank_order};
 ghost use Rattle.haya_questions.specs.Order.{ranks_order, text_rank, typed_order};
 ghost use Rattle.haya_questions.specs.Ranked.{rank_view};
 ghost use Rattle.haya_questions.specs.Value.{value_view};
@@ -142,10 +142,19 @@ impl ValueRank {
         ensures { result ≡ typed_order (rank_view self.now) (rank_view other.now) }
     {
         let by_kind = self.kind.kinds_before().cmp(&other.kind.kinds_before());
+        by_kind.then_with(|| self.cmp_counted(other))
+    }
+
+    // Dates, numbers and pages as citation styles have them.
+    fn cmp_counted(&self, other: &ValueRank) -> Ordering
+        ensures { result ≡ counted_order (rank_view self.now) (rank_view other.now) }
+    {
         let by_date = cmp_dates(self.date.as_ref(), other.date.as_ref());
+        if by_date.is_ne() {
+            return by_date;
+        }
         let by_number = cmp_numbers(self.number.as_ref(), other.number.as_ref());
-        let by_pages = cmp_pages(self.pages.as_ref(), other.pages.as_ref());
-        by_kind.then(by_date.then(by_number.then(by_pages)))
+        by_number.then(cmp_pages(self.pages.as_ref(), other.pages.as_ref()))
     }
 
     // Durations by length, persons by the parts of their names, texts by their bytes.
@@ -169,7 +178,8 @@ fn date_rank(date: Date) -> ValueRank
 }
 
 fn number_rank(number: Numeric) -> ValueRank
-    ensures { rank_view result ≡ record (of_kind Kind.Number) { number = Some (numeric_view number) } }
+    ensures { rank_view result
+        ≡ record (of_kind Kind.Number) { number = Some (numeric_view number) } }
 {
     let mut rank = ValueRank::of_kind(RankKind::Number);
     rank.number = Some(number);

@@ -1,6 +1,6 @@
 //! What is asked of the hits of a library.
 use crate::Question;
-use crate::fault::Fault;
+use crate::error::RowError;
 use haya_asked::{duplicate_hits, parse_places, parse_sort_keys, unique_hits};
 use haya_input::read_library;
 use haya_questions::{Place, SortKey, Table, Test, columns_text, sort_hits, values};
@@ -9,7 +9,7 @@ use std::alloc::Global;
 use std::fmt;
 
 /// What a place, a test or a key of a sort is read as.
-pub fn push_read(alloc: Global, question: &Question, said: &mut String) -> Result<(), Fault> {
+pub fn push_read(alloc: Global, question: &Question, said: &mut String) -> Result<(), RowError> {
     let words = question.words;
     match question.kind {
         "place" => {
@@ -37,7 +37,7 @@ pub fn push_read(alloc: Global, question: &Question, said: &mut String) -> Resul
 fn read<T: Drop, E: fmt::Debug + Drop>(
     read: Result<T, E>,
     said: &mut String,
-) -> Result<Option<T>, Fault> {
+) -> Result<Option<T>, RowError> {
     match read {
         Ok(value) => Ok(Some(value)),
         Err(fault) => {
@@ -48,7 +48,7 @@ fn read<T: Drop, E: fmt::Debug + Drop>(
 }
 
 /// What is asked of the hits of a selector in a library.
-pub fn push_hits(alloc: Global, question: &Question, said: &mut String) -> Result<(), Fault> {
+pub fn push_hits(alloc: Global, question: &Question, said: &mut String) -> Result<(), RowError> {
     let library = read_library(alloc, HashKeys::new(1, 2), question.library)?;
     push_answer(alloc, &library, question, said)
 }
@@ -58,7 +58,7 @@ fn push_answer(
     library: &Library,
     question: &Question,
     said: &mut String,
-) -> Result<(), Fault> {
+) -> Result<(), RowError> {
     let hits = library.query(alloc, question.selector, &mut Steps::new())?;
     let words = question.words;
     match question.kind {
@@ -71,12 +71,12 @@ fn push_answer(
         "columns-tsv" => push_table(alloc, hits.as_slice(), words, (Table::Tsv, true), said),
         "rows-csv" => push_table(alloc, hits.as_slice(), words, (Table::Csv, false), said),
         "rows-tsv" => push_table(alloc, hits.as_slice(), words, (Table::Tsv, false), said),
-        _ => Err(Fault::Malformed),
+        _ => Err(RowError::Malformed),
     }
 }
 
 // The keys of the hits of which a test holds.
-fn push_where(alloc: Global, hits: &[Hit], words: &str, said: &mut String) -> Result<(), Fault> {
+fn push_where(alloc: Global, hits: &[Hit], words: &str, said: &mut String) -> Result<(), RowError> {
     let Some(test) = read(Test::parse(alloc, words), said)? else {
         return Ok(());
     };
@@ -89,7 +89,7 @@ fn push_where(alloc: Global, hits: &[Hit], words: &str, said: &mut String) -> Re
 }
 
 // Puts the key of a hit behind the others, with a blank between them.
-fn push_key(hit: &Hit, said: &mut String) -> Result<(), Fault> {
+fn push_key(hit: &Hit, said: &mut String) -> Result<(), RowError> {
     if !said.is_empty() {
         said.push(' ')?;
     }
@@ -98,7 +98,12 @@ fn push_key(hit: &Hit, said: &mut String) -> Result<(), Fault> {
 }
 
 // A line for each hit: its key, and a tab before each value.
-fn push_values(alloc: Global, hits: &[Hit], words: &str, said: &mut String) -> Result<(), Fault> {
+fn push_values(
+    alloc: Global,
+    hits: &[Hit],
+    words: &str,
+    said: &mut String,
+) -> Result<(), RowError> {
     let Some(place) = read(Place::parse(alloc, words), said)? else {
         return Ok(());
     };
@@ -113,7 +118,12 @@ fn push_values(alloc: Global, hits: &[Hit], words: &str, said: &mut String) -> R
 }
 
 // The keys of the hits in order.
-fn push_sorted(alloc: Global, hits: Vec<Hit>, words: &str, said: &mut String) -> Result<(), Fault> {
+fn push_sorted(
+    alloc: Global,
+    hits: Vec<Hit>,
+    words: &str,
+    said: &mut String,
+) -> Result<(), RowError> {
     let Some(keys) = read(parse_sort_keys(alloc, words), said)? else {
         return Ok(());
     };
@@ -131,7 +141,7 @@ fn push_left(
     words: &str,
     is_unique: bool,
     said: &mut String,
-) -> Result<(), Fault> {
+) -> Result<(), RowError> {
     let Some(places) = read(parse_places(alloc, words), said)? else {
         return Ok(());
     };
@@ -154,7 +164,7 @@ fn push_table(
     words: &str,
     form: (Table, bool),
     said: &mut String,
-) -> Result<(), Fault> {
+) -> Result<(), RowError> {
     let Some(places) = read(parse_places(alloc, words), said)? else {
         return Ok(());
     };

@@ -4,10 +4,10 @@
 #![tactic(auto)]
 
 mod asked;
-mod fault;
+mod error;
 
 use asked::{push_hits, push_read};
-use fault::Fault;
+use error::RowError;
 use std::alloc::Global;
 use std::io;
 
@@ -37,8 +37,8 @@ fn question_of(text: &str) -> Option<Question<'_>> {
 }
 
 // The line of an answer.
-fn answer(alloc: Global, text: &str) -> Result<String, Fault> {
-    let question = question_of(text).ok_or(Fault::Malformed)?;
+fn answer(alloc: Global, text: &str) -> Result<String, RowError> {
+    let question = question_of(text).ok_or(RowError::Malformed)?;
     let mut said = String::new(alloc);
     match question.kind {
         "place" | "test" | "key" => push_read(alloc, &question, &mut said)?,
@@ -48,7 +48,7 @@ fn answer(alloc: Global, text: &str) -> Result<String, Fault> {
 }
 
 // The text on one line.
-fn escaped(alloc: Global, text: &str) -> Result<String, Fault> {
+fn escaped(alloc: Global, text: &str) -> Result<String, RowError> {
     let mut line = String::new(alloc);
     for c in text.chars() {
         match c {
@@ -67,8 +67,8 @@ fn main(rt: HostRuntime) -> io::Result<()> {
     for text in all.as_str().split('\u{1e}') {
         match answer(rt.alloc(), text) {
             Ok(line) => println!(rt; "{line}")?,
-            Err(Fault::Malformed) => println!(rt; "no question")?,
-            Err(Fault::OutOfMemory) => println!(rt; "out of memory")?,
+            Err(RowError::Malformed) => println!(rt; "no question")?,
+            Err(RowError::OutOfMemory) => println!(rt; "out of memory")?,
         }
     }
     Ok(())

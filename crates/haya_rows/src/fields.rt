@@ -1,11 +1,11 @@
 //! The fields of an entry, each as `name=value;`.
-use crate::row::Fault;
+use crate::row::RowError;
 use haya_entry::Entry;
 use haya_people::Person;
 use haya_values::{MaybeTyped, Publisher};
 use std::fmt;
 
-fn put<D: fmt::Display>(out: &mut String, name: &str, value: Option<&D>) -> Result<(), Fault> {
+fn put<D: fmt::Display>(out: &mut String, name: &str, value: Option<&D>) -> Result<(), RowError> {
     if let Some(value) = value {
         write!(out, "{name}={value};")?;
     }
@@ -17,7 +17,7 @@ fn put_typed<D: fmt::Display>(
     out: &mut String,
     name: &str,
     value: Option<&MaybeTyped<D>>,
-) -> Result<(), Fault> {
+) -> Result<(), RowError> {
     match value {
         Some(MaybeTyped::Typed(value)) => write!(out, "{name}=[{value}];")?,
         Some(MaybeTyped::String(text)) => write!(out, "{name}={text};")?,
@@ -27,7 +27,7 @@ fn put_typed<D: fmt::Display>(
 }
 
 // A person's parts, each behind a sign of its own.
-fn put_person(out: &mut String, name: &str, person: &Person) -> Result<(), Fault> {
+fn put_person(out: &mut String, name: &str, person: &Person) -> Result<(), RowError> {
     write!(out, "{name}={}", person.name)?;
     if let Some(given_name) = &person.given_name {
         write!(out, ", {given_name}")?;
@@ -42,14 +42,14 @@ fn put_person(out: &mut String, name: &str, person: &Person) -> Result<(), Fault
     Ok(())
 }
 
-fn put_persons(out: &mut String, name: &str, persons: Option<&[Person]>) -> Result<(), Fault> {
+fn put_persons(out: &mut String, name: &str, persons: Option<&[Person]>) -> Result<(), RowError> {
     for person in persons.unwrap_or(&[]) {
         put_person(out, name, person)?;
     }
     Ok(())
 }
 
-fn put_texts(out: &mut String, entry: &Entry) -> Result<(), Fault> {
+fn put_texts(out: &mut String, entry: &Entry) -> Result<(), RowError> {
     put(out, "title", entry.title())?;
     put(out, "location", entry.location())?;
     put(out, "organization", entry.organization())?;
@@ -61,7 +61,7 @@ fn put_texts(out: &mut String, entry: &Entry) -> Result<(), Fault> {
     put(out, "genre", entry.genre())
 }
 
-fn put_people(out: &mut String, entry: &Entry) -> Result<(), Fault> {
+fn put_people(out: &mut String, entry: &Entry) -> Result<(), RowError> {
     put_persons(out, "author", entry.authors())?;
     put_persons(out, "editor", entry.editors())?;
     for list in entry.affiliated().unwrap_or(&[]) {
@@ -70,7 +70,7 @@ fn put_people(out: &mut String, entry: &Entry) -> Result<(), Fault> {
     Ok(())
 }
 
-fn put_numbers(out: &mut String, entry: &Entry) -> Result<(), Fault> {
+fn put_numbers(out: &mut String, entry: &Entry) -> Result<(), RowError> {
     put_typed(out, "issue", entry.issue())?;
     put_typed(out, "chapter", entry.chapter())?;
     put_typed(out, "volume", entry.volume())?;
@@ -82,7 +82,7 @@ fn put_numbers(out: &mut String, entry: &Entry) -> Result<(), Fault> {
     put_typed(out, "runtime", entry.runtime())
 }
 
-fn put_publisher(out: &mut String, publisher: Option<&Publisher>) -> Result<(), Fault> {
+fn put_publisher(out: &mut String, publisher: Option<&Publisher>) -> Result<(), RowError> {
     if let Some(publisher) = publisher {
         put(out, "publisher", publisher.name())?;
         put(out, "at", publisher.location())?;
@@ -90,7 +90,7 @@ fn put_publisher(out: &mut String, publisher: Option<&Publisher>) -> Result<(), 
     Ok(())
 }
 
-fn put_serials(out: &mut String, entry: &Entry) -> Result<(), Fault> {
+fn put_serials(out: &mut String, entry: &Entry) -> Result<(), RowError> {
     for key in ["serial", "doi", "isbn", "issn", "pmid", "pmcid", "arxiv"] {
         put(out, key, entry.keyed_serial_number(key).as_ref())?;
     }
@@ -98,7 +98,7 @@ fn put_serials(out: &mut String, entry: &Entry) -> Result<(), Fault> {
 }
 
 /// Each field that is set, as it is shown.
-pub fn put_fields(out: &mut String, entry: &Entry) -> Result<(), Fault> {
+pub fn put_fields(out: &mut String, entry: &Entry) -> Result<(), RowError> {
     put_texts(out, entry)?;
     put_people(out, entry)?;
     put(out, "date", entry.date())?;

@@ -13,13 +13,13 @@ mod times;
 mod values;
 
 use haya_stream::{read_all, write_text};
-use row::{Fault, Row};
+use row::{Row, RowError};
 use std::alloc::Global;
 use std::io::{Read, Write};
 use std::process::ExitCode;
 
 // The columns of a row.
-fn put_row(alloc: Global, row: &Row, out: &mut String) -> Result<(), Fault> {
+fn put_row(alloc: Global, row: &Row, out: &mut String) -> Result<(), RowError> {
     match row.word(0)? {
         "date" | "made-date" | "year" | "era" | "dates" => times::put(alloc, row, out),
         "duration" | "durations" | "range" | "made-duration" => times::put(alloc, row, out),
@@ -35,11 +35,11 @@ fn put_row(alloc: Global, row: &Row, out: &mut String) -> Result<(), Fault> {
             entries::put(alloc, row, out)
         }
         "selector" | "apply" | "query" => selectors::put(alloc, row, out),
-        _ => Err(Fault::Malformed),
+        _ => Err(RowError::Malformed),
     }
 }
 
-fn put_columns(alloc: Global, line: &str, out: &mut String) -> Result<(), Fault> {
+fn put_columns(alloc: Global, line: &str, out: &mut String) -> Result<(), RowError> {
     let row = Row::of_line(alloc, line)?;
     let put = put_row(alloc, &row, out);
     drop(row);
@@ -47,9 +47,9 @@ fn put_columns(alloc: Global, line: &str, out: &mut String) -> Result<(), Fault>
 }
 
 // The line of a line: where the row is none it is `?`, which no row wants.
-fn put_line(alloc: Global, line: &str, out: &mut String) -> Result<(), Fault> {
+fn put_line(alloc: Global, line: &str, out: &mut String) -> Result<(), RowError> {
     match put_columns(alloc, line, out) {
-        Err(Fault::Malformed) => out.push_str("\t?")?,
+        Err(RowError::Malformed) => out.push_str("\t?")?,
         other => other?,
     }
     out.push('\n')?;
@@ -57,27 +57,27 @@ fn put_line(alloc: Global, line: &str, out: &mut String) -> Result<(), Fault> {
 }
 
 // All lines.
-fn put_lines(alloc: Global, text: &str, out: &mut String) -> Result<(), Fault> {
+fn put_lines(alloc: Global, text: &str, out: &mut String) -> Result<(), RowError> {
     for line in text.lines() {
         put_line(alloc, line, out)?;
     }
     Ok(())
 }
 
-fn answer<R: Read, W: Write>(alloc: Global, input: &mut R, out: &mut W) -> Result<(), Fault> {
-    let bytes = read_all(alloc, input, &mut ()).map_err(|_| Fault::OutOfMemory)?;
-    let text = str::from_utf8(&bytes).map_err(|_| Fault::Malformed)?;
+fn answer<R: Read, W: Write>(alloc: Global, input: &mut R, out: &mut W) -> Result<(), RowError> {
+    let bytes = read_all(alloc, input, &mut ()).map_err(|_| RowError::OutOfMemory)?;
+    let text = str::from_utf8(&bytes).map_err(|_| RowError::Malformed)?;
     let mut lines = String::new(alloc);
     put_lines(alloc, text, &mut lines)?;
-    write_text(out, lines.as_str()).map_err(|_| Fault::Malformed)
+    write_text(out, lines.as_str()).map_err(|_| RowError::Malformed)
 }
 
 fn main(rt: HostRuntime) -> ExitCode {
     let (mut input, mut out) = (rt.stdin(), rt.stdout());
     match answer(rt.alloc(), &mut input, &mut out) {
         Ok(()) => ExitCode::from(0),
-        Err(Fault::Malformed) => ExitCode::from(2),
-        Err(Fault::OutOfMemory) => {
+        Err(RowError::Malformed) => ExitCode::from(2),
+        Err(RowError::OutOfMemory) => {
             // Where this fails, the status says it all.
             let _ = rt.eprintln("out of memory");
             ExitCode::from(1)

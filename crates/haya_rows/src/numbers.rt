@@ -3,8 +3,8 @@ ghost use Rattle.std.specs.Prelude.{◌≡◌, Some, None, codes, pos, if◌then
 ghost use Rattle.std.specs.Ordering.{int_eq};
 
 use crate::row::{
-    Fault, Row, copied, put as put_column, put_debugged, put_fault, put_read, put_shown, put_yes,
-    read,
+    Row, RowError, copied, put as put_column, put_debugged, put_fault, put_read, put_shown,
+    put_yes, read,
 };
 use haya_numbers::{
     GrammarGender, NumberForm, Numeric, NumericDelimiter, Ordinals, PageNumberError, PageRanges,
@@ -12,7 +12,7 @@ use haya_numbers::{
 };
 use std::alloc::Global;
 
-pub fn put(alloc: Global, row: &Row, out: &mut String) -> Result<(), Fault> {
+pub fn put(alloc: Global, row: &Row, out: &mut String) -> Result<(), RowError> {
     match row.word(0)? {
         "number" => put_number(alloc, row, out),
         "number-form" => put_form(alloc, row, out),
@@ -27,13 +27,13 @@ pub fn put(alloc: Global, row: &Row, out: &mut String) -> Result<(), Fault> {
             }
             Ok(())
         }
-        _ => Err(Fault::Malformed),
+        _ => Err(RowError::Malformed),
     }
 }
 
 // The value, its print, its numbers as they are shown and as a machine reads them, and the text
 // that it is read of again.
-fn put_number(alloc: Global, row: &Row, out: &mut String) -> Result<(), Fault> {
+fn put_number(alloc: Global, row: &Row, out: &mut String) -> Result<(), RowError> {
     let Some(number) = read::<Numeric>(alloc, row.word(1)?, out)? else {
         return Ok(());
     };
@@ -44,7 +44,7 @@ fn put_number(alloc: Global, row: &Row, out: &mut String) -> Result<(), Fault> {
         let mut text = String::new(alloc);
         number
             .fmt_value(&mut text, is_for_machines)
-            .map_err(|_| Fault::OutOfMemory)?;
+            .map_err(|_| RowError::OutOfMemory)?;
         put_column(out, text.as_str())?;
     }
     let again = number.round_trip_text(alloc)?;
@@ -68,17 +68,17 @@ impl Ordinals for English {
     }
 }
 
-fn form(name: &str) -> Result<NumberForm, Fault> {
+fn form(name: &str) -> Result<NumberForm, RowError> {
     match name {
         "numeric" => Ok(NumberForm::Numeric),
         "ordinal" => Ok(NumberForm::Ordinal),
         "long-ordinal" => Ok(NumberForm::LongOrdinal),
         "roman" => Ok(NumberForm::Roman),
-        _ => Err(Fault::Malformed),
+        _ => Err(RowError::Malformed),
     }
 }
 
-fn put_form(alloc: Global, row: &Row, out: &mut String) -> Result<(), Fault> {
+fn put_form(alloc: Global, row: &Row, out: &mut String) -> Result<(), RowError> {
     let form = form(row.word(2)?)?;
     let Some(number) = read::<Numeric>(alloc, row.word(1)?, out)? else {
         return Ok(());
@@ -86,11 +86,11 @@ fn put_form(alloc: Global, row: &Row, out: &mut String) -> Result<(), Fault> {
     let mut written = String::new(alloc);
     number
         .with_form(&mut written, form, Some(GrammarGender::Neuter), &English)
-        .map_err(|_| Fault::OutOfMemory)?;
+        .map_err(|_| RowError::OutOfMemory)?;
     put_column(out, written.as_str())
 }
 
-fn put_order(alloc: Global, row: &Row, out: &mut String) -> Result<(), Fault> {
+fn put_order(alloc: Global, row: &Row, out: &mut String) -> Result<(), RowError> {
     let Some(a) = read::<Numeric>(alloc, row.word(1)?, out)? else {
         return Ok(());
     };
@@ -101,7 +101,7 @@ fn put_order(alloc: Global, row: &Row, out: &mut String) -> Result<(), Fault> {
     put_yes(out, a == b)
 }
 
-fn put_delimiter(alloc: Global, row: &Row, out: &mut String) -> Result<(), Fault> {
+fn put_delimiter(alloc: Global, row: &Row, out: &mut String) -> Result<(), RowError> {
     match row.word(1)?.parse::<NumericDelimiter>() {
         Ok(delimiter) => {
             put_debugged(alloc, out, &delimiter)?;
@@ -114,7 +114,7 @@ fn put_delimiter(alloc: Global, row: &Row, out: &mut String) -> Result<(), Fault
 
 // The value, its print, how many parts it has, whether it is plural, whether it reads back from its
 // print, and the text that it is read of again.
-fn put_pages(alloc: Global, row: &Row, out: &mut String) -> Result<(), Fault> {
+fn put_pages(alloc: Global, row: &Row, out: &mut String) -> Result<(), RowError> {
     let Some(pages) = read::<PageRanges>(alloc, row.word(1)?, out)? else {
         return Ok(());
     };
@@ -128,22 +128,22 @@ fn put_pages(alloc: Global, row: &Row, out: &mut String) -> Result<(), Fault> {
     put_column(out, again.as_str())
 }
 
-fn page_of(alloc: Global, kind: &str, digits: &str) -> Result<Option<PageRanges>, Fault> {
+fn page_of(alloc: Global, kind: &str, digits: &str) -> Result<Option<PageRanges>, RowError> {
     let made = match kind {
-        "i32" => PageRanges::from_i32(alloc, digits.parse().map_err(|_| Fault::Malformed)?),
-        "u32" => PageRanges::try_from_u32(alloc, digits.parse().map_err(|_| Fault::Malformed)?),
-        "i64" => PageRanges::try_from_i64(alloc, digits.parse().map_err(|_| Fault::Malformed)?),
-        "u64" => PageRanges::try_from_u64(alloc, digits.parse().map_err(|_| Fault::Malformed)?),
-        _ => return Err(Fault::Malformed),
+        "i32" => PageRanges::from_i32(alloc, digits.parse().map_err(|_| RowError::Malformed)?),
+        "u32" => PageRanges::try_from_u32(alloc, digits.parse().map_err(|_| RowError::Malformed)?),
+        "i64" => PageRanges::try_from_i64(alloc, digits.parse().map_err(|_| RowError::Malformed)?),
+        "u64" => PageRanges::try_from_u64(alloc, digits.parse().map_err(|_| RowError::Malformed)?),
+        _ => return Err(RowError::Malformed),
     };
     match made {
         Ok(pages) => Ok(Some(pages)),
         Err(PageNumberError::OutOfRange) => Ok(None),
-        Err(PageNumberError::OutOfMemory) => Err(Fault::OutOfMemory),
+        Err(PageNumberError::OutOfMemory) => Err(RowError::OutOfMemory),
     }
 }
 
-fn put_page(alloc: Global, row: &Row, out: &mut String) -> Result<(), Fault> {
+fn put_page(alloc: Global, row: &Row, out: &mut String) -> Result<(), RowError> {
     match page_of(alloc, row.word(1)?, row.word(2)?)? {
         Some(pages) => put_debugged(alloc, out, &pages),
         None => put_fault(alloc, out, &PageNumberError::OutOfRange),

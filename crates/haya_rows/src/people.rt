@@ -1,13 +1,13 @@
 //! Persons and roles.
 use crate::row::{
-    Fault, Row, copied, put as put_column, put_debugged, put_fault, put_maybe, put_yes, read,
+    Row, RowError, copied, put as put_column, put_debugged, put_fault, put_maybe, put_yes, read,
 };
 use haya_people::{Person, PersonRole, is_sorted_table};
 use haya_text::LongShortForm;
 use std::alloc::Global;
 use std::str::FromStr;
 
-pub fn put(alloc: Global, row: &Row, out: &mut String) -> Result<(), Fault> {
+pub fn put(alloc: Global, row: &Row, out: &mut String) -> Result<(), RowError> {
     match row.word(0)? {
         "person" => put_person(alloc, row, out),
         "initials" => put_initials(alloc, row, out),
@@ -32,15 +32,15 @@ pub fn put(alloc: Global, row: &Row, out: &mut String) -> Result<(), Fault> {
         "sorted" => put_yes(out, is_sorted_table(&words(alloc, row, 1)?)),
         "persons" => put_persons(alloc, row, out),
         "role" => put_role(alloc, row, out),
-        _ => Err(Fault::Malformed),
+        _ => Err(RowError::Malformed),
     }
 }
 
-fn string(alloc: Global, text: &str) -> Result<String, Fault> {
+fn string(alloc: Global, text: &str) -> Result<String, RowError> {
     Ok(String::from_str(alloc, text)?)
 }
 
-fn maybe(alloc: Global, row: &Row, place: usize) -> Result<Option<String>, Fault> {
+fn maybe(alloc: Global, row: &Row, place: usize) -> Result<Option<String>, RowError> {
     match row.maybe(place)? {
         Some(text) => Ok(Some(string(alloc, text)?)),
         None => Ok(None),
@@ -48,7 +48,7 @@ fn maybe(alloc: Global, row: &Row, place: usize) -> Result<Option<String>, Fault
 }
 
 // A person by the name, the given name, the prefix and the suffix.
-fn person(alloc: Global, row: &Row, place: usize) -> Result<Person, Fault> {
+fn person(alloc: Global, row: &Row, place: usize) -> Result<Person, RowError> {
     Ok(Person {
         name: string(alloc, row.word(place)?)?,
         given_name: maybe(alloc, row, place.saturating_add(1))?,
@@ -60,7 +60,7 @@ fn person(alloc: Global, row: &Row, place: usize) -> Result<Person, Fault> {
 }
 
 // The value, and its text.
-fn put_person(alloc: Global, row: &Row, out: &mut String) -> Result<(), Fault> {
+fn put_person(alloc: Global, row: &Row, out: &mut String) -> Result<(), RowError> {
     let Some(person) = read::<Person>(alloc, row.word(1)?, out)? else {
         return Ok(());
     };
@@ -70,7 +70,7 @@ fn put_person(alloc: Global, row: &Row, out: &mut String) -> Result<(), Fault> {
     put_column(out, text.as_str())
 }
 
-fn given(alloc: Global, row: &Row) -> Result<Person, Fault> {
+fn given(alloc: Global, row: &Row) -> Result<Person, RowError> {
     Ok(Person {
         name: string(alloc, "Doe")?,
         given_name: maybe(alloc, row, 1)?,
@@ -81,26 +81,26 @@ fn given(alloc: Global, row: &Row) -> Result<Person, Fault> {
     })
 }
 
-fn put_initials(alloc: Global, row: &Row, out: &mut String) -> Result<(), Fault> {
+fn put_initials(alloc: Global, row: &Row, out: &mut String) -> Result<(), RowError> {
     let (delimiter, with_hyphen) = (row.maybe(2)?, row.is_yes(3)?);
     let mut text = String::new(alloc);
     given(alloc, row)?
         .initials(&mut text, delimiter, with_hyphen)
-        .map_err(|_| Fault::OutOfMemory)?;
+        .map_err(|_| RowError::OutOfMemory)?;
     put_column(out, text.as_str())
 }
 
-fn put_first_name(alloc: Global, row: &Row, out: &mut String) -> Result<(), Fault> {
+fn put_first_name(alloc: Global, row: &Row, out: &mut String) -> Result<(), RowError> {
     let delimiter = row.maybe(2)?;
     let mut text = String::new(alloc);
     given(alloc, row)?
         .first_name_with_delimiter(&mut text, delimiter)
-        .map_err(|_| Fault::OutOfMemory)?;
+        .map_err(|_| RowError::OutOfMemory)?;
     put_column(out, text.as_str())
 }
 
 // The words from this place on, as a table.
-fn words<'a>(alloc: Global, row: &'a Row, place: usize) -> Result<Vec<&'a str>, Fault> {
+fn words<'a>(alloc: Global, row: &'a Row, place: usize) -> Result<Vec<&'a str>, RowError> {
     let mut table = Vec::new(alloc);
     for word in row.from(place) {
         table.push(word.as_str())?;
@@ -109,7 +109,7 @@ fn words<'a>(alloc: Global, row: &'a Row, place: usize) -> Result<Vec<&'a str>, 
 }
 
 // The particle, what stands behind it, and the particle with the prefix.
-fn put_particles(alloc: Global, row: &Row, out: &mut String) -> Result<(), Fault> {
+fn put_particles(alloc: Global, row: &Row, out: &mut String) -> Result<(), RowError> {
     let table = words(alloc, row, 3)?;
     let person = Person {
         name: string(alloc, row.word(1)?)?,
@@ -127,9 +127,9 @@ fn put_parted(
     person: &Person,
     table: &[&str],
     out: &mut String,
-) -> Result<(), Fault> {
+) -> Result<(), RowError> {
     if !is_sorted_table(table) {
-        return Err(Fault::Malformed);
+        return Err(RowError::Malformed);
     }
     put_maybe(out, person.name_particle(alloc, table)?)?;
     put_column(out, person.name_without_particle(alloc, table)?)?;
@@ -137,11 +137,11 @@ fn put_parted(
     put_maybe(out, all.as_deref())
 }
 
-fn put_article(alloc: Global, row: &Row, out: &mut String) -> Result<(), Fault> {
+fn put_article(alloc: Global, row: &Row, out: &mut String) -> Result<(), RowError> {
     let table = words(alloc, row, 2)?;
     let name = string(alloc, row.word(1)?)?;
     if !is_sorted_table(&table) {
-        return Err(Fault::Malformed);
+        return Err(RowError::Malformed);
     }
     let person = Person {
         name,
@@ -161,15 +161,15 @@ fn is_ideograph(c: char) -> bool {
 }
 
 // The order of two persons in the list of a style, and that of the second to the first.
-fn put_persons(alloc: Global, row: &Row, out: &mut String) -> Result<(), Fault> {
+fn put_persons(alloc: Global, row: &Row, out: &mut String) -> Result<(), RowError> {
     let form = match row.word(1)? {
         "long" => LongShortForm::Long,
         "short" => LongShortForm::Short,
-        _ => return Err(Fault::Malformed),
+        _ => return Err(RowError::Malformed),
     };
     let is_demoted = row.is_yes(2)?;
     if !is_sorted_table(PARTICLES) {
-        return Err(Fault::Malformed);
+        return Err(RowError::Malformed);
     }
     let (a, b) = (person(alloc, row, 3)?, person(alloc, row, 7)?);
     let there = a.csl_cmp(alloc, &b, form, is_demoted, PARTICLES, is_ideograph)?;
@@ -178,7 +178,7 @@ fn put_persons(alloc: Global, row: &Row, out: &mut String) -> Result<(), Fault> 
     put_debugged(alloc, out, &back)
 }
 
-fn put_role(alloc: Global, row: &Row, out: &mut String) -> Result<(), Fault> {
+fn put_role(alloc: Global, row: &Row, out: &mut String) -> Result<(), RowError> {
     match PersonRole::from_str(row.word(1)?) {
         Ok(role) => put_debugged(alloc, out, &copied(alloc, role)?),
         Err(fault) => put_fault(alloc, out, &fault),

@@ -5,27 +5,27 @@ use std::fmt;
 
 /// Why a row has no columns.
 #[derive(Clone, Copy, Debug, PartialEq, Eq)]
-pub enum Fault {
+pub enum RowError {
     OutOfMemory,
     /// It lacks a word, or one is none of those that its kind takes.
     Malformed,
 }
 
-impl From<OutOfMemory> for Fault {
-    fn from(_error: OutOfMemory) -> Fault {
-        Fault::OutOfMemory
+impl From<OutOfMemory> for RowError {
+    fn from(_error: OutOfMemory) -> RowError {
+        RowError::OutOfMemory
     }
 }
 
-impl From<AllocError> for Fault {
-    fn from(_error: AllocError) -> Fault {
-        Fault::OutOfMemory
+impl From<AllocError> for RowError {
+    fn from(_error: AllocError) -> RowError {
+        RowError::OutOfMemory
     }
 }
 
-impl<T: Drop> From<AllocFailed<T>> for Fault {
-    fn from(_error: AllocFailed<T>) -> Fault {
-        Fault::OutOfMemory
+impl<T: Drop> From<AllocFailed<T>> for RowError {
+    fn from(_error: AllocFailed<T>) -> RowError {
+        RowError::OutOfMemory
     }
 }
 
@@ -36,7 +36,7 @@ pub struct Row(Vec<String>);
 impl Row {
     /// The words of a line, between tabs. `\t`, `\n`, `\r` and `\u{..}` are characters, and `\\` is
     /// a backslash.
-    pub fn of_line(alloc: Global, line: &str) -> Result<Row, Fault> {
+    pub fn of_line(alloc: Global, line: &str) -> Result<Row, RowError> {
         let mut words = Vec::new(alloc);
         for word in line.split('\t') {
             words.push(unescaped(alloc, word)?)?;
@@ -44,15 +44,15 @@ impl Row {
         Ok(Row(words))
     }
 
-    pub fn word(&self, place: usize) -> Result<&str, Fault> {
+    pub fn word(&self, place: usize) -> Result<&str, RowError> {
         match self.0.get(place) {
             Some(word) => Ok(word.as_str()),
-            None => Err(Fault::Malformed),
+            None => Err(RowError::Malformed),
         }
     }
 
     /// The word at this place, if it isn't `-`.
-    pub fn maybe(&self, place: usize) -> Result<Option<&str>, Fault> {
+    pub fn maybe(&self, place: usize) -> Result<Option<&str>, RowError> {
         match self.word(place)? {
             "-" => Ok(None),
             word => Ok(Some(word)),
@@ -60,11 +60,11 @@ impl Row {
     }
 
     /// Whether the word is `yes`; otherwise it is `no`.
-    pub fn is_yes(&self, place: usize) -> Result<bool, Fault> {
+    pub fn is_yes(&self, place: usize) -> Result<bool, RowError> {
         match self.word(place)? {
             "yes" => Ok(true),
             "no" => Ok(false),
-            _ => Err(Fault::Malformed),
+            _ => Err(RowError::Malformed),
         }
     }
 
@@ -74,7 +74,7 @@ impl Row {
     }
 }
 
-fn unescaped(alloc: Global, word: &str) -> Result<String, Fault> {
+fn unescaped(alloc: Global, word: &str) -> Result<String, RowError> {
     let mut text = String::new(alloc);
     let mut is_plain = true;
     for piece in word.split('\\') {
@@ -92,7 +92,7 @@ fn unescaped(alloc: Global, word: &str) -> Result<String, Fault> {
 }
 
 // What stands behind a backslash.
-fn push_escape(text: &mut String, piece: &str) -> Result<(), Fault> {
+fn push_escape(text: &mut String, piece: &str) -> Result<(), RowError> {
     let (c, rest) = if let Some(rest) = piece.strip_prefix("t") {
         ('\t', rest)
     } else if let Some(rest) = piece.strip_prefix("n") {
@@ -107,16 +107,16 @@ fn push_escape(text: &mut String, piece: &str) -> Result<(), Fault> {
     Ok(())
 }
 
-fn coded(piece: &str) -> Result<(char, &str), Fault> {
-    let braced = piece.strip_prefix("u{").ok_or(Fault::Malformed)?;
-    let (digits, rest) = braced.split_once('}').ok_or(Fault::Malformed)?;
-    let code = u32::from_str_radix(digits, 16).map_err(|_| Fault::Malformed)?;
-    let c = char::from_u32(code).ok_or(Fault::Malformed)?;
+fn coded(piece: &str) -> Result<(char, &str), RowError> {
+    let braced = piece.strip_prefix("u{").ok_or(RowError::Malformed)?;
+    let (digits, rest) = braced.split_once('}').ok_or(RowError::Malformed)?;
+    let code = u32::from_str_radix(digits, 16).map_err(|_| RowError::Malformed)?;
+    let c = char::from_u32(code).ok_or(RowError::Malformed)?;
     Ok((c, rest))
 }
 
 /// Puts a column behind the others, on the same line.
-pub fn put(out: &mut String, column: &str) -> Result<(), Fault> {
+pub fn put(out: &mut String, column: &str) -> Result<(), RowError> {
     out.push('\t')?;
     for c in column.chars() {
         match c {
@@ -131,7 +131,11 @@ pub fn put(out: &mut String, column: &str) -> Result<(), Fault> {
     Ok(())
 }
 
-pub fn put_shown<T: fmt::Display>(alloc: Global, out: &mut String, value: &T) -> Result<(), Fault> {
+pub fn put_shown<T: fmt::Display>(
+    alloc: Global,
+    out: &mut String,
+    value: &T,
+) -> Result<(), RowError> {
     let text = format!(in alloc; "{value}")?;
     put(out, text.as_str())
 }
@@ -140,16 +144,16 @@ pub fn put_debugged<T: fmt::Debug>(
     alloc: Global,
     out: &mut String,
     value: &T,
-) -> Result<(), Fault> {
+) -> Result<(), RowError> {
     let text = format!(in alloc; "{value:?}")?;
     put(out, text.as_str())
 }
 
-pub fn put_yes(out: &mut String, holds: bool) -> Result<(), Fault> {
+pub fn put_yes(out: &mut String, holds: bool) -> Result<(), RowError> {
     put(out, if holds { "yes" } else { "no" })
 }
 
-pub fn put_maybe(out: &mut String, text: Option<&str>) -> Result<(), Fault> {
+pub fn put_maybe(out: &mut String, text: Option<&str>) -> Result<(), RowError> {
     put(out, text.unwrap_or("-"))
 }
 
@@ -158,19 +162,19 @@ pub fn put_fault<T: fmt::Debug + fmt::Display>(
     alloc: Global,
     out: &mut String,
     fault: &T,
-) -> Result<(), Fault> {
+) -> Result<(), RowError> {
     put_debugged(alloc, out, fault)?;
     put_shown(alloc, out, fault)
 }
 
 /// What a text reads as. Where it reads as none, the fault is put.
-pub fn read<T: ReadText>(alloc: Global, text: &str, out: &mut String) -> Result<Option<T>, Fault>
+pub fn read<T: ReadText>(alloc: Global, text: &str, out: &mut String) -> Result<Option<T>, RowError>
 where
     T::Fault: fmt::Debug + fmt::Display,
 {
     match T::from_str(alloc, text) {
         Ok(value) => Ok(Some(value)),
-        Err(fault) if fault.is_out_of_memory() => Err(Fault::OutOfMemory),
+        Err(fault) if fault.is_out_of_memory() => Err(RowError::OutOfMemory),
         Err(fault) => {
             put_fault(alloc, out, &fault)?;
             Ok(None)
@@ -179,14 +183,14 @@ where
 }
 
 /// A copy, which is to be equal, and of which all is told from then on.
-pub fn copied<T: TryClone + PartialEq + Drop>(alloc: Global, value: T) -> Result<T, Fault> {
+pub fn copied<T: TryClone + PartialEq + Drop>(alloc: Global, value: T) -> Result<T, RowError> {
     let copy = value.try_clone(alloc)?;
     let is_equal = copy == value;
     drop(value);
     if is_equal {
         Ok(copy)
     } else {
-        Err(Fault::Malformed)
+        Err(RowError::Malformed)
     }
 }
 
@@ -195,7 +199,7 @@ pub fn put_read<T: ReadText + TryClone + PartialEq + fmt::Debug + fmt::Display +
     alloc: Global,
     row: &Row,
     out: &mut String,
-) -> Result<(), Fault>
+) -> Result<(), RowError>
 where
     T::Fault: fmt::Debug + fmt::Display,
 {

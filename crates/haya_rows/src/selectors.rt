@@ -1,6 +1,6 @@
 //! Selectors: what is read, where it holds and what it binds there.
 use crate::entries::library;
-use crate::row::{Fault, Row, put as put_column, put_debugged, put_fault, put_maybe, put_shown};
+use crate::row::{Row, RowError, put as put_column, put_debugged, put_fault, put_maybe, put_shown};
 use haya_hits::bindings;
 use hayagriva::{
     BoundSelect, CompiledSelector, Entry, Hit, Library, PreparedSelector, Selector, SelectorError,
@@ -8,7 +8,7 @@ use hayagriva::{
 };
 use std::alloc::Global;
 
-pub fn put(alloc: Global, row: &Row, out: &mut String) -> Result<(), Fault> {
+pub fn put(alloc: Global, row: &Row, out: &mut String) -> Result<(), RowError> {
     match row.word(0)? {
         "selector" => put_selector(alloc, row.word(1)?, out),
         "apply" => {
@@ -23,30 +23,30 @@ pub fn put(alloc: Global, row: &Row, out: &mut String) -> Result<(), Fault> {
             drop(library);
             put
         }
-        _ => Err(Fault::Malformed),
+        _ => Err(RowError::Malformed),
     }
 }
 
-fn fault_of(fault: SelectorError) -> Fault {
+fn fault_of(fault: SelectorError) -> RowError {
     match fault {
-        SelectorError::OutOfMemory => Fault::OutOfMemory,
-        _ => Fault::Malformed,
+        SelectorError::OutOfMemory => RowError::OutOfMemory,
+        _ => RowError::Malformed,
     }
 }
 
-fn parsed(alloc: Global, text: &str) -> Result<Selector, Fault> {
+fn parsed(alloc: Global, text: &str) -> Result<Selector, RowError> {
     Selector::parse(alloc, text).map_err(fault_of)
 }
 
 // The selector, or why there is none, and the place of the fault.
-fn put_selector(alloc: Global, text: &str, out: &mut String) -> Result<(), Fault> {
+fn put_selector(alloc: Global, text: &str, out: &mut String) -> Result<(), RowError> {
     match Selector::parse(alloc, text) {
         Ok(selector) => {
             let put = put_copy(alloc, &selector, out);
             drop(selector);
             put?;
         }
-        Err(SelectorError::OutOfMemory) => return Err(Fault::OutOfMemory),
+        Err(SelectorError::OutOfMemory) => return Err(RowError::OutOfMemory),
         Err(fault) => {
             let fault = fault.try_clone(alloc)?;
             put_fault(alloc, out, &fault)?;
@@ -58,7 +58,7 @@ fn put_selector(alloc: Global, text: &str, out: &mut String) -> Result<(), Fault
     }
 }
 
-fn put_copy(alloc: Global, selector: &Selector, out: &mut String) -> Result<(), Fault> {
+fn put_copy(alloc: Global, selector: &Selector, out: &mut String) -> Result<(), RowError> {
     let copy = selector.try_clone(alloc)?;
     let put = if copy == *selector {
         put_debugged(alloc, out, &copy)
@@ -70,7 +70,12 @@ fn put_copy(alloc: Global, selector: &Selector, out: &mut String) -> Result<(), 
 }
 
 // What a selector answers at the first entry of a library.
-fn apply(alloc: Global, selector: &Selector, lines: &str, out: &mut String) -> Result<(), Fault> {
+fn apply(
+    alloc: Global,
+    selector: &Selector,
+    lines: &str,
+    out: &mut String,
+) -> Result<(), RowError> {
     let library = library(alloc, lines)?;
     let put = put_applied(alloc, selector, &library, out);
     drop(library);
@@ -83,8 +88,8 @@ fn put_applied(
     selector: &Selector,
     library: &Library,
     out: &mut String,
-) -> Result<(), Fault> {
-    let entry = library.nth(0).ok_or(Fault::Malformed)?;
+) -> Result<(), RowError> {
+    let entry = library.nth(0).ok_or(RowError::Malformed)?;
     let mut steps = Steps::new();
     let found = selector.apply_counted(alloc, entry, &mut steps)?;
     put_shown(alloc, out, &steps.seen())?;
@@ -103,7 +108,7 @@ fn put_applied(
 }
 
 // Puts each name that is bound, and the key of its entry, behind a blank each.
-fn push_bound(alloc: Global, text: &mut String, hit: &Hit) -> Result<(), Fault> {
+fn push_bound(alloc: Global, text: &mut String, hit: &Hit) -> Result<(), RowError> {
     for (name, bound) in bindings(alloc, hit)? {
         if !text.is_empty() {
             text.push(' ')?;
@@ -122,7 +127,7 @@ fn ask_names(
     selector: &Selector,
     hit: &Hit,
     told: &mut String,
-) -> Result<(), Fault> {
+) -> Result<(), RowError> {
     for name in NAMES {
         let wanted = hit.bindings.get(name).map(|bound| bound.key());
         let alone = selector.bound(alloc, hit.entry, name)?;
@@ -135,7 +140,7 @@ fn ask_names(
 }
 
 // Whether all other ways of asking say that it holds, or that it doesn't.
-fn alike(alloc: Global, selector: &Selector, entry: &Entry, holds: bool) -> Result<bool, Fault> {
+fn alike(alloc: Global, selector: &Selector, entry: &Entry, holds: bool) -> Result<bool, RowError> {
     let is_applied = selector.apply(alloc, entry)?.is_some();
     let is_matched = selector.matches(alloc, entry)?;
     let compiled = CompiledSelector::new(alloc, selector)?;
@@ -150,7 +155,12 @@ fn alike(alloc: Global, selector: &Selector, entry: &Entry, holds: bool) -> Resu
 }
 
 // How often the evaluator is called, and a column for each hit.
-fn put_query(alloc: Global, library: &Library, text: &str, out: &mut String) -> Result<(), Fault> {
+fn put_query(
+    alloc: Global,
+    library: &Library,
+    text: &str,
+    out: &mut String,
+) -> Result<(), RowError> {
     let mut steps = Steps::new();
     let hits = library.query(alloc, text, &mut steps).map_err(fault_of)?;
     let mut told = String::new(alloc);
@@ -168,7 +178,7 @@ fn put_query(alloc: Global, library: &Library, text: &str, out: &mut String) -> 
     Ok(())
 }
 
-fn put_hit(alloc: Global, out: &mut String, hit: &Hit) -> Result<(), Fault> {
+fn put_hit(alloc: Global, out: &mut String, hit: &Hit) -> Result<(), RowError> {
     let mut bound = String::new(alloc);
     push_bound(alloc, &mut bound, hit)?;
     let blank = if bound.is_empty() { "" } else { " " };
@@ -182,7 +192,7 @@ fn ask_in_turn(
     library: &Library,
     text: &str,
     out: &mut String,
-) -> Result<u64, Fault> {
+) -> Result<u64, RowError> {
     let mut query = library.query_iter(alloc, text).map_err(fault_of)?;
     for hit in &mut query {
         put_hit(alloc, out, &hit.map_err(fault_of)?)?;

@@ -1,6 +1,6 @@
 //! Dates, years and durations.
 use crate::row::{
-    Fault, Row, put as put_column, put_debugged, put_fault, put_read, put_shown, put_yes,
+    Row, RowError, put as put_column, put_debugged, put_fault, put_read, put_shown, put_yes,
 };
 use haya_text::ReadText;
 use haya_time::{Date, Duration, DurationError, DurationRange, Season};
@@ -8,7 +8,7 @@ use std::alloc::Global;
 use std::fmt;
 use std::str::FromStr;
 
-pub fn put(alloc: Global, row: &Row, out: &mut String) -> Result<(), Fault> {
+pub fn put(alloc: Global, row: &Row, out: &mut String) -> Result<(), RowError> {
     match row.word(0)? {
         "date" => put_date(alloc, row, out),
         "made-date" => put_made_date(alloc, row, out),
@@ -32,18 +32,20 @@ pub fn put(alloc: Global, row: &Row, out: &mut String) -> Result<(), Fault> {
             put_yes(out, made.reads_back())
         }
         "durations" => put_debugged(alloc, out, &duration(row, 1)?.cmp(&duration(row, 6)?)),
-        _ => Err(Fault::Malformed),
+        _ => Err(RowError::Malformed),
     }
 }
 
-fn number<T: FromStr>(row: &Row, place: usize) -> Result<T, Fault>
+fn number<T: FromStr>(row: &Row, place: usize) -> Result<T, RowError>
 where
     T::Err: Drop,
 {
-    row.word(place)?.parse::<T>().map_err(|_| Fault::Malformed)
+    row.word(place)?
+        .parse::<T>()
+        .map_err(|_| RowError::Malformed)
 }
 
-fn put_date(alloc: Global, row: &Row, out: &mut String) -> Result<(), Fault> {
+fn put_date(alloc: Global, row: &Row, out: &mut String) -> Result<(), RowError> {
     match Date::from_str(row.word(1)?) {
         Ok(date) => {
             put_debugged(alloc, out, &date)?;
@@ -54,25 +56,25 @@ fn put_date(alloc: Global, row: &Row, out: &mut String) -> Result<(), Fault> {
 }
 
 // A month or a day, from 0 on.
-fn part(row: &Row, place: usize) -> Result<Option<u8>, Fault> {
+fn part(row: &Row, place: usize) -> Result<Option<u8>, RowError> {
     match row.maybe(place)? {
         Some(_) => Ok(Some(number(row, place)?)),
         None => Ok(None),
     }
 }
 
-fn season(row: &Row, place: usize) -> Result<Option<Season>, Fault> {
+fn season(row: &Row, place: usize) -> Result<Option<Season>, RowError> {
     match row.word(place)? {
         "spring" => Ok(Some(Season::Spring)),
         "summer" => Ok(Some(Season::Summer)),
         "autumn" => Ok(Some(Season::Autumn)),
         "winter" => Ok(Some(Season::Winter)),
         "-" => Ok(None),
-        _ => Err(Fault::Malformed),
+        _ => Err(RowError::Malformed),
     }
 }
 
-fn put_made_date(alloc: Global, row: &Row, out: &mut String) -> Result<(), Fault> {
+fn put_made_date(alloc: Global, row: &Row, out: &mut String) -> Result<(), RowError> {
     let date = Date {
         approximate: row.is_yes(1)?,
         year: number(row, 2)?,
@@ -84,15 +86,15 @@ fn put_made_date(alloc: Global, row: &Row, out: &mut String) -> Result<(), Fault
     put_yes(out, date.reads_back())
 }
 
-fn put_dates(alloc: Global, row: &Row, out: &mut String) -> Result<(), Fault> {
+fn put_dates(alloc: Global, row: &Row, out: &mut String) -> Result<(), RowError> {
     let (Ok(a), Ok(b)) = (Date::from_str(row.word(1)?), Date::from_str(row.word(2)?)) else {
-        return Err(Fault::Malformed);
+        return Err(RowError::Malformed);
     };
     put_debugged(alloc, out, &a.partial_cmp(&b))?;
     put_debugged(alloc, out, &a.csl_cmp(&b))
 }
 
-fn put_era(alloc: Global, row: &Row, out: &mut String) -> Result<(), Fault> {
+fn put_era(alloc: Global, row: &Row, out: &mut String) -> Result<(), RowError> {
     let (secular, periods) = (row.is_yes(2)?, row.is_yes(3)?);
     let (positive, prefix) = (row.is_yes(4)?, row.is_yes(5)?);
     let date = Date::from_year(number(row, 1)?);
@@ -105,7 +107,7 @@ fn put_alike<T: ReadText<Fault = DurationError> + FromStr<Err = DurationError> +
     alloc: Global,
     row: &Row,
     out: &mut String,
-) -> Result<(), Fault> {
+) -> Result<(), RowError> {
     let text = row.word(1)?;
     let alike = match (
         <T as FromStr>::from_str(text),
@@ -122,7 +124,7 @@ fn put_alike<T: ReadText<Fault = DurationError> + FromStr<Err = DurationError> +
     }
 }
 
-fn duration(row: &Row, place: usize) -> Result<Duration, Fault> {
+fn duration(row: &Row, place: usize) -> Result<Duration, RowError> {
     Ok(Duration {
         days: number(row, place)?,
         hours: number(row, place.saturating_add(1))?,

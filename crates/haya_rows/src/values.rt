@@ -1,5 +1,7 @@
 //! Values that are typed or a text, publishers and addresses.
-use crate::row::{Fault, Row, copied, put as put_column, put_debugged, put_read, put_shown, read};
+use crate::row::{
+    Row, RowError, copied, put as put_column, put_debugged, put_read, put_shown, read,
+};
 use haya_numbers::{Numeric, PageRanges};
 use haya_text::{ReadText, TryClone};
 use haya_time::{Duration, DurationRange};
@@ -8,7 +10,7 @@ use std::alloc::Global;
 use std::borrow::CowStr;
 use std::fmt;
 
-pub fn put(alloc: Global, row: &Row, out: &mut String) -> Result<(), Fault> {
+pub fn put(alloc: Global, row: &Row, out: &mut String) -> Result<(), RowError> {
     match row.word(0)? {
         "typed-number" => put_typed::<Numeric>(alloc, row, out),
         "typed-pages" => put_typed::<PageRanges>(alloc, row, out),
@@ -20,7 +22,7 @@ pub fn put(alloc: Global, row: &Row, out: &mut String) -> Result<(), Fault> {
             None => Ok(()),
         },
         "url" => put_read::<QualifiedUrl>(alloc, row, out),
-        _ => Err(Fault::Malformed),
+        _ => Err(RowError::Malformed),
     }
 }
 
@@ -30,7 +32,7 @@ fn put_typed<T: ReadText + TryClone + PartialEq + fmt::Debug + fmt::Display + Dr
     alloc: Global,
     row: &Row,
     out: &mut String,
-) -> Result<(), Fault>
+) -> Result<(), RowError>
 where
     T::Fault: fmt::Debug + fmt::Display,
 {
@@ -62,13 +64,13 @@ where
 }
 
 // The order of two texts as numbers, as what is borrowed of these, and as pages.
-fn put_orders(alloc: Global, row: &Row, out: &mut String) -> Result<(), Fault> {
+fn put_orders(alloc: Global, row: &Row, out: &mut String) -> Result<(), RowError> {
     let (a, b) = (row.word(1)?, row.word(2)?);
     put_numbers(alloc, a, b, out)?;
     put_pages(alloc, a, b, out)
 }
 
-fn put_numbers(alloc: Global, a: &str, b: &str, out: &mut String) -> Result<(), Fault> {
+fn put_numbers(alloc: Global, a: &str, b: &str, out: &mut String) -> Result<(), RowError> {
     let Some(a) = read::<MaybeTyped<Numeric>>(alloc, a, out)? else {
         return Ok(());
     };
@@ -80,7 +82,7 @@ fn put_numbers(alloc: Global, a: &str, b: &str, out: &mut String) -> Result<(), 
     put_debugged(alloc, out, &x.csl_cmp(&y))
 }
 
-fn put_pages(alloc: Global, a: &str, b: &str, out: &mut String) -> Result<(), Fault> {
+fn put_pages(alloc: Global, a: &str, b: &str, out: &mut String) -> Result<(), RowError> {
     let Some(a) = read::<MaybeTyped<PageRanges>>(alloc, a, out)? else {
         return Ok(());
     };

@@ -13,8 +13,8 @@ use Rattle.hayagriva.proofs.Queries.{asks-none, asks-more}
 use Rattle.haya_hits.specs.Line.{AreLinesAt, IsLineAt, IsLineOf}
 use Rattle.haya_run.specs.Output.{PrintsPart}
 use Rattle.haya_hits.proofs.Lines.{line_at, one_more_line}
-use Rattle.haya_run.specs.declared.fault.Fault.{Fault}
-use Rattle.haya_run.specs.declared.fault.Fault.TheVariants.{CannotWrite}
+use Rattle.haya_run.specs.declared.error.RunError.{RunError}
+use Rattle.haya_run.specs.declared.error.RunError.TheVariants.{CannotWrite}
 
 -- the lines of the entries that were asked so far are printed
 pub record Printed (q r : QueryState) (before after : Option (List ℕ)) : Type 0 where
@@ -57,7 +57,7 @@ module _ (q r : QueryState) (before mid after : Option (List ℕ)) (p : Printed 
       (p.printed, rw whole at p.shows, Appends-kept before mid after p.printed p.prints k)
 
   -- a fault comes before the next line is handed on
-  pub part_printed : (fault : Fault) → Keeps mid after → PrintsPart q.selector q.left before after fault
+  pub part_printed : (fault : RunError) → Keeps mid after → PrintsPart q.selector q.left before after fault
   part_printed fault k = record {
     first = filter (holds q.selector) p.asked;
     rest = filter (holds q.selector) r.left;

@@ -10,9 +10,9 @@ use Rattle.hayagriva.specs.Syntax.{Syntax}
 use Rattle.hayagriva.specs.Tree.{Tree}
 use Rattle.haya_hits.specs.Line.{AreLines, AreLinesAt, IsLineAt}
 use Rattle.haya_input.specs.Input.{Describes, rows_read}
-use Rattle.haya_run.specs.declared.fault.Fault.{Fault as RunFault}
-use Rattle.haya_run.specs.declared.fault.Fault.TheVariants.{CannotWrite}
-use Rattle.haya_lines.specs.declared.fault.LineFault.{LineFault}
+use Rattle.haya_run.specs.declared.error.RunError.{RunError}
+use Rattle.haya_run.specs.declared.error.RunError.TheVariants.{CannotWrite}
+use Rattle.haya_lines.specs.declared.error.LineError.{LineError}
 
 -- a run that ends well with one word: the word reads as a selector, all input that was left is
 -- UTF-8 and describes a library, and what is printed behind what was there are the lines of its
@@ -39,7 +39,7 @@ BeginsLineAt s (x ∷ xs) piece = (behind : List ℕ) × IsLineAt s x (piece ++ 
 -- selector holds, whole lines alone, but that a write that fails may have taken the beginning of
 -- the next
 pub record PrintsPart (s : Syntax) (library : List Tree)
-    (before after : Option (List ℕ)) (fault : RunFault) : Type 0 where
+    (before after : Option (List ℕ)) (fault : RunError) : Type 0 where
   pub first : List Tree
   pub rest : List Tree
   pub printed : List ℕ
@@ -53,7 +53,7 @@ pub record PrintsPart (s : Syntax) (library : List Tree)
 -- a run that ends with a fault while it prints: the word reads as a selector, all input that was
 -- left is UTF-8 and describes a library, and what is printed is a part of what `Answers` says
 pub record AnswersPart (word : List ℕ)
-    (unread left before after : Option (List ℕ)) (fault : RunFault) : Type 0 where
+    (unread left before after : Option (List ℕ)) (fault : RunError) : Type 0 where
   pub text : List ℕ
   pub library : List Tree
   pub selector : Syntax
@@ -66,7 +66,7 @@ pub record AnswersPart (word : List ℕ)
 
 -- what a run that ends with a fault leaves on the output: nothing more than was there, or a part
 abbrev pub Stands : List ℕ → Option (List ℕ) → Option (List ℕ) → Option (List ℕ)
-    → Option (List ℕ) → RunFault → Type 0
+    → Option (List ℕ) → RunError → Type 0
 Stands word unread left before after fault =
     Keeps before after ⊎ AnswersPart word unread left before after fault
 
@@ -75,5 +75,5 @@ Stands word unread left before after fault =
 pub record KeepsAtFault (word : List ℕ) (unread before after : Option (List ℕ)) : Type 0 where
   pub no_selector : (fault : Fault) → TextFails (chars word) fault → Keeps before after
   pub no_text : (text : List ℕ) → unread ≡ Some text → ¬ IsUtf8 text → Keeps before after
-  pub faulty_line : (text : List ℕ) (fault : ℕ × LineFault) → unread ≡ Some text
+  pub faulty_line : (text : List ℕ) (fault : ℕ × LineError) → unread ≡ Some text
       → rows_read 1 0 (lines text) ≡ Err fault → Keeps before after

@@ -7,10 +7,10 @@
 //! ```
 #![tactic(auto)]
 
-mod fault;
+mod error;
 pub mod laws;
 mod printing;
 mod running;
 
-pub use fault::Fault;
+pub use error::RunError;
 pub use running::{run, run_given};

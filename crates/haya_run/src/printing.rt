@@ -1,11 +1,11 @@
 //! Prints hits, a line each.
 ghost use Rattle.std.specs.Prelude.{◌≡◌, ◌⊎◌, IfErr, List, ℕ, OnOk};
 ghost use Rattle.std.specs.Io.KnownBytes.{Appends};
-ghost use Rattle.haya_run.specs.declared.fault.Fault.TheVariants.{CannotWrite, OutOfMemory};
+ghost use Rattle.haya_run.specs.declared.error.RunError.TheVariants.{CannotWrite, OutOfMemory};
 ghost use Rattle.haya_hits.specs.Line.{AreLinesAt};
 ghost use Rattle.haya_run.specs.Output.{PrintsPart};
 
-use crate::fault::Fault;
+use crate::error::RunError;
 use haya_hits::push_line;
 use haya_stream::write_all;
 use hayagriva::Query;
@@ -15,7 +15,7 @@ use std::io::Write;
 /// Prints each hit's line before the next entry is evaluated. A line is composed whole and handed
 /// on by one write, so at a fault the lines of a first part of the hits stand there, whole, and
 /// behind them at most what a write that failed had taken of the next.
-pub fn print_hits<W: Write>(alloc: Global, hits: &mut Query, out: &mut W) -> Result<(), Fault>
+pub fn print_hits<W: Write>(alloc: Global, hits: &mut Query, out: &mut W) -> Result<(), RunError>
     ensures printed { OnOk result ((printed : List ℕ)
         × AreLinesAt hits.old.selector hits.old.left printed
         × Appends (W.contents out.old) (W.contents out.new) printed) }
@@ -31,6 +31,6 @@ pub fn print_hits<W: Write>(alloc: Global, hits: &mut Query, out: &mut W) -> Res
     }
     match out.flush() {
         Ok(()) => Ok(()),
-        Err(_) => Err(Fault::CannotWrite),
+        Err(_) => Err(RunError::CannotWrite),
     }
 }

@@ -3,12 +3,12 @@ ghost use Rattle.std.specs.Prelude.{◌≡◌, ◌≢◌, ◌≤◌, length, sli
 ghost use Rattle.std.specs.Prelude.{IsErrOf, OnOk};
 ghost use Rattle.std.specs.Io.KnownBytes.{Keeps};
 ghost use Rattle.std.specs.Process.{exit_status};
-ghost use Rattle.haya_run.specs.declared.fault.Fault.{Fault as FaultData};
-ghost use Rattle.haya_run.specs.declared.fault.Fault.TheVariants.{Usage};
+ghost use Rattle.haya_run.specs.declared.error.RunError.{RunError as FaultData};
+ghost use Rattle.haya_run.specs.declared.error.RunError.TheVariants.{Usage};
 ghost use Rattle.haya_run.specs.Output.{Answers, KeepsAtFault, Stands};
 ghost use Rattle.haya_run.specs.Words.{IsStatus, words_of};
 
-use crate::fault::Fault;
+use crate::error::RunError;
 use crate::printing::print_hits;
 use haya_input::read_library;
 use haya_stream::read_all;
@@ -23,7 +23,7 @@ use std::process::ExitCode;
 /// there are none, the input can't be read.
 pub fn run_given<R: Read, W: Write, E: Write>(
     alloc: Global,
-    given: Result<Vec<String>, Fault>,
+    given: Result<Vec<String>, RunError>,
     keys: Option<HashKeys>,
     input: &mut R,
     out: &mut W,
@@ -81,7 +81,7 @@ pub fn run<R: Read, W: Write, E: Write>(
 }
 
 // Tells the fault, if there is one, and answers the status that it ends with, or 0.
-fn conclude<E: Write>(ended: &Result<(), Fault>, err: &mut E) -> u8
+fn conclude<E: Write>(ended: &Result<(), RunError>, err: &mut E) -> u8
     ensures ok { OnOk ended.now ((result ≡ 0) × (err.new ≡ err.old)) }
     ensures usage { IsErrOf ended.now Usage → result ≡ 2 }
     ensures other { IfErr ended.now (λ e. e ≢ Usage → result ≡ 1) }
@@ -93,7 +93,7 @@ fn conclude<E: Write>(ended: &Result<(), Fault>, err: &mut E) -> u8
 }
 
 // Tells the fault in one line, and answers the status that it ends with.
-fn complain<E: Write>(fault: &Fault, err: &mut E) -> u8
+fn complain<E: Write>(fault: &RunError, err: &mut E) -> u8
     ensures usage { fault.now ≡ Usage → result ≡ 2 }
     ensures other { fault.now ≢ Usage → result ≡ 1 }
 {
@@ -110,7 +110,7 @@ fn answer<R: Read, W: Write>(
     keys: Option<HashKeys>,
     input: &mut R,
     out: &mut W,
-) -> Result<(), Fault>
+) -> Result<(), RunError>
     ensures answer { OnOk result (IfSome (slice_get words.now 0) (λ word.
         Answers (string_bytes word) (R.remaining input.old) (R.remaining input.new)
         (W.contents out.old) (W.contents out.new))) }
@@ -125,10 +125,10 @@ fn answer<R: Read, W: Write>(
         (R.remaining input.old) (W.contents out.old) (W.contents out.new)) }
 {
     let [word] = words else {
-        return Err(Fault::Usage);
+        return Err(RunError::Usage);
     };
     let Some(keys) = keys else {
-        return Err(Fault::CannotRead);
+        return Err(RunError::CannotRead);
     };
     answer_word(alloc, word.as_str(), keys, input, out)
 }
@@ -140,7 +140,7 @@ fn answer_word<R: Read, W: Write>(
     keys: HashKeys,
     input: &mut R,
     out: &mut W,
-) -> Result<(), Fault>
+) -> Result<(), RunError>
     ensures answer { OnOk result (Answers word.now (R.remaining input.old)
         (R.remaining input.new) (W.contents out.old) (W.contents out.new)) }
     ensures other { IfErr result (λ e. e ≢ Usage) }
@@ -151,7 +151,7 @@ fn answer_word<R: Read, W: Write>(
 {
     let bytes = read_all(alloc, input, &mut ())?;
     let Ok(text) = str::from_utf8(bytes.as_slice()) else {
-        return Err(Fault::NotText);
+        return Err(RunError::NotText);
     };
     let library = read_library(alloc, keys, text)?;
     let mut hits = library.query_iter(alloc, word)?;

@@ -9,8 +9,8 @@ use Rattle.std.proofs.lemmas.List.Sums.{sum_by-append}
 use Rattle.haya_stream.specs.Turns.{HasNoFeed, ended_count, turns, turns_in}
 use Rattle.haya_stream.specs.Answered.{Answers, Parts, Takes, turns_of}
 use Rattle.haya_stream.specs.Streamed.{HaveEnded}
-use Rattle.haya_stream.specs.declared.fault.StreamFault.{StreamFault}
-use Rattle.haya_stream.specs.declared.fault.StreamFault.TheVariants.{CannotRead, CannotWrite, NotText, OutOfMemory, Refused}
+use Rattle.haya_stream.specs.declared.error.StreamError.{StreamError}
+use Rattle.haya_stream.specs.declared.error.StreamError.TheVariants.{CannotRead, CannotWrite, NotText, OutOfMemory, Refused}
 
 -- ---- where a text is cut
 pub record IsSome {X : Type 0} (xs : List X) : Type 0 where
@@ -118,7 +118,7 @@ module _ {S : Type 0} {answers : S → Option (List ℕ) → List ℕ → S → 
 
 -- ---- lines that have ended
 module _ {E : Type 0} where
-  pub ended_most : (text : List ℕ) (n : ℕ) (fault : StreamFault E) → HaveEnded text n fault → n ≤ ended_count text
+  pub ended_most : (text : List ℕ) (n : ℕ) (fault : StreamError E) → HaveEnded text n fault → n ≤ ended_count text
   ended_most text n (CannotRead e) ended = omega arith
   ended_most text n (CannotWrite e) ended = ended
   ended_most text n NotText ended = omega arith
@@ -126,7 +126,7 @@ module _ {E : Type 0} where
   ended_most text n OutOfMemory ended = ended
 
   -- so many lines stand in front
-  pub ended_behind : (text rest : List ℕ) (n m k : ℕ) (fault : StreamFault E) → ended_count text ≡ k + ended_count rest → m ≡ k + n → HaveEnded rest n fault → HaveEnded text m fault
+  pub ended_behind : (text rest : List ℕ) (n m k : ℕ) (fault : StreamError E) → ended_count text ≡ k + ended_count rest → m ≡ k + n → HaveEnded rest n fault → HaveEnded text m fault
   ended_behind text rest n m k (CannotRead e) more is ended = omega arith
   ended_behind text rest n m k (CannotWrite e) more is ended = omega arith
   ended_behind text rest n m k NotText more is ended = omega arith
@@ -135,7 +135,7 @@ module _ {E : Type 0} where
 
   -- the text went on by a block, lines of which are answered
   pub block_ended : {S : Type 0} {answers : S → Option (List ℕ) → List ℕ → S → Type 0} (text held block : List ℕ) (later : List (Option (List ℕ))) (s t u v : S) (printed more all : List ℕ)
-      (p : Takes answers text held s t printed) (q : Answers answers (held ++ block) later t u more) (a : Answers answers (text ++ block) later s v all) (fault : StreamFault E)
+      (p : Takes answers text held s t printed) (q : Answers answers (held ++ block) later t u more) (a : Answers answers (text ++ block) later s v all) (fault : StreamError E)
       → HaveEnded (held ++ block) (length q.parts) fault → HaveEnded (text ++ block) (length a.parts) fault
   block_ended text held block later s t u v printed more all p q a fault ended =
       let taken = taken_count p in

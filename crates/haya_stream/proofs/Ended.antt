@@ -9,8 +9,8 @@ use Rattle.std.proofs.lemmas.List.Elements.{All-cons, All-nil}
 use Rattle.haya_stream.specs.Turns.{AreWholeLines, HasNoFeed, ended_count, turns}
 use Rattle.haya_stream.specs.Answered.{Answers, StopsFirst, turns_of}
 use Rattle.haya_stream.specs.Streamed.{AnswersEnough, AnswersPart, HaveEnded, IsEndedPart, Why, Writes}
-use Rattle.haya_stream.specs.declared.fault.StreamFault.{StreamFault}
-use Rattle.haya_stream.specs.declared.fault.StreamFault.TheVariants.{CannotRead, CannotWrite, NotText, OutOfMemory, Refused}
+use Rattle.haya_stream.specs.declared.error.StreamError.{StreamError}
+use Rattle.haya_stream.specs.declared.error.StreamError.TheVariants.{CannotRead, CannotWrite, NotText, OutOfMemory, Refused}
 use Rattle.haya_stream.proofs.Counted.{ended_count-append, ended_count_first, ended_count_none, ended_most, lines_before, lines_before_count, turns_feed}
 
 -- ---- a text is cut behind its last line feed
@@ -151,26 +151,26 @@ module _ {S : Type 0} (answers : S → Option (List ℕ) → List ℕ → S → 
           let e = answers_ended answers a.text a.later s t a.printed a.first within in
           (e.part, inr e.of_text, e.mid ++ None ∷ [], e.first, λ none. absurd (no_snoc e.mid None none))
 
-  module _ {E : Type 0} (refuses : S → Option (List ℕ) → E → Type 0) where
-    stops_first : (t : S) (mid others more : List (Option (List ℕ))) (fault : StreamFault E) → 0 < length mid → StopsFirst refuses t (mid ++ others) fault
-        → StopsFirst refuses t (mid ++ more) fault
+  module _ {E : Type 0} (refuses : S → Option (List ℕ) → E → S → Type 0) (v : S) where
+    stops_first : (t : S) (mid others more : List (Option (List ℕ))) (fault : StreamError E) → 0 < length mid → StopsFirst refuses t (mid ++ others) v fault
+        → StopsFirst refuses t (mid ++ more) v fault
     stops_first t [] others more fault some stops = absurd (omega arith)
     stops_first t (turn ∷ mid) others more fault some stops = stops
 
     -- so many lines are answered, and these have ended but aren't
-    why_ended : (t : S) (text : List ℕ) (n : ℕ) (mid others : List (Option (List ℕ))) (unwritten : List ℕ) (fault : StreamFault E) → n + length mid ≡ ended_count text
-        → HaveEnded text n fault → Why refuses t (mid ++ others) unwritten fault → Why refuses t (mid ++ None ∷ []) unwritten fault
-    why_ended t text n mid others unwritten (CannotRead e) count ended why = (rw (length-append mid (None ∷ [])) (omega arith), why.1)
+    why_ended : (t : S) (text : List ℕ) (n : ℕ) (mid others : List (Option (List ℕ))) (unwritten : List ℕ) (fault : StreamError E) → n + length mid ≡ ended_count text
+        → HaveEnded text n fault → Why refuses t (mid ++ others) unwritten v fault → Why refuses t (mid ++ None ∷ []) unwritten v fault
+    why_ended t text n mid others unwritten (CannotRead e) count ended why = (rw (length-append mid (None ∷ [])) (omega arith), why.1, why.2)
     why_ended t text n mid others unwritten (CannotWrite e) count ended why = tt
     why_ended t text n mid others unwritten NotText count ended why = (stops_first t mid others (None ∷ []) NotText (omega arith) why.0, why.1)
     why_ended t text n mid others unwritten (Refused e) count ended why = (stops_first t mid others (None ∷ []) (Refused e) (omega arith) why.0, why.1)
     why_ended t text n mid others unwritten OutOfMemory count ended why = why
 
-    abbrev pub WritesOfPart : Option (List ℕ) → List ℕ → S → Option (List ℕ) → Option (List ℕ) → StreamFault E → Type 0
+    abbrev pub WritesOfPart : Option (List ℕ) → List ℕ → S → Option (List ℕ) → Option (List ℕ) → StreamError E → Type 0
     WritesOfPart left text s before after fault =
-        (part : List ℕ) × IsEndedPart left text part × (writes : Writes answers refuses part s before after fault) × (writes.later ≡ [] → IsAtEnd left)
+        (part : List ℕ) × IsEndedPart left text part × (writes : Writes answers refuses part s v before after fault) × (writes.later ≡ [] → IsAtEnd left)
 
-    pub part_ended : (s : S) (unread left before after : Option (List ℕ)) (fault : StreamFault E) (a : AnswersPart answers refuses s unread left before after fault)
+    pub part_ended : (s : S) (unread left before after : Option (List ℕ)) (fault : StreamError E) (a : AnswersPart answers refuses s v unread left before after fault)
         → WritesOfPart left a.text s before after fault
     part_ended s unread left before after fault a = by a.ended
       where

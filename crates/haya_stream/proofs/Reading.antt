@@ -6,13 +6,13 @@ use Rattle.std.specs.Io.KnownBytes.{Appends, Consumes, IsAtEnd, Keeps}
 use Rattle.haya_stream.specs.Turns.{HasNoFeed, ended_count, turns}
 use Rattle.haya_stream.specs.Answered.{Answers, StopsAt, StopsFirst, Takes}
 use Rattle.haya_stream.specs.Streamed.{AnswersAll, AnswersEnough, AnswersPart, HaveEnded, Moves, Why, Writes}
-use Rattle.haya_stream.specs.declared.fault.StreamFault.{StreamFault}
-use Rattle.haya_stream.specs.declared.fault.StreamFault.TheVariants.{CannotRead, CannotWrite, NotText, OutOfMemory, Refused}
+use Rattle.haya_stream.specs.declared.error.StreamError.{StreamError}
+use Rattle.haya_stream.specs.declared.error.StreamError.TheVariants.{CannotRead, CannotWrite, NotText, OutOfMemory, Refused}
 use Rattle.haya_stream.proofs.Taken.{StopsEnded, answered_on, few_turns, none_taken, taken_first, taken_on}
 use Rattle.haya_stream.proofs.Counted.{block_ended, ended_count_none, ended_most, same_count, taken_count}
 
-module _ {S E : Type 0} (answers : S → Option (List ℕ) → List ℕ → S → Type 0) (refuses : S → Option (List ℕ) → E → Type 0) where
-  pub why_first : (t : S) (later : List (Option (List ℕ))) (fault : StreamFault E) → StopsFirst refuses t later fault → Why refuses t later [] fault
+module _ {S E : Type 0} (answers : S → Option (List ℕ) → List ℕ → S → Type 0) (refuses : S → Option (List ℕ) → E → S → Type 0) (v : S) where
+  pub why_first : (t : S) (later : List (Option (List ℕ))) (fault : StreamError E) → StopsFirst refuses t later v fault → Why refuses t later [] v fault
   why_first t [] fault why = absurd why
   why_first t (turn ∷ later) (CannotRead e) why = absurd why
   why_first t (turn ∷ later) (CannotWrite e) why = tt
@@ -22,8 +22,8 @@ module _ {S E : Type 0} (answers : S → Option (List ℕ) → List ℕ → S �
 
   module _ (text : List ℕ) (s : S) (before after : Option (List ℕ)) where
     -- what is printed is written
-    abbrev pub stop_written : (printed : List ℕ) (fault : StreamFault E) → StopsAt answers refuses text s printed fault → Appends before after printed
-        → Writes answers refuses text s before after fault
+    abbrev pub stop_written : (printed : List ℕ) (fault : StreamError E) → StopsAt answers refuses text s v printed fault → Appends before after printed
+        → Writes answers refuses text s v before after fault
     stop_written printed fault stop prints = record {
       later = stop.later;
       last = stop.last;
@@ -36,7 +36,7 @@ module _ {S E : Type 0} (answers : S → Option (List ℕ) → List ℕ → S �
 
     -- a first part of it is
     abbrev pub part_written : (later : List (Option (List ℕ))) (last : S) (printed first rest : List ℕ) (fault : _) → printed ≡ first ++ rest → Answers answers text later s last printed
-        → Appends before after first → Writes answers refuses text s before after (CannotWrite fault)
+        → Appends before after first → Writes answers refuses text s v before after (CannotWrite fault)
     part_written later last printed first rest fault parts answered prints = record {
       later = later;
       last = last;
@@ -48,8 +48,8 @@ module _ {S E : Type 0} (answers : S → Option (List ℕ) → List ℕ → S �
     }
 
 -- each line that is answered, or refused, has ended
-abbrev pub WritesEnded : {S E : Type 0} → (S → Option (List ℕ) → List ℕ → S → Type 0) → (S → Option (List ℕ) → E → Type 0) → List ℕ → S → Option (List ℕ) → Option (List ℕ) → StreamFault E → Type 0
-WritesEnded answers refuses text s before after fault = (writes : Writes answers refuses text s before after fault) × HaveEnded text (length writes.first.parts) fault
+abbrev pub WritesEnded : {S E : Type 0} → (S → Option (List ℕ) → List ℕ → S → Type 0) → (S → Option (List ℕ) → E → S → Type 0) → List ℕ → S → S → Option (List ℕ) → Option (List ℕ) → StreamError E → Type 0
+WritesEnded answers refuses text s v before after fault = (writes : Writes answers refuses text s v before after fault) × HaveEnded text (length writes.first.parts) fault
 
 -- what is answered of a text, whether it stops or not
 pub record Some_answered {S : Type 0} (answers : S → Option (List ℕ) → List ℕ → S → Type 0) (text : List ℕ) (s : S) (printed : List ℕ) : Type 0 where
@@ -57,7 +57,7 @@ pub record Some_answered {S : Type 0} (answers : S → Option (List ℕ) → Lis
   pub last : S
   pub first : Answers answers text later s last printed
 
-module _ {S E : Type 0} (answers : S → Option (List ℕ) → List ℕ → S → Type 0) (refuses : S → Option (List ℕ) → E → Type 0) (text : List ℕ) (s : S) (old new : List ℕ) (empty : old ≡ []) where
+module _ {S E : Type 0} (answers : S → Option (List ℕ) → List ℕ → S → Type 0) (refuses : S → Option (List ℕ) → E → S → Type 0) (text : List ℕ) (s v : S) (old new : List ℕ) (empty : old ≡ []) where
   all_new : (more : List ℕ) → new ≡ old ++ more → more ≡ new
   all_new more is = sym (is ∙ ap (λ l. l ++ more) empty)
 
@@ -65,47 +65,47 @@ module _ {S E : Type 0} (answers : S → Option (List ℕ) → List ℕ → S �
   some_first later t more first is = record { later = later; last = t; first = subst (Answers answers text later s t) (all_new more is) first }
 
   -- ---- of what is read to its end
-  abbrev Stopped : StreamFault E → Type 0
-  Stopped fault = (more : List ℕ) × StopsAt answers refuses text s more fault × (new ≡ old ++ more)
+  abbrev Stopped : StreamError E → Type 0
+  Stopped fault = (more : List ℕ) × StopsAt answers refuses text s v more fault × (new ≡ old ++ more)
 
-  pub some_ended : (t : S) (P : List (Option (List ℕ)) → Type 0) (r : Result (Unit {0}) (StreamFault E)) → OnOk r ((more : List ℕ) × (later : List (Option (List ℕ))) × Answers answers text later s t more × P later × (new ≡ old ++ more))
+  pub some_ended : (t : S) (P : List (Option (List ℕ)) → Type 0) (r : Result (Unit {0}) (StreamError E)) → OnOk r ((more : List ℕ) × (later : List (Option (List ℕ))) × Answers answers text later s t more × P later × (new ≡ old ++ more))
       → IfErr r Stopped → Some_answered answers text s new
   some_ended t P (Ok done) took stopped = some_first took.1 t took.0 took.2 took.4
   some_ended t P (Err fault) took stopped = some_first stopped.1.later stopped.1.last stopped.0 stopped.1.first stopped.2
 
-  pub stopped_written : (before after : Option (List ℕ)) (r : Result (Unit {0}) (StreamFault E)) → IfErr r Stopped → Appends before after new
-      → IfErr r (Writes answers refuses text s before after)
+  pub stopped_written : (before after : Option (List ℕ)) (r : Result (Unit {0}) (StreamError E)) → IfErr r Stopped → Appends before after new
+      → IfErr r (Writes answers refuses text s v before after)
   stopped_written before after (Ok done) stopped prints = tt
   stopped_written before after (Err fault) stopped prints =
-      stop_written answers refuses text s before after new fault (subst (λ p. StopsAt answers refuses text s p fault) (all_new stopped.0 stopped.2) stopped.1) prints
+      stop_written answers refuses v text s before after new fault (subst (λ p. StopsAt answers refuses text s v p fault) (all_new stopped.0 stopped.2) stopped.1) prints
 
   -- ---- of what may go on
-  abbrev BlockStopped : StreamFault E → Type 0
-  BlockStopped fault = (more : List ℕ) × (stops : StopsAt answers refuses text s more fault) × (new ≡ old ++ more) × HaveEnded text (length stops.first.parts) fault
+  abbrev BlockStopped : StreamError E → Type 0
+  BlockStopped fault = (more : List ℕ) × (stops : StopsAt answers refuses text s v more fault) × (new ≡ old ++ more) × HaveEnded text (length stops.first.parts) fault
 
   module _ (before after : Option (List ℕ)) (fault : _) (first rest : List ℕ) (parts : new ≡ first ++ rest) (prints : Appends before after first) where
     part_of : (later : List (Option (List ℕ))) (t : S) (more : List ℕ) (a : Answers answers text later s t more) → new ≡ old ++ more → length a.parts ≤ ended_count text
-        → WritesEnded answers refuses text s before after (CannotWrite fault)
+        → WritesEnded answers refuses text s v before after (CannotWrite fault)
     part_of later t more a is ended =
-        let writes = part_written answers refuses text s before after later t new first rest fault parts (subst (Answers answers text later s t) (all_new more is) a) prints in
+        let writes = part_written answers refuses v text s before after later t new first rest fault parts (subst (Answers answers text later s t) (all_new more is) a) prints in
         let same = same_count writes.first a in
         (writes, omega arith)
 
-    pub part_ended : (t : S) (P : List ℕ → Type 0) (r : Result (Unit {0}) (StreamFault E))
+    pub part_ended : (t : S) (P : List ℕ → Type 0) (r : Result (Unit {0}) (StreamError E))
         → OnOk r ((more : List ℕ) × (rest : List ℕ) × Takes answers text rest s t more × P rest × (new ≡ old ++ more)) → IfErr r BlockStopped
-        → WritesEnded answers refuses text s before after (CannotWrite fault)
+        → WritesEnded answers refuses text s v before after (CannotWrite fault)
     part_ended t P (Ok done) took stopped =
         let ended = taken_count took.2 in
         part_of (turns took.1) t took.0 (taken_first answers text took.1 s t took.0 took.2) took.4 (omega arith)
     part_ended t P (Err stop) took stopped =
         part_of stopped.1.later stopped.1.last stopped.0 stopped.1.first stopped.2 (ended_most text (length stopped.1.first.parts) stop stopped.3)
 
-  pub block_written : (before after : Option (List ℕ)) (r : Result (Unit {0}) (StreamFault E)) → IfErr r BlockStopped → Appends before after new
-      → IfErr r (WritesEnded answers refuses text s before after)
+  pub block_written : (before after : Option (List ℕ)) (r : Result (Unit {0}) (StreamError E)) → IfErr r BlockStopped → Appends before after new
+      → IfErr r (WritesEnded answers refuses text s v before after)
   block_written before after (Ok done) stopped prints = tt
   block_written before after (Err fault) stopped prints =
-      let stop = subst (λ p. StopsEnded answers refuses text s p fault) (all_new stopped.0 stopped.2) (stopped.1, stopped.3) in
-      let writes = stop_written answers refuses text s before after new fault stop.0 prints in
+      let stop = subst (λ p. StopsEnded answers refuses text s v p fault) (all_new stopped.0 stopped.2) (stopped.1, stopped.3) in
+      let writes = stop_written answers refuses v text s before after new fault stop.0 prints in
       (writes, subst (λ n. HaveEnded text n fault) (same_count stop.0.first writes.first) stop.1)
 
 -- what was read is a text, of which lines are answered but for what is held
@@ -201,9 +201,9 @@ module _ {S : Type 0} (answers : S → Option (List ℕ) → List ℕ → S → 
             prints = printed;
           })
 
-    module _ {E : Type 0} (refuses : S → Option (List ℕ) → E → Type 0) where
-      abbrev writes_on : (block : List ℕ) (fault : StreamFault E) → Writes answers refuses (held ++ block) t mid after fault
-          → Writes answers refuses (so_far.text ++ block) s before after fault
+    module _ {E : Type 0} (refuses : S → Option (List ℕ) → E → S → Type 0) (v : S) where
+      abbrev writes_on : (block : List ℕ) (fault : StreamError E) → Writes answers refuses (held ++ block) t v mid after fault
+          → Writes answers refuses (so_far.text ++ block) s v before after fault
       writes_on block fault part = record {
         later = part.later;
         last = part.last;
@@ -216,8 +216,8 @@ module _ {S : Type 0} (answers : S → Option (List ℕ) → List ℕ → S → 
         prints = Appends-trans before mid after so_far.printed part.written so_far.prints part.prints;
       }
 
-      pub block_part : (block : List ℕ) (fault : StreamFault E) → Consumes mid_unread left block → WritesEnded answers refuses (held ++ block) t mid after fault
-          → AnswersPart answers refuses s unread left before after fault
+      pub block_part : (block : List ℕ) (fault : StreamError E) → Consumes mid_unread left block → WritesEnded answers refuses (held ++ block) t v mid after fault
+          → AnswersPart answers refuses s v unread left before after fault
       block_part block fault read part = record {
         text = so_far.text ++ block;
         read = Consumes-trans unread mid_unread left so_far.text block so_far.read read;
@@ -226,8 +226,8 @@ module _ {S : Type 0} (answers : S → Option (List ℕ) → List ℕ → S → 
             (block_ended so_far.text held block part.0.later s t part.0.last part.0.last so_far.printed _ _ so_far.takes part.0.first (writes_on block fault part.0).first fault part.1);
       }
 
-      pub end_part : (r : Result (Unit {0}) (StreamFault E)) → Consumes mid_unread left [] → IsAtEnd left → IfErr r (Writes answers refuses held t mid after)
-          → IfErr r (AnswersPart answers refuses s unread left before after)
+      pub end_part : (r : Result (Unit {0}) (StreamError E)) → Consumes mid_unread left [] → IsAtEnd left → IfErr r (Writes answers refuses held t v mid after)
+          → IfErr r (AnswersPart answers refuses s v unread left before after)
       end_part (Ok done) read at_end part = tt
       end_part (Err fault) read at_end part = record {
         text = so_far.text ++ [];
@@ -236,8 +236,8 @@ module _ {S : Type 0} (answers : S → Option (List ℕ) → List ℕ → S → 
         ended = inl at_end;
       }
 
-      pub read_fails : (error : _) → HasNoFeed held → Keeps mid_unread left → AnswersPart answers refuses s unread left before mid (CannotRead error)
-      read_fails error none keeps =
+      pub read_fails : (error : _) → HasNoFeed held → Keeps mid_unread left → v ≡ t → AnswersPart answers refuses s v unread left before mid (CannotRead error)
+      read_fails error none keeps same_state =
           let answered = taken_first answers so_far.text held s t so_far.printed so_far.takes in
           let first : Answers answers so_far.text (turns held) s t (so_far.printed ++ []) = rw (append-nil so_far.printed) answered in
           let same = same_count first answered in
@@ -252,7 +252,7 @@ module _ {S : Type 0} (answers : S → Option (List ℕ) → List ℕ → S → 
               written = so_far.printed;
               unwritten = [];
               first = first;
-              why = (few_turns held none, refl);
+              why = (few_turns held none, refl, same_state);
               prints = so_far.prints;
             };
             ended = inr (omega arith);

@@ -12,8 +12,8 @@ use Rattle.std.proofs.lemmas.List.Splits.{slice_split_none}
 use Rattle.haya_stream.specs.Turns.{HasNoFeed, ended_count, turns, turns_in}
 use Rattle.haya_stream.specs.Answered.{Answers, Parts, Run, IsText, StopsAt, StopsBefore, StopsFirst, Takes, printed_of, turns_of}
 use Rattle.haya_stream.specs.Streamed.{HaveEnded}
-use Rattle.haya_stream.specs.declared.fault.StreamFault.{StreamFault}
-use Rattle.haya_stream.specs.declared.fault.StreamFault.TheVariants.{CannotRead, CannotWrite, NotText, OutOfMemory, Refused}
+use Rattle.haya_stream.specs.declared.error.StreamError.{StreamError}
+use Rattle.haya_stream.specs.declared.error.StreamError.TheVariants.{CannotRead, CannotWrite, NotText, OutOfMemory, Refused}
 use Rattle.haya_stream.proofs.Counted.{ended_count_first, lines_feed, taken_count}
 
 pub flat_map-append : {X : Type 0} (f : X → List ℕ) (xs ys : List X) → flat_map f (xs ++ ys) ≡ flat_map f xs ++ flat_map f ys
@@ -54,17 +54,17 @@ few_turns [] none = omega arith
 few_turns (b ∷ piece) none = rw (turn_last (b ∷ piece) none (omega arith)) (omega arith)
 
 -- the next line, which has ended, isn't answered
-next_ended : {S E : Type 0} (refuses : S → Option (List ℕ) → E → Type 0) (t : S) (turn : Option (List ℕ)) (text : List ℕ) (n : ℕ) (fault : StreamFault E) → n < ended_count text
-    → StopsBefore refuses t turn fault → HaveEnded text n fault
-next_ended refuses t turn text n (CannotRead e) more why = absurd why
-next_ended refuses t turn text n (CannotWrite e) more why = absurd why
-next_ended refuses t turn text n NotText more why = more
-next_ended refuses t turn text n (Refused e) more why = more
-next_ended refuses t turn text n OutOfMemory more why = omega arith
+next_ended : {S E : Type 0} (refuses : S → Option (List ℕ) → E → S → Type 0) (t : S) (v : S) (turn : Option (List ℕ)) (text : List ℕ) (n : ℕ) (fault : StreamError E) → n < ended_count text
+    → StopsBefore refuses t turn v fault → HaveEnded text n fault
+next_ended refuses t v turn text n (CannotRead e) more why = absurd why
+next_ended refuses t v turn text n (CannotWrite e) more why = absurd why
+next_ended refuses t v turn text n NotText more why = more
+next_ended refuses t v turn text n (Refused e) more why = more
+next_ended refuses t v turn text n OutOfMemory more why = omega arith
 
 -- it stops at a line that has ended, or before it
-abbrev pub StopsEnded : {S E : Type 0} → (S → Option (List ℕ) → List ℕ → S → Type 0) → (S → Option (List ℕ) → E → Type 0) → List ℕ → S → List ℕ → StreamFault E → Type 0
-StopsEnded answers refuses text s printed fault = (stops : StopsAt answers refuses text s printed fault) × HaveEnded text (length stops.first.parts) fault
+abbrev pub StopsEnded : {S E : Type 0} → (S → Option (List ℕ) → List ℕ → S → Type 0) → (S → Option (List ℕ) → E → S → Type 0) → List ℕ → S → S → List ℕ → StreamError E → Type 0
+StopsEnded answers refuses text s v printed fault = (stops : StopsAt answers refuses text s v printed fault) × HaveEnded text (length stops.first.parts) fault
 
 -- ---- turns that are answered
 module _ {S : Type 0} (answers : S → Option (List ℕ) → List ℕ → S → Type 0) where
@@ -142,9 +142,9 @@ module _ {S : Type 0} (answers : S → Option (List ℕ) → List ℕ → S → 
       }
 
   -- the next line stops
-  pub line_stops : {E : Type 0} (refuses : S → Option (List ℕ) → E → Type 0) (text piece rest : List ℕ) (s t : S) (printed : List ℕ) (fault : StreamFault E) → HasNoFeed piece
-      → Takes answers text (piece ++ 10 ∷ rest) s t printed → StopsBefore refuses t (Some (strip_carriage_return piece)) fault → StopsEnded answers refuses text s printed fault
-  line_stops refuses text piece rest s t printed fault none p why =
+  pub line_stops : {E : Type 0} (refuses : S → Option (List ℕ) → E → S → Type 0) (text piece rest : List ℕ) (s t v : S) (printed : List ℕ) (fault : StreamError E) → HasNoFeed piece
+      → Takes answers text (piece ++ 10 ∷ rest) s t printed → StopsBefore refuses t (Some (strip_carriage_return piece)) v fault → StopsEnded answers refuses text s v printed fault
+  line_stops refuses text piece rest s t v printed fault none p why =
       let taken = taken_count p in
       let one = ended_count_first piece rest none in (
         record {
@@ -153,7 +153,7 @@ module _ {S : Type 0} (answers : S → Option (List ℕ) → List ℕ → S → 
           first = taken_first text (piece ++ 10 ∷ rest) s t printed p;
           why = rw (turn_first piece rest none) why;
         },
-        next_ended refuses t (Some (strip_carriage_return piece)) text (length p.parts) fault (omega arith) why,
+        next_ended refuses t v (Some (strip_carriage_return piece)) text (length p.parts) fault (omega arith) why,
       )
 
 -- ---- a block behind what is held
@@ -185,21 +185,21 @@ module _ {S : Type 0} (answers : S → Option (List ℕ) → List ℕ → S → 
       line_taken answers text (held ++ take at rest) (drop (at + 1) rest) s t u printed more (HasNoFeed-append held (take at rest) none first) cut utf8 answer
 
   -- the next line stops
-  pub block_stops : {E : Type 0} (refuses : S → Option (List ℕ) → E → Type 0) (fault : StreamFault E)
-      → StopsBefore refuses t (Some (strip_carriage_return (held ++ take at rest))) fault → StopsEnded answers refuses text s printed fault
-  block_stops refuses fault why =
-      line_stops answers refuses text (held ++ take at rest) (drop (at + 1) rest) s t printed fault (HasNoFeed-append held (take at rest) none first) cut why
+  pub block_stops : {E : Type 0} (refuses : S → Option (List ℕ) → E → S → Type 0) (v : S) (fault : StreamError E)
+      → StopsBefore refuses t (Some (strip_carriage_return (held ++ take at rest))) v fault → StopsEnded answers refuses text s v printed fault
+  block_stops refuses v fault why =
+      line_stops answers refuses text (held ++ take at rest) (drop (at + 1) rest) s t v printed fault (HasNoFeed-append held (take at rest) none first) cut why
 
 -- memory is out
-memory_first : {S E : Type 0} (refuses : S → Option (List ℕ) → E → Type 0) (t : S) (ls : List (List ℕ)) → StopsFirst refuses t (turns_in ls) OutOfMemory
-memory_first refuses t [] = tt
-memory_first refuses t (line ∷ ls) = tt
+memory_first : {S E : Type 0} (refuses : S → Option (List ℕ) → E → S → Type 0) (t v : S) (ls : List (List ℕ)) → StopsFirst refuses t (turns_in ls) v OutOfMemory
+memory_first refuses t v [] = tt
+memory_first refuses t v (line ∷ ls) = tt
 
-pub memory_stops : {S E : Type 0} (answers : S → Option (List ℕ) → List ℕ → S → Type 0) (refuses : S → Option (List ℕ) → E → Type 0) (text rest : List ℕ) (s t : S) (printed : List ℕ)
-    → Takes answers text rest s t printed → StopsEnded answers refuses text s printed OutOfMemory
-memory_stops answers refuses text rest s t printed so_far =
+pub memory_stops : {S E : Type 0} (answers : S → Option (List ℕ) → List ℕ → S → Type 0) (refuses : S → Option (List ℕ) → E → S → Type 0) (text rest : List ℕ) (s t v : S) (printed : List ℕ)
+    → Takes answers text rest s t printed → StopsEnded answers refuses text s v printed OutOfMemory
+memory_stops answers refuses text rest s t v printed so_far =
     let ended = taken_count so_far in
-    (record { later = turns rest; last = t; first = taken_first answers text rest s t printed so_far; why = memory_first refuses t (lines rest) }, omega arith)
+    (record { later = turns rest; last = t; first = taken_first answers text rest s t printed so_far; why = memory_first refuses t v (lines rest) }, omega arith)
 
 -- ---- what is held as the last line, and the end
 module _ {S : Type 0} (answers : S → Option (List ℕ) → List ℕ → S → Type 0) (held : List ℕ) (none : HasNoFeed held) (s : S) where
@@ -207,9 +207,9 @@ module _ {S : Type 0} (answers : S → Option (List ℕ) → List ℕ → S → 
   last_line t more some utf8 answer =
       one_more answers held (Some held) (None ∷ []) s s t [] more (subst (λ l. Answers answers held l s s []) (turn_last held none some) (none_answered answers held s)) utf8 answer
 
-  pub last_stops : {E : Type 0} (refuses : S → Option (List ℕ) → E → Type 0) (fault : StreamFault E) → 0 < length held → StopsBefore refuses s (Some held) fault
-      → StopsAt answers refuses held s [] fault
-  last_stops refuses fault some why = record {
+  pub last_stops : {E : Type 0} (refuses : S → Option (List ℕ) → E → S → Type 0) (v : S) (fault : StreamError E) → 0 < length held → StopsBefore refuses s (Some held) v fault
+      → StopsAt answers refuses held s v [] fault
+  last_stops refuses v fault some why = record {
     later = turns held;
     last = s;
     first = none_answered answers held s;
@@ -219,13 +219,13 @@ module _ {S : Type 0} (answers : S → Option (List ℕ) → List ℕ → S → 
   pub no_line : length held ≡ 0 → Answers answers held (None ∷ []) s s []
   no_line empty = rw (nil_from_length held empty) (none_answered answers [] s)
 
-end_stops : {S E : Type 0} (answers : S → Option (List ℕ) → List ℕ → S → Type 0) (refuses : S → Option (List ℕ) → E → Type 0) (text : List ℕ) (s t : S) (printed : List ℕ)
-    (fault : StreamFault E) → Answers answers text (None ∷ []) s t printed → StopsBefore refuses t None fault → StopsAt answers refuses text s printed fault
-end_stops answers refuses text s t printed fault so_far why = record { later = None ∷ []; last = t; first = so_far; why = why }
+end_stops : {S E : Type 0} (answers : S → Option (List ℕ) → List ℕ → S → Type 0) (refuses : S → Option (List ℕ) → E → S → Type 0) (text : List ℕ) (s t v : S) (printed : List ℕ)
+    (fault : StreamError E) → Answers answers text (None ∷ []) s t printed → StopsBefore refuses t None v fault → StopsAt answers refuses text s v printed fault
+end_stops answers refuses text s t v printed fault so_far why = record { later = None ∷ []; last = t; first = so_far; why = why }
 
-pub end_stopped : {S E : Type 0} (answers : S → Option (List ℕ) → List ℕ → S → Type 0) (refuses : S → Option (List ℕ) → E → Type 0) (text : List ℕ) (s t : S)
-    (printed base old new : List ℕ) → Answers answers text (None ∷ []) s t printed → old ≡ base ++ printed → (r : Result (Unit {0}) (StreamFault E)) → IfErr r (StopsBefore refuses t None)
-    → OnErr r (new ≡ old) → IfErr r (λ fault. (more : List ℕ) × StopsAt answers refuses text s more fault × (new ≡ base ++ more))
-end_stopped answers refuses text s t printed base old new so_far was (Ok done) stops kept = tt
-end_stopped answers refuses text s t printed base old new so_far was (Err fault) stops kept =
-    (printed, end_stops answers refuses text s t printed fault so_far stops, kept ∙ was)
+pub end_stopped : {S E : Type 0} (answers : S → Option (List ℕ) → List ℕ → S → Type 0) (refuses : S → Option (List ℕ) → E → S → Type 0) (text : List ℕ) (s t v : S)
+    (printed base old new : List ℕ) → Answers answers text (None ∷ []) s t printed → old ≡ base ++ printed → (r : Result (Unit {0}) (StreamError E)) → IfErr r (StopsBefore refuses t None v)
+    → OnErr r (new ≡ old) → IfErr r (λ fault. (more : List ℕ) × StopsAt answers refuses text s v more fault × (new ≡ base ++ more))
+end_stopped answers refuses text s t v printed base old new so_far was (Ok done) stops kept = tt
+end_stopped answers refuses text s t v printed base old new so_far was (Err fault) stops kept =
+    (printed, end_stops answers refuses text s t v printed fault so_far stops, kept ∙ was)

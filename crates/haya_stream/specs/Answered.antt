@@ -3,8 +3,8 @@ use Rattle.std.specs.Prelude.{◌≡◌, ℕ, Bool, false, List, [], ◌∷◌, 
 use Rattle.std.specs.List.{flat_map, FoldsTo}
 use Rattle.std.specs.Str.{IsUtf8}
 use Rattle.haya_stream.specs.Turns.{turns}
-use Rattle.haya_stream.specs.declared.fault.StreamFault.{StreamFault}
-use Rattle.haya_stream.specs.declared.fault.StreamFault.TheVariants.{CannotRead, CannotWrite, NotText, OutOfMemory, Refused}
+use Rattle.haya_stream.specs.declared.error.StreamError.{StreamError}
+use Rattle.haya_stream.specs.declared.error.StreamError.TheVariants.{CannotRead, CannotWrite, NotText, OutOfMemory, Refused}
 
 -- turns, and what is printed at each
 abbrev pub Parts : Type 0
@@ -46,26 +46,27 @@ pub record Takes {S : Type 0} (answers : S → Option (List ℕ) → List ℕ �
   pub run : Run answers s parts t
   pub prints : printed ≡ printed_of parts
 
--- why a turn isn't answered
-abbrev pub StopsBefore : {S E : Type 0} → (S → Option (List ℕ) → E → Type 0) → S
-    → Option (List ℕ) → StreamFault E → Type 0
-StopsBefore refuses s turn (CannotRead e) = ⊥
-StopsBefore refuses s turn NotText = ¬ IsText turn
-StopsBefore refuses s turn (Refused e) = refuses s turn e
-StopsBefore refuses s turn (CannotWrite e) = ⊥
-StopsBefore refuses s turn OutOfMemory = Unit {0}
+-- Why a turn isn't answered, and the state t that this leaves: one that isn't text isn't asked.
+-- Nothing is said of the state where memory is out.
+abbrev pub StopsBefore : {S E : Type 0} → (S → Option (List ℕ) → E → S → Type 0) → S
+    → Option (List ℕ) → S → StreamError E → Type 0
+StopsBefore refuses s turn t (CannotRead e) = ⊥
+StopsBefore refuses s turn t NotText = (¬ IsText turn) × (t ≡ s)
+StopsBefore refuses s turn t (Refused e) = refuses s turn e t
+StopsBefore refuses s turn t (CannotWrite e) = ⊥
+StopsBefore refuses s turn t OutOfMemory = Unit {0}
 
 -- the same of the first turn of some
-abbrev pub StopsFirst : {S E : Type 0} → (S → Option (List ℕ) → E → Type 0) → S
-    → List (Option (List ℕ)) → StreamFault E → Type 0
-StopsFirst refuses s [] fault = ⊥
-StopsFirst refuses s (turn ∷ more) fault = StopsBefore refuses s turn fault
+abbrev pub StopsFirst : {S E : Type 0} → (S → Option (List ℕ) → E → S → Type 0) → S
+    → List (Option (List ℕ)) → S → StreamError E → Type 0
+StopsFirst refuses s [] t fault = ⊥
+StopsFirst refuses s (turn ∷ more) t fault = StopsBefore refuses s turn t fault
 
 -- the first turns of a text are answered, and the next one isn't
 pub record StopsAt {S E : Type 0} (answers : S → Option (List ℕ) → List ℕ → S → Type 0)
-    (refuses : S → Option (List ℕ) → E → Type 0) (text : List ℕ) (s : S) (printed : List ℕ)
-    (fault : StreamFault E) : Type 0 where
+    (refuses : S → Option (List ℕ) → E → S → Type 0) (text : List ℕ) (s t : S)
+    (printed : List ℕ) (fault : StreamError E) : Type 0 where
   pub later : List (Option (List ℕ))
   pub last : S
   pub first : Answers answers text later s last printed
-  pub why : StopsFirst refuses last later fault
+  pub why : StopsFirst refuses last later t fault

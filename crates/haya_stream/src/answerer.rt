@@ -11,8 +11,8 @@ pub trait Answerer {
     // What may be printed of a line, or at the end, for which None stands, and the state that this
     // leaves.
     ghost answers: { Self → Option (List ℕ) → List ℕ → Self → Type 0 };
-    // Why nothing is printed of a line, or at the end.
-    ghost refuses: { Self → Option (List ℕ) → Self.Refusal → Type 0 };
+    // Why nothing is printed of a line, or at the end, and the state that this leaves.
+    ghost refuses: { Self → Option (List ℕ) → Self.Refusal → Self → Type 0 };
     // Whether nothing more needs to be read.
     ghost is_done: { Self → Bool };
 
@@ -22,13 +22,13 @@ pub trait Answerer {
         ensures answers { OnOk result ((more : List ℕ)
             × answers self.old (Some line.now) more self.new
             × (string_bytes printed.new ≡ string_bytes printed.old ++ more)) }
-        ensures refuses { IfErr result (refuses self.old (Some line.now)) };
+        ensures refuses { IfErr result (λ e. refuses self.old (Some line.now) e self.new) };
 
     /// Puts what is to be printed at the end behind `printed`.
     fn end(&mut self, printed: &mut String) -> Result<(), Self::Refusal>
         ensures answers { OnOk result ((more : List ℕ) × answers self.old None more self.new
             × (string_bytes printed.new ≡ string_bytes printed.old ++ more)) }
-        ensures refuses { IfErr result (refuses self.old None) };
+        ensures refuses { IfErr result (λ e. refuses self.old None e self.new) };
 
     /// Whether nothing more needs to be read.
     fn is_done(&self) -> bool

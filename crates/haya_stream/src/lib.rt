@@ -3,14 +3,14 @@
 #![tactic(auto)]
 
 mod answerer;
-mod fault;
+mod error;
 mod input;
 mod line_end;
 mod stream;
 mod writing;
 
 pub use answerer::Answerer;
-pub use fault::{StreamFault, WriteFault};
+pub use error::{StreamError, WriteError};
 pub use input::{ByteCounter, read_all};
 pub use stream::answer_all;
 pub use writing::{write_all, write_text};

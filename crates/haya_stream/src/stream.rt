@@ -9,7 +9,7 @@ ghost use Rattle.haya_stream.specs.Streamed.{AnswersAll, AnswersEnough, AnswersP
 ghost use Rattle.haya_stream.specs.Streamed.{HaveEnded, Moves, Writes};
 
 use crate::answerer::Answerer;
-use crate::fault::StreamFault;
+use crate::error::StreamError;
 use crate::line_end::{line_end, without_return};
 use crate::writing::write_text;
 use std::alloc::Global;
@@ -22,20 +22,21 @@ use std::io::{Read, Write};
 /// before it has ended, or the input has.
 ///
 /// At a fault a first part is answered, and what is printed of that is written: of a whole number
-/// of lines, but where the writer itself fails.
+/// of lines, but where the writer itself fails. The answerer is left as that part leaves it, or as it
+/// refused what is next.
 pub fn answer_all<A: Answerer, R: Read, W: Write>(
     alloc: Global,
     answerer: &mut A,
     input: &mut R,
     out: &mut W,
-) -> Result<(), StreamFault<A::Refusal>>
+) -> Result<(), StreamError<A::Refusal>>
     ensures all { OnOk result (
         AnswersAll (Asked A.is_done A.answers) answerer.old answerer.new
         (R.remaining input.old) (R.remaining input.new) (W.contents out.old) (W.contents out.new)
         ⊎ AnswersEnough (Asked A.is_done A.answers) A.is_done answerer.old answerer.new
         (R.remaining input.old) (R.remaining input.new) (W.contents out.old) (W.contents out.new)) }
     ensures part { IfErr result (AnswersPart (Asked A.is_done A.answers) A.refuses answerer.old
-        (R.remaining input.old) (R.remaining input.new) (W.contents out.old) (W.contents out.new)) }
+        answerer.new (R.remaining input.old) (R.remaining input.new) (W.contents out.old) (W.contents out.new)) }
 {
     let mut held = Vec::new(alloc);
     let mut line = String::new(alloc);
@@ -57,7 +58,7 @@ pub fn answer_all<A: Answerer, R: Read, W: Write>(
             )?,
             Err(error) => {
                 if error.kind() != io::ErrorKind::Interrupted {
-                    return Err(StreamFault::CannotRead(error));
+                    return Err(StreamError::CannotRead(error));
                 }
             }
         }
@@ -65,7 +66,7 @@ pub fn answer_all<A: Answerer, R: Read, W: Write>(
     if answerer.is_done() {
         return Ok(());
     }
-    Err(StreamFault::CannotRead(io::Error::from(io::ErrorKind::Other)))
+    Err(StreamError::CannotRead(io::Error::from(io::ErrorKind::Other)))
 }
 
 // Answers each line that is whole now, and writes what is printed of them.
@@ -76,7 +77,7 @@ fn answer_block<A: Answerer, W: Write>(
     line: &mut String,
     printed: &mut String,
     out: &mut W,
-) -> Result<(), StreamFault<A::Refusal>>
+) -> Result<(), StreamError<A::Refusal>>
     requires none { HasNoFeed held.old.items }
     requires empty { string_bytes printed.old ≡ [] }
     ensures empty { OnOk result (string_bytes printed.new ≡ []) }
@@ -84,7 +85,8 @@ fn answer_block<A: Answerer, W: Write>(
         (held.old.items ++ block.now) held.new.items answerer.old answerer.new
         (W.contents out.old) (W.contents out.new)) }
     ensures part { IfErr result (λ fault. (writes : Writes (Asked A.is_done A.answers) A.refuses
-        (held.old.items ++ block.now) answerer.old (W.contents out.old) (W.contents out.new) fault)
+        (held.old.items ++ block.now) answerer.old answerer.new
+        (W.contents out.old) (W.contents out.new) fault)
         × HaveEnded (held.old.items ++ block.now) (length writes.first.parts) fault) }
 {
     let answered = take_block(answerer, held, block, line, printed);
@@ -95,7 +97,7 @@ fn answer_block<A: Answerer, W: Write>(
         }
         Err(fault) => {
             drop(answered);
-            Err(StreamFault::CannotWrite(fault))
+            Err(StreamError::CannotWrite(fault))
         }
     }
 }
@@ -107,7 +109,7 @@ fn answer_rest<A: Answerer, W: Write>(
     line: &mut String,
     printed: &mut String,
     out: &mut W,
-) -> Result<(), StreamFault<A::Refusal>>
+) -> Result<(), StreamError<A::Refusal>>
     requires none { HasNoFeed held.now }
     requires empty { string_bytes printed.old ≡ [] }
     requires goes_on { A.is_done answerer.old ≡ false }
@@ -116,14 +118,14 @@ fn answer_rest<A: Answerer, W: Write>(
         × ((later ≡ []) ⊎ (A.is_done answerer.new ≡ true))
         × Appends (W.contents out.old) (W.contents out.new) more) }
     ensures part { IfErr result (Writes (Asked A.is_done A.answers) A.refuses held.now
-        answerer.old (W.contents out.old) (W.contents out.new)) }
+        answerer.old answerer.new (W.contents out.old) (W.contents out.new)) }
 {
     let answered = take_end(answerer, held, line, printed);
     match write_text(out, printed.as_str()) {
         Ok(()) => answered,
         Err(fault) => {
             drop(answered);
-            Err(StreamFault::CannotWrite(fault))
+            Err(StreamError::CannotWrite(fault))
         }
     }
 }
@@ -136,7 +138,7 @@ fn take_block<A: Answerer>(
     block: &[u8],
     line: &mut String,
     printed: &mut String,
-) -> Result<(), StreamFault<A::Refusal>>
+) -> Result<(), StreamError<A::Refusal>>
     requires { HasNoFeed held.old.items }
     ensures takes { OnOk result ((more : List ℕ) × (rest : List ℕ)
         × Takes (Asked A.is_done A.answers) (held.old.items ++ block.now) rest
@@ -145,7 +147,7 @@ fn take_block<A: Answerer>(
         × (string_bytes printed.new ≡ string_bytes printed.old ++ more)) }
     ensures stops { IfErr result (λ fault. (more : List ℕ)
         × (stops : StopsAt (Asked A.is_done A.answers) A.refuses (held.old.items ++ block.now)
-        answerer.old more fault)
+        answerer.old answerer.new more fault)
         × (string_bytes printed.new ≡ string_bytes printed.old ++ more)
         × HaveEnded (held.old.items ++ block.now) (length stops.first.parts) fault) }
 {
@@ -169,7 +171,7 @@ fn take_end<A: Answerer>(
     held: &[u8],
     line: &mut String,
     printed: &mut String,
-) -> Result<(), StreamFault<A::Refusal>>
+) -> Result<(), StreamError<A::Refusal>>
     requires none { HasNoFeed held.now }
     requires goes_on { A.is_done answerer.old ≡ false }
     ensures all { OnOk result ((more : List ℕ) × (later : List (Option (List ℕ)))
@@ -177,7 +179,7 @@ fn take_end<A: Answerer>(
         × ((later ≡ []) ⊎ (A.is_done answerer.new ≡ true))
         × (string_bytes printed.new ≡ string_bytes printed.old ++ more)) }
     ensures stops { IfErr result (λ fault. (more : List ℕ)
-        × StopsAt (Asked A.is_done A.answers) A.refuses held.now answerer.old more fault
+        × StopsAt (Asked A.is_done A.answers) A.refuses held.now answerer.old answerer.new more fault
         × (string_bytes printed.new ≡ string_bytes printed.old ++ more)) }
 {
     if !held.is_empty() {
@@ -195,21 +197,22 @@ fn answer_line<A: Answerer>(
     bytes: &[u8],
     line: &mut String,
     printed: &mut String,
-) -> Result<(), StreamFault<A::Refusal>>
+) -> Result<(), StreamError<A::Refusal>>
     requires { A.is_done answerer.old ≡ false }
     ensures answers { OnOk result ((more : List ℕ) × IsUtf8 bytes.now
         × Asked A.is_done A.answers answerer.old (Some bytes.now) more answerer.new
         × (string_bytes printed.new ≡ string_bytes printed.old ++ more)) }
-    ensures stops { IfErr result (StopsBefore A.refuses answerer.old (Some bytes.now)) }
+    ensures stops { IfErr result
+        (StopsBefore A.refuses answerer.old (Some bytes.now) answerer.new) }
     ensures kept { OnErr result (string_bytes printed.new ≡ string_bytes printed.old) }
 {
     let Ok(text) = str::from_utf8(bytes) else {
-        return Err(StreamFault::NotText);
+        return Err(StreamError::NotText);
     };
     line.clear();
     match answerer.answer(text, line) {
         Ok(()) => Ok(printed.push_str(line.as_str())?),
-        Err(refusal) => Err(StreamFault::Refused(refusal)),
+        Err(refusal) => Err(StreamError::Refused(refusal)),
     }
 }
 
@@ -218,17 +221,17 @@ fn answer_end<A: Answerer>(
     answerer: &mut A,
     line: &mut String,
     printed: &mut String,
-) -> Result<(), StreamFault<A::Refusal>>
+) -> Result<(), StreamError<A::Refusal>>
     requires { A.is_done answerer.old ≡ false }
     ensures answers { OnOk result ((more : List ℕ)
         × Asked A.is_done A.answers answerer.old None more answerer.new
         × (string_bytes printed.new ≡ string_bytes printed.old ++ more)) }
-    ensures stops { IfErr result (StopsBefore A.refuses answerer.old None) }
+    ensures stops { IfErr result (StopsBefore A.refuses answerer.old None answerer.new) }
     ensures kept { OnErr result (string_bytes printed.new ≡ string_bytes printed.old) }
 {
     line.clear();
     match answerer.end(line) {
         Ok(()) => Ok(printed.push_str(line.as_str())?),
-        Err(refusal) => Err(StreamFault::Refused(refusal)),
+        Err(refusal) => Err(StreamError::Refused(refusal)),
     }
 }

@@ -3,15 +3,15 @@ ghost use Rattle.std.specs.Prelude.{◌≡◌, ◌++◌, ◌↔◌, List, ℕ, O
 ghost use Rattle.std.specs.Io.KnownBytes.{Appends, Keeps};
 ghost use Rattle.std.specs.IoError.{error_kind};
 ghost use Rattle.std.specs.declared.io.ErrorKind.TheVariants.{BrokenPipe};
-ghost use Rattle.haya_stream.specs.declared.fault.WriteFault.TheVariants.{Closed};
+ghost use Rattle.haya_stream.specs.declared.error.WriteError.TheVariants.{Closed};
 
-use crate::fault::WriteFault;
+use crate::error::WriteError;
 use std::io;
 use std::io::Write;
 
 /// Writes the whole text, and hands on what the writer holds back. Where a write fails, a first
 /// part of it is written.
-pub fn write_text<W: Write>(out: &mut W, text: &str) -> Result<(), WriteFault>
+pub fn write_text<W: Write>(out: &mut W, text: &str) -> Result<(), WriteError>
     ensures written { OnOk result (Appends (W.contents out.old) (W.contents out.new) text.now) }
     ensures begun { OnErr result ((first : List ℕ) × (rest : List ℕ)
         × (text.now ≡ first ++ rest) × Appends (W.contents out.old) (W.contents out.new) first) }
@@ -22,7 +22,7 @@ pub fn write_text<W: Write>(out: &mut W, text: &str) -> Result<(), WriteFault>
 
 /// Writes the whole text, by one write but where the writer takes less of it or is interrupted.
 /// Where a write fails, a first part of it is written.
-pub fn write_all<W: Write>(out: &mut W, text: &str) -> Result<(), WriteFault>
+pub fn write_all<W: Write>(out: &mut W, text: &str) -> Result<(), WriteError>
     ensures written { OnOk result (Appends (W.contents out.old) (W.contents out.new) text.now) }
     ensures begun { OnErr result ((first : List ℕ) × (rest : List ℕ)
         × (text.now ≡ first ++ rest) × Appends (W.contents out.old) (W.contents out.new) first) }
@@ -33,7 +33,7 @@ pub fn write_all<W: Write>(out: &mut W, text: &str) -> Result<(), WriteFault>
             return Ok(());
         }
         match out.write(rest) {
-            Ok(0) => return Err(WriteFault::CannotWrite),
+            Ok(0) => return Err(WriteError::CannotWrite),
             Ok(taken) => rest = &rest[taken..],
             Err(error) => {
                 if error.kind() != io::ErrorKind::Interrupted {
@@ -42,11 +42,11 @@ pub fn write_all<W: Write>(out: &mut W, text: &str) -> Result<(), WriteFault>
             }
         }
     }
-    Err(WriteFault::CannotWrite)
+    Err(WriteError::CannotWrite)
 }
 
 // Hands on what the writer holds back.
-fn flushed<W: Write>(out: &mut W) -> Result<(), WriteFault>
+fn flushed<W: Write>(out: &mut W) -> Result<(), WriteError>
     ensures { Keeps (W.contents out.old) (W.contents out.new) }
 {
     match out.flush() {
@@ -56,11 +56,11 @@ fn flushed<W: Write>(out: &mut W) -> Result<(), WriteFault>
 }
 
 // What an error of a writer says.
-fn fault_of(error: &io::Error) -> WriteFault
+fn fault_of(error: &io::Error) -> WriteError
     ensures { (result ≡ Closed) ↔ (error_kind error.now ≡ BrokenPipe) }
 {
     match error.kind() {
-        io::ErrorKind::BrokenPipe => WriteFault::Closed,
-        _ => WriteFault::CannotWrite,
+        io::ErrorKind::BrokenPipe => WriteError::Closed,
+        _ => WriteError::CannotWrite,
     }
 }

@@ -1,6 +1,12 @@
+pub mod Appended
 pub mod ContentBox
 pub mod Copied
-pub mod NextHits
+pub mod Handed
+pub mod NextHit
 pub mod Options
-pub mod Rows
+pub mod Outcomes
+pub mod Pointers
+pub mod Slots
+pub mod Steps
 pub mod Two
+pub mod WrittenTexts

@@ -1,46 +1,31 @@
--- What is held by a handle, by what it is.
-use Rattle.std.specs.Prelude.{ℕ, List, [], Option, None, Some, Vec}
-use Rattle.std.specs.declared.alloc.Global.{Global}
+-- What a pointer of C's leads to, by what it is.
+use Rattle.std.specs.Prelude.{ℕ, List, [], Option, None, Some, map, option_and_then, string_bytes}
 use Rattle.haya_entry.specs.Tree.{Tree}
-use Rattle.haya_selectors.specs.Syntax.{Syntax, syntax}
+use Rattle.haya_views.specs.InOrder.{entry_at}
+use Rattle.haya_views.specs.declared.entry_id.EntryId.{EntryId}
+use Rattle.hayagriva_c.specs.declared.content.Asked.{Asked}
 use Rattle.hayagriva_c.specs.declared.content.Content.{Content}
 use Rattle.hayagriva_c.specs.declared.content.Content.TheVariants as held
-use Rattle.hayagriva_c.specs.declared.hit_rows.HitRow.{HitRow}
-use Rattle.hayagriva_c.specs.declared.hit_rows.NamedKey.{NamedKey}
 
 -- the library
-abbrev pub library_in : Option Content → Option (List Tree)
-library_in None = None
-library_in (Some (held.Library library)) = Some library
-library_in (Some (held.Rows rows)) = None
-library_in (Some (held.Selector selector)) = None
-library_in (Some (held.Text text)) = None
+abbrev pub library_in : Content → Option (List Tree)
+library_in (held.Library shelf) = Some shelf.library
+library_in (held.Selector asked) = None
+library_in (held.Words words) = None
+library_in (held.Text text) = None
 
--- the selector
-abbrev pub selector_in : Option Content → Option Syntax
-selector_in None = None
-selector_in (Some (held.Library library)) = None
-selector_in (Some (held.Rows rows)) = None
-selector_in (Some (held.Selector selector)) = Some (syntax selector)
-selector_in (Some (held.Text text)) = None
+-- the selector, with its names
+abbrev pub selector_in : Content → Option Asked
+selector_in (held.Library shelf) = None
+selector_in (held.Selector asked) = Some asked
+selector_in (held.Words words) = None
+selector_in (held.Text text) = None
 
--- the text, with its block
-abbrev pub text_in : Option Content → Option (Vec ℕ Global)
-text_in None = None
-text_in (Some (held.Library library)) = None
-text_in (Some (held.Rows rows)) = None
-text_in (Some (held.Selector selector)) = None
-text_in (Some (held.Text text)) = Some text
+-- the entry that is meant, of a library
+abbrev pub entry_in : Content → EntryId → Option Tree
+entry_in content id = option_and_then (λ l. entry_at l id) (library_in content)
 
--- the rows of hits, or none
-abbrev pub rows_in : Option Content → List HitRow
-rows_in None = []
-rows_in (Some (held.Library library)) = []
-rows_in (Some (held.Rows rows)) = rows.items
-rows_in (Some (held.Selector selector)) = []
-rows_in (Some (held.Text text)) = []
-
--- the names of a row, or none
-abbrev pub names_at : Option HitRow → List NamedKey
-names_at None = []
-names_at (Some row) = row.names.items
+-- the names of a selector, or none
+abbrev pub names_of : Option Asked → List (List ℕ)
+names_of None = []
+names_of (Some asked) = map string_bytes asked.names.items

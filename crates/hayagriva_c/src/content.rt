@@ -1,22 +1,40 @@
-//! What a handle may hold.
-ghost use Rattle.std.specs.Prelude.{◌≡◌, IfSome, option_map, slice_get};
-ghost use Rattle.haya_selectors.specs.Syntax.{syntax};
-ghost use Rattle.hayagriva_c.specs.Content.{library_in, names_at, rows_in, selector_in, text_in};
+//! What a pointer of C's leads to.
+ghost use Rattle.std.specs.Prelude.{◌≡◌, IfSome, option_map};
+ghost use Rattle.std.specs.Option.{option_copied};
+ghost use Rattle.haya_entry.specs.Tree.{view};
+ghost use Rattle.hayagriva_c.specs.Content.{entry_in, library_in, selector_in};
 
-use crate::hit_rows::{HitRow, NamedKey};
-use hayagriva::{Library, Selector};
+use crate::told::Words;
+use haya_entry::Entry;
+use haya_selectors::CompiledSelector;
+use haya_views::{EntryId, entry_at};
+use hayagriva::Library;
 use std::alloc::Global;
 
-/// What a handle may hold.
+/// A library, with the allocator that calls over it use.
+#[derive(Drop)]
+pub struct Shelf {
+    pub library: Library,
+    pub alloc: Global,
+}
+
+/// A selector that was read, and the names that it binds.
+#[derive(Drop)]
+pub struct Asked {
+    pub selector: CompiledSelector,
+    pub names: Vec<String>,
+}
+
+/// What a pointer of C's leads to.
 #[derive(Drop)]
 pub enum Content {
     /// A library.
-    Library(Library),
-    /// The hits of a query.
-    Rows(Vec<HitRow>),
-    /// The selector of a query that gives its hits one at a time.
-    Selector(Selector),
-    /// What there is to say of a refusal: its words, or the part of the text that is refused.
+    Library(Shelf),
+    /// A selector.
+    Selector(Asked),
+    /// What there is to say of a refusal.
+    Words(Words),
+    /// A text that was written.
     Text(Vec<u8>),
 }
 
@@ -34,67 +52,30 @@ pub fn boxed(alloc: Global, content: Content) -> Option<Box<Content>>
 }
 
 /// The library, if it is one.
-pub fn library_in(content: &Option<Box<Content>>) -> Option<&Library>
-    ensures { option_map (λ l. l.now) result
-        ≡ library_in (option_map (λ b. b.value) content.now) }
+pub fn library_in(content: &Content) -> Option<&Shelf>
+    ensures { option_map (λ s. s.now.library) result ≡ library_in content.now }
 {
     match content {
-        Some(content) => match &**content {
-            Content::Library(library) => Some(library),
-            _ => None,
-        },
-        None => None,
+        Content::Library(shelf) => Some(shelf),
+        _ => None,
     }
 }
 
 /// The selector, if it is one.
-pub fn selector_in(content: &Option<Box<Content>>) -> Option<&Selector>
-    ensures { option_map (λ s. syntax s.now) result
-        ≡ selector_in (option_map (λ b. b.value) content.now) }
+pub fn selector_in(content: &Content) -> Option<&Asked>
+    ensures { option_copied result ≡ selector_in content.now }
 {
     match content {
-        Some(content) => match &**content {
-            Content::Selector(selector) => Some(selector),
-            _ => None,
-        },
-        None => None,
+        Content::Selector(asked) => Some(asked),
+        _ => None,
     }
 }
 
-/// The text, if it is one.
-pub fn text_in(content: &Option<Box<Content>>) -> Option<&Vec<u8>>
-    ensures { option_map (λ t. t.now) result
-        ≡ text_in (option_map (λ b. b.value) content.now) }
+/// The entry of a library that is meant, if there is one, with the allocator that calls over it use.
+pub fn entry_in<'l>(content: &'l Content, id: &EntryId) -> Option<(&'l Entry, Global)>
+    ensures { option_map (λ e. view e.0.now) result ≡ entry_in content.now id.now }
 {
-    match content {
-        Some(content) => match &**content {
-            Content::Text(text) => Some(text),
-            _ => None,
-        },
-        None => None,
-    }
-}
-
-/// The rows: none where it isn't hits.
-pub fn rows_in(content: &Option<Box<Content>>) -> &[HitRow]
-    ensures { result.now ≡ rows_in (option_map (λ b. b.value) content.now) }
-{
-    match content {
-        Some(content) => match &**content {
-            Content::Rows(rows) => rows,
-            _ => &[],
-        },
-        None => &[],
-    }
-}
-
-/// The names of the row at a place: none where there is no row.
-pub fn names_at(content: &Option<Box<Content>>, place: usize) -> &[NamedKey]
-    ensures { result.now
-        ≡ names_at (slice_get (rows_in (option_map (λ b. b.value) content.now)) place) }
-{
-    match rows_in(content).get(place) {
-        Some(row) => &row.names,
-        None => &[],
-    }
+    let shelf = library_in(content)?;
+    let entry = entry_at(&shelf.library, id)?;
+    Some((entry, shelf.alloc))
 }

@@ -1,5 +1,5 @@
 //! What a handle holds, behind a pointer that C may keep.
-ghost use Rattle.std.specs.Prelude.{◌≡◌, Option, IsSome, None, Some};
+ghost use Rattle.std.specs.Prelude.{◌≡◌, Option, IsSome, None, Some, is_none, option_map};
 ghost use Rattle.hayagriva_c.specs.declared.content.Content.{Content as ContentData};
 ghost use Rattle.hayagriva_c.specs.Held.{content_coded, content_owns};
 
@@ -7,10 +7,10 @@ use crate::content::Content;
 use crate::parts::Parts;
 use std::alloc::Global;
 use std::marker::Model;
-use std::ptr;
+use std::{mem, ptr};
 
-/// A content behind a pointer, or none. `content` says which: what is owned is a box of it. The
-/// value can't be dropped, so that no content is lost.
+/// A content behind a pointer, or none, and then the pointer is null. `content` says which: what is
+/// owned is a box of it.
 #[repr(C)]
 pub struct Held {
     ptr: *mut u8,
@@ -20,6 +20,16 @@ pub struct Held {
 
 impl Model for Held {
     ghost also_owns = { λ h. content_owns h.alloc h.ptr h.content };
+}
+
+impl Drop for Held {
+    fn drop(mut self) {
+        if self.is_empty() {
+            self.let_go();
+        } else {
+            drop(self.into_box());
+        }
+    }
 }
 
 impl Held {
@@ -46,6 +56,26 @@ impl Held {
         ensures { Some result.value ≡ self.content }
     {
         self.into_parts().into_box()
+    }
+
+    /// Whether it holds nothing.
+    pub fn is_empty(&mut self) -> bool
+        ensures { (result ≡ is_none self.new.content) × (self.new ≡ self.old) }
+    {
+        self.ptr.is_null()
+    }
+
+    /// Takes out what it holds, if there is anything.
+    pub fn take(&mut self, alloc: Global) -> Option<Box<Content>>
+        ensures { option_map (λ b. b.value) result ≡ self.old.content }
+    {
+        let mut held = mem::replace(self, Held::none(alloc));
+        if held.is_empty() {
+            held.let_go();
+            None
+        } else {
+            Some(held.into_box())
+        }
     }
 
     /// Lets go of nothing.

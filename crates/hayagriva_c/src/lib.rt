@@ -1,21 +1,23 @@
 //! The library for programs in C, Python and Rust: `include/hayagriva.h` declares what it exports.
 //!
-//! A handle is a struct of the caller's: a code, and a slot that holds a library, a query's hits,
-//! a selector or a text behind a pointer, or nothing.
+//! What C has pointers to is a `Content` behind a `Held`: a library, a selector, or words. A call
+//! that reads takes it by a pointer that is lent, and writes nothing there.
 #![tactic(auto)]
 
+mod answers;
+mod asking;
 mod codes;
 mod content;
-mod entries;
 mod exports;
-mod field_texts;
-mod handles;
+mod fault;
 mod held;
-mod hit_rows;
-mod next_hit;
+mod hits;
+mod lending;
+mod making;
 mod parts;
 mod reading;
+mod reasons;
 mod room;
-mod slot;
 mod texts;
-mod type_names;
+mod told;
+mod writing;

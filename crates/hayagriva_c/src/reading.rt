@@ -1,127 +1,208 @@
 //! Libraries and selectors that are read from bytes.
-ghost use Rattle.std.specs.Prelude.{◌≡◌, ◌⊎◌, option_map};
-ghost use Rattle.haya_csl.specs.Libraries.{DescribesAsCsl, IsCslErrorOf};
+ghost use Rattle.std.specs.Prelude.{◌≡◌, ◌⊎◌, IfErr, IfOk, map, string_bytes};
+ghost use Rattle.haya_csl.specs.Libraries.{DescribesAsCsl};
 ghost use Rattle.haya_csl.specs.declared.item_key.ItemKey.TheVariants.{CitationKey};
 ghost use Rattle.haya_input.specs.Input.{Describes as LinesDescribe};
-ghost use Rattle.haya_json.specs.Libraries.{Describes, IsErrorOf};
-ghost use Rattle.hayagriva_c.specs.Handles.{HitsGive, IsOutOfMemory, JsonGives, LinesGive};
-ghost use Rattle.hayagriva_c.specs.Handles.{QueryStarts, ShowsError};
-ghost use Rattle.hayagriva_c.specs.SelectorEnd.{TellsEnd};
+ghost use Rattle.haya_json.specs.JsonLines.{Describes as JsonLinesDescribe};
+ghost use Rattle.haya_json.specs.Libraries.{Describes as JsonDescribes};
+ghost use Rattle.haya_selectors.specs.BoundNames.{bound_names};
+ghost use Rattle.haya_selectors.specs.Syntax.{syntax};
+ghost use Rattle.hayagriva_c.specs.Reading.{AsksAs, IsFront, IsToldAt, Says, SaysIn, WhyNoFront};
+ghost use Rattle.hayagriva_c.specs.Reading.{WhyNoLibrary, WhyNoSelector, WhyNotCsl, WhyNotIn, WhyNotJson};
+ghost use Rattle.hayagriva_c.specs.Reading.{WhyNotJsonLines, WhyNotLines, format_of, nests_too_deep};
+ghost use Rattle.hayagriva_c.specs.Told.{IsMemoryTold};
 
-use crate::codes;
-use crate::content::Content;
-use crate::handles::Handle;
-use crate::hit_rows::rows_of;
-use haya_csl::{ItemKey, read_csl_json};
-use haya_input::{InputFault, read_library};
-use haya_json::ReadError;
-use hayagriva::{HashKeys, Library, Selector};
+use crate::content::{Asked, Shelf};
+use crate::told::Told;
+use crate::{codes, reasons};
+use haya_csl::{ItemKey, read_csl_json_with_hash_keys};
+use haya_input::read_library;
+use haya_json::{read_json_lines, read_library_with_hash_keys};
+use haya_selectors::CompiledSelector;
+use haya_text::OutOfMemory;
+use haya_views::names_of;
+use hayagriva::{HashKeys, Library, Selector, SelectorError};
 use std::alloc::Global;
 
-/// The library of lines, as the program `hayagriva_query` reads them.
-pub fn read_lines(alloc: Global, keys: HashKeys, bytes: &[u8]) -> Handle
-    ensures { LinesGive LinesDescribe bytes.now result }
+/// How a text says a library.
+#[derive(Clone, Copy, Drop)]
+pub enum Format {
+    /// Lines, one an entry.
+    Lines,
+    /// hayagriva's own file format, written as JSON.
+    Json,
+    /// CSL-JSON, whose entries have their items' `citation-key` as key, or the `id` where that has
+    /// none.
+    Csl,
+    /// Lines of JSON, one an entry: an object of its `key` and of the `entry` in the file format.
+    JsonLines,
+}
+
+impl Format {
+    /// The format with this number.
+    pub fn of_number(number: u32) -> Option<Format>
+        ensures { result ≡ format_of number }
+    {
+        match number {
+            1 => Some(Format::Lines),
+            2 => Some(Format::Json),
+            3 => Some(Format::Csl),
+            4 => Some(Format::JsonLines),
+            _ => None,
+        }
+    }
+}
+
+/// The library that bytes say in the format with this number, or why they say none.
+pub fn library_of(alloc: Global, keys: HashKeys, format: u32, bytes: &[u8]) -> Result<Shelf, Told>
+    ensures library { IfOk result (λ shelf. Says format bytes.now shelf.library) }
+    ensures told { IfErr result (WhyNoLibrary format bytes.now) }
 {
-    let Ok(text) = str::from_utf8(bytes) else {
-        return Handle::refused(alloc, codes::NOT_TEXT, 0);
+    let Some(format) = Format::of_number(format) else {
+        return Err(Told::alone(alloc, codes::NO_FORMAT));
     };
+    let Ok(text) = str::from_utf8(bytes) else {
+        return Err(Told::alone(alloc, codes::NOT_TEXT));
+    };
+    match library_in(alloc, keys, format, text) {
+        Ok(library) => Ok(Shelf { library, alloc }),
+        Err(told) => Err(told),
+    }
+}
+
+// The library that a text says in this format, or why it says none.
+fn library_in(alloc: Global, keys: HashKeys, format: Format, text: &str) -> Result<Library, Told>
+    ensures library { IfOk result (SaysIn format text.now) }
+    ensures told { IfErr result (WhyNotIn format text.now) }
+{
+    match format {
+        Format::Lines => lines(alloc, keys, text),
+        Format::Json => json(alloc, keys, text),
+        Format::Csl => csl(alloc, keys, text),
+        Format::JsonLines => json_lines(alloc, keys, text),
+    }
+}
+
+fn lines(alloc: Global, keys: HashKeys, text: &str) -> Result<Library, Told>
+    ensures library { IfOk result (LinesDescribe text.now) }
+    ensures told { IfErr result (WhyNotLines text.now) }
+{
     match read_library(alloc, keys, text) {
-        Ok(library) => Handle::of(alloc, codes::DONE, Content::Library(library)),
-        Err(InputFault::Line(number, fault)) => {
-            Handle::refused(alloc, codes::of_line(fault), number)
-        }
-        Err(InputFault::OutOfMemory) => Handle::refused(alloc, codes::OUT_OF_MEMORY, 0),
+        Ok(library) => Ok(library),
+        Err(fault) => Err(reasons::of_input(alloc, fault)),
     }
 }
 
-/// The library of a text in hayagriva's file format, written as JSON.
-pub fn read_json(alloc: Global, bytes: &[u8]) -> Handle
-    ensures { JsonGives Describes IsErrorOf bytes.now result }
+fn json(alloc: Global, keys: HashKeys, text: &str) -> Result<Library, Told>
+    ensures library { IfOk result (JsonDescribes text.now) }
+    ensures told { IfErr result (WhyNotJson text.now) }
 {
-    let Ok(text) = str::from_utf8(bytes) else {
-        return Handle::refused(alloc, codes::NOT_TEXT, 0);
-    };
-    match haya_json::read_library(alloc, text) {
+    match read_library_with_hash_keys(alloc, keys, text) {
         Ok((library, notes)) => {
             drop(notes);
-            Handle::of(alloc, codes::DONE, Content::Library(library))
+            Ok(library)
         }
-        Err(error) => shown(alloc, error),
+        Err(error) => Err(reasons::of_json(alloc, &error)),
     }
 }
 
-/// The library of a text in CSL-JSON.
-pub fn read_csl(alloc: Global, bytes: &[u8]) -> Handle
-    ensures { JsonGives (DescribesAsCsl CitationKey) (IsCslErrorOf CitationKey) bytes.now result }
+fn csl(alloc: Global, keys: HashKeys, text: &str) -> Result<Library, Told>
+    ensures library { IfOk result (DescribesAsCsl CitationKey text.now) }
+    ensures told { IfErr result (WhyNotCsl text.now) }
 {
-    let Ok(text) = str::from_utf8(bytes) else {
-        return Handle::refused(alloc, codes::NOT_TEXT, 0);
-    };
-    match read_csl_json(alloc, ItemKey::CitationKey, text) {
+    match read_csl_json_with_hash_keys(alloc, keys, ItemKey::CitationKey, text) {
         Ok((library, notes)) => {
             drop(notes);
-            Handle::of(alloc, codes::DONE, Content::Library(library))
+            Ok(library)
         }
-        Err(error) => shown(alloc, error),
+        Err(error) => Err(reasons::of_json(alloc, &error)),
     }
 }
 
-// Says in words why a text is no library, or that an allocation failed.
-fn shown(alloc: Global, error: ReadError) -> Handle
-    ensures { IsOutOfMemory result ⊎ ShowsError error result }
+fn json_lines(alloc: Global, keys: HashKeys, text: &str) -> Result<Library, Told>
+    ensures library { IfOk result (JsonLinesDescribe text.now) }
+    ensures told { IfErr result (WhyNotJsonLines text.now) }
 {
-    let code = codes::of_json(&error);
-    if code == codes::OUT_OF_MEMORY {
-        return Handle::refused(alloc, codes::OUT_OF_MEMORY, 0);
-    }
-    match format!(in alloc; "{error}") {
-        Ok(text) => Handle::of(alloc, code, Content::Text(text.into_bytes())),
-        Err(_) => Handle::refused(alloc, codes::OUT_OF_MEMORY, 0),
-    }
-}
-
-/// The hits of the selector that the bytes are, in the library.
-pub fn hits_of(alloc: Global, library: Option<&Library>, bytes: &[u8]) -> Handle
-    ensures { HitsGive bytes.now (option_map (λ l. l.now) library.entry) result }
-{
-    let Some(library) = library else {
-        return Handle::refused(alloc, codes::NO_LIBRARY, 0);
-    };
-    let Ok(text) = str::from_utf8(bytes) else {
-        return Handle::refused(alloc, codes::NOT_TEXT, 0);
-    };
-    match rows_of(alloc, library, text) {
-        Ok(rows) => Handle::of(alloc, codes::DONE, Content::Rows(rows)),
-        Err(error) => Handle::of_error(alloc, error),
-    }
-}
-
-/// The selector that the bytes are.
-pub fn selector_of(alloc: Global, bytes: &[u8]) -> Handle
-    ensures { QueryStarts bytes.now result }
-{
-    let Ok(text) = str::from_utf8(bytes) else {
-        return Handle::refused(alloc, codes::NOT_TEXT, 0);
-    };
-    match Selector::parse(alloc, text) {
-        Ok(selector) => Handle::of(alloc, codes::DONE, Content::Selector(selector)),
-        Err(error) => Handle::of_error(alloc, error),
-    }
-}
-
-/// The byte at which the selector at the front of the bytes ends, behind a code. Without a selector
-/// it is 0.
-pub fn end_of(alloc: Global, bytes: &[u8]) -> (u32, usize)
-    ensures { TellsEnd bytes.now result.0 result.1 }
-{
-    let Ok(text) = str::from_utf8(bytes) else {
-        return (codes::NOT_TEXT, 0);
-    };
-    match Selector::parse_prefix(alloc, text) {
-        Ok((selector, end)) => {
-            drop(selector);
-            (codes::DONE, end)
+    match read_json_lines(alloc, keys, text) {
+        Ok((library, notes)) => {
+            drop(notes);
+            Ok(library)
         }
-        Err(error) => (codes::of_selector(&error), 0),
+        Err(error) => Err(reasons::of_json_line(alloc, &error)),
+    }
+}
+
+// How many parentheses a selector may open within each other: all else that it says takes no stack.
+const MOST_OPEN: usize = 1000;
+
+// Whether more than that are open somewhere.
+fn nests_too_deep(bytes: &[u8]) -> bool
+    ensures { result ≡ nests_too_deep bytes.now }
+{
+    let mut opened: usize = 0;
+    'bytes: for byte in bytes {
+        match *byte {
+            b'(' => opened += 1,
+            b')' => opened = opened.saturating_sub(1),
+            _ => {}
+        }
+        if opened > MOST_OPEN {
+            return true;
+        }
+    }
+    false
+}
+
+/// The selector at the front of bytes, and the byte at which it ends, or why there is none.
+pub fn selector_of(alloc: Global, bytes: &[u8]) -> Result<(Asked, usize), Told>
+    ensures selector { IfOk result (λ read. AsksAs bytes.now read.0 read.1) }
+    ensures told { IfErr result (WhyNoSelector bytes.now) }
+{
+    if nests_too_deep(bytes) {
+        return Err(Told::alone(alloc, codes::TOO_DEEP));
+    }
+    let Ok(text) = str::from_utf8(bytes) else {
+        return Err(Told::alone(alloc, codes::NOT_TEXT));
+    };
+    front_of(alloc, text)
+}
+
+// The selector at the front of a text, and the byte at which it ends, or why there is none.
+fn front_of(alloc: Global, text: &str) -> Result<(Asked, usize), Told>
+    ensures selector { IfOk result (λ read. IsFront text.now read.0 read.1) }
+    ensures told { IfErr result (WhyNoFront text.now) }
+{
+    let (selector, end) = match Selector::parse_prefix(alloc, text) {
+        Ok(read) => read,
+        Err(error) => return Err(why_none(alloc, text, error)),
+    };
+    let Ok(asked) = asked_of(alloc, &selector) else {
+        return Err(Told::memory(alloc));
+    };
+    Ok((asked, end))
+}
+
+// The selector in the form in which it is asked, and its names.
+fn asked_of(alloc: Global, selector: &Selector) -> Result<Asked, OutOfMemory>
+    ensures selector { IfOk result (λ asked. asked.selector ≡ syntax selector.now) }
+    ensures names { IfOk result (λ asked.
+        map string_bytes asked.names.items ≡ bound_names (syntax selector.now)) }
+{
+    Ok(Asked {
+        selector: CompiledSelector::new(alloc, selector)?,
+        names: names_of(alloc, selector)?,
+    })
+}
+
+// Why a text is no selector.
+fn why_none(alloc: Global, text: &str, error: SelectorError) -> Told
+    ensures { IsToldAt text.now error result ⊎ IsMemoryTold result }
+{
+    if let SelectorError::OutOfMemory = error {
+        return Told::memory(alloc);
+    }
+    match Selector::fault_place(alloc, text) {
+        Ok(Some(place)) => reasons::of_selector(alloc, place, error),
+        _ => Told::memory(alloc),
     }
 }

@@ -4,7 +4,7 @@ mod failing;
 mod faults;
 
 use failing::{FailingReader, FailingWriter};
-use haya_run::{Fault, run, run_given};
+use haya_run::{RunError, run, run_given};
 use hayagriva::HashKeys;
 use std::io::Read;
 use std::process::{Abort, ExitCode};
@@ -72,7 +72,7 @@ fn ends<R: Read>(
 // and these keys or none.
 fn ends_given(
     rt: &(impl Abort + AllocGlobal),
-    given: Result<Vec<String>, Fault>,
+    given: Result<Vec<String>, RunError>,
     keys: Option<HashKeys>,
     (status, printed, complaint): (u8, &str, &str),
 ) -> bool {
@@ -100,11 +100,11 @@ fn ends_with_its_status(rt: HostRuntime) {
         )
     );
     assert!(rt; ends_given(&rt, Ok(texts(&rt, &[])), keys, (2, "", usage)));
-    assert!(rt; ends_given(&rt, Err(Fault::Usage), keys, (2, "", usage)));
+    assert!(rt; ends_given(&rt, Err(RunError::Usage), keys, (2, "", usage)));
     assert!(rt;
         ends_given(
             &rt,
-            Err(Fault::OutOfMemory),
+            Err(RunError::OutOfMemory),
             keys,
             (1, "", "out of memory\n")
         )

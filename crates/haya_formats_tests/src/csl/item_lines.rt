@@ -3,6 +3,7 @@ use crate::notes::notes_shown;
 use haya_csl::{ItemKey, read_item_line};
 use haya_json::{Notes, to_json};
 use hayagriva::{HashKeys, Library};
+use json::Scratch;
 use std::process::Abort;
 
 // A line, and the library of the entry that it says, with what is told of it.
@@ -63,7 +64,15 @@ fn none(rt: &(impl Abort + AllocGlobal)) -> Notes {
 // The library of a line's entry, and behind it what is told of it.
 fn shown(rt: &(impl Abort + AllocGlobal), line: &str) -> String {
     let (key, mut notes) = (ItemKey::CitationKey, none(rt));
-    let entry = read_item_line(rt.alloc(), key, 2, line, &mut notes).expect(rt, "an entry");
+    let entry = read_item_line(
+        rt.alloc(),
+        key,
+        2,
+        line,
+        &mut Scratch::new(rt.alloc()),
+        &mut notes,
+    )
+    .expect(rt, "an entry");
     let mut library = Library::new(rt.alloc());
     library.insert(entry).expect(rt, "memory");
     let json = to_json(rt.alloc(), &library).expect(rt, "memory");
@@ -76,7 +85,14 @@ fn shown(rt: &(impl Abort + AllocGlobal), line: &str) -> String {
 
 // What the error of a line shows, or nothing where it has none.
 fn message(rt: &(impl Abort + AllocGlobal), line: &str) -> String {
-    match read_item_line(rt.alloc(), ItemKey::CitationKey, 2, line, &mut none(rt)) {
+    match read_item_line(
+        rt.alloc(),
+        ItemKey::CitationKey,
+        2,
+        line,
+        &mut Scratch::new(rt.alloc()),
+        &mut none(rt),
+    ) {
         Ok(entry) => {
             drop(entry);
             String::new(rt.alloc())

@@ -3,6 +3,7 @@ use super::shown::put_library;
 use crate::notes::notes_shown;
 use haya_json::{Notes, read_entry_line, read_json_lines};
 use hayagriva::HashKeys;
+use json::Scratch;
 use std::process::Abort;
 
 // A text, what its library shows as, and what is told of it.
@@ -153,11 +154,19 @@ fn refuses_what_is_no_line_of_an_entry(rt: HostRuntime) {
 fn reads_one_line(rt: HostRuntime) {
     let mut notes = Notes::with_hash_keys(rt.alloc(), HashKeys::new(1, 2));
     let line = r#"{"key": "a", "entry": {"type": "misc", "x": 1}}"#;
-    let entry = read_entry_line(rt.alloc(), line, &mut notes).expect(&rt, "an entry");
+    let entry = read_entry_line(rt.alloc(), line, &mut Scratch::new(rt.alloc()), &mut notes).expect(
+        &rt, "an entry",
+    );
     assert!(rt; entry.key() == "a");
     drop(entry);
     // at a fault nothing is told
     let faulty = r#"{"key": [], "entry": {"type": "misc", "x": 1}}"#;
-    let is_refused = read_entry_line(rt.alloc(), faulty, &mut notes).is_err();
+    let is_refused = read_entry_line(
+        rt.alloc(),
+        faulty,
+        &mut Scratch::new(rt.alloc()),
+        &mut notes,
+    )
+    .is_err();
     assert!(rt; is_refused && notes.ignored().count("x") == 1);
 }

@@ -3,6 +3,7 @@ use super::shown::put_library;
 use crate::notes::notes_shown;
 use haya_json::{Notes, read_member_line};
 use hayagriva::{HashKeys, Library};
+use json::Scratch;
 use std::process::Abort;
 
 // A line, and the entry that it says, with what is told of it.
@@ -54,7 +55,12 @@ const REFUSED: &[(&str, &str)] = &[
 // The entry of a line, and behind it what is told.
 fn shown(rt: &(impl Abort + AllocGlobal), line: &str) -> String {
     let mut notes = Notes::with_hash_keys(rt.alloc(), HashKeys::new(1, 2));
-    let entry = read_member_line(rt.alloc(), line, &mut notes).expect(rt, "an entry");
+    let entry = read_member_line(
+        rt.alloc(),
+        line,
+        &mut Scratch::new(rt.alloc()),
+        &mut notes,
+    ).expect(rt, "an entry");
     let mut library = Library::new(rt.alloc());
     library.insert(entry).expect(rt, "memory");
     let mut shown = String::new(rt.alloc());
@@ -68,7 +74,7 @@ fn shown(rt: &(impl Abort + AllocGlobal), line: &str) -> String {
 // What the error of a line shows, or nothing where it has none.
 fn message(rt: &(impl Abort + AllocGlobal), line: &str) -> String {
     let mut notes = Notes::with_hash_keys(rt.alloc(), HashKeys::new(1, 2));
-    match read_member_line(rt.alloc(), line, &mut notes) {
+    match read_member_line(rt.alloc(), line, &mut Scratch::new(rt.alloc()), &mut notes) {
         Ok(entry) => {
             drop(entry);
             String::new(rt.alloc())

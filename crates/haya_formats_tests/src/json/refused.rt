@@ -8,7 +8,7 @@ const REFUSED: &[(&str, &str)] = &[
     ("{", "line 1, column 2: invalid JSON"),
     ("{'a': 1}", "line 1, column 2: invalid JSON"),
     (r#"{"a": 1,}"#, "line 1, column 9: invalid JSON"),
-    (r#"{"a" 1}"#, "line 1, column 2: invalid JSON"),
+    (r#"{"a" 1}"#, "line 1, column 6: invalid JSON"),
     (r#"{"a": "b": 1}"#, "line 1, column 7: invalid JSON"),
     (r#"{"a": [1}"#, "line 1, column 9: invalid JSON"),
     (r#"{"a": 1]"#, "line 1, column 8: invalid JSON"),

@@ -5,7 +5,7 @@ ghost use Rattle.haya_json.specs.Refusal.{IsFaultOf};
 ghost use Rattle.haya_json.specs.Values.{date_in};
 ghost use Rattle.haya_json.specs.Whole.{season_of};
 
-use crate::fault::{Fault, Why};
+use crate::fault::{ValueError, Why};
 use crate::from_json::{FromJson, flag, needed, optional, read_text};
 use haya_time::{Date, Season};
 use json::Value;
@@ -23,7 +23,7 @@ impl FromJson for Date {
 
     /// A text, the number of a year, or an object of the parts of a date.
     #[tactic(auto, unfolding(crate::specs::Values::date_of))]
-    fn from_json(alloc: Global, json: &Value<'_>) -> Result<Date, Fault> {
+    fn from_json(alloc: Global, json: &Value<'_>) -> Result<Date, ValueError> {
         match json {
             Value::Object(_) => read_parts(alloc, json),
             Value::Number(_) => Ok(Date::from_year(i32::from_json(alloc, json)?)),
@@ -31,7 +31,7 @@ impl FromJson for Date {
                 let text = read_text(alloc, json)?;
                 match text.parse::<Date>() {
                     Ok(date) => Ok(date),
-                    Err(_) => Err(Fault::refused(alloc, Why::NotDate)),
+                    Err(_) => Err(ValueError::refused(alloc, Why::NotDate)),
                 }
             }
         }
@@ -39,7 +39,7 @@ impl FromJson for Date {
 }
 
 // The date of an object.
-fn read_parts(alloc: Global, json: &Value<'_>) -> Result<Date, Fault>
+fn read_parts(alloc: Global, json: &Value<'_>) -> Result<Date, ValueError>
     ensures ok { IfOk result (λ date. date_in (value_view json.now) ≡ Ok date) }
     ensures fault { IfErr result (IsFaultOf (date_in (value_view json.now))) }
 {

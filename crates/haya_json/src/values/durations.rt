@@ -5,7 +5,7 @@ ghost use Rattle.haya_json.specs.Refusal.{IsFaultOf};
 ghost use Rattle.haya_json.specs.Values.{range_in};
 
 use super::numbers::read_typed;
-use crate::fault::{Fault, Why};
+use crate::fault::{ValueError, Why};
 use crate::from_json::{FromJson, needed, read_by};
 use haya_time::{Duration, DurationRange};
 use haya_values::MaybeTyped;
@@ -23,7 +23,7 @@ impl FromJson for Duration {
     ghost reads = { duration_of };
 
     #[tactic(auto, unfolding(crate::specs::Values::duration_of))]
-    fn from_json(alloc: Global, json: &Value<'_>) -> Result<Duration, Fault> {
+    fn from_json(alloc: Global, json: &Value<'_>) -> Result<Duration, ValueError> {
         read_by(alloc, json, Why::NotDuration)
     }
 }
@@ -41,7 +41,7 @@ impl FromJson for MaybeTyped<Duration> {
 
     /// The text of a duration, or any other text.
     #[tactic(auto, unfolding(crate::specs::Values::duration_or_text_of))]
-    fn from_json(alloc: Global, json: &Value<'_>) -> Result<MaybeTyped<Duration>, Fault> {
+    fn from_json(alloc: Global, json: &Value<'_>) -> Result<MaybeTyped<Duration>, ValueError> {
         read_typed(alloc, json)
     }
 }
@@ -59,7 +59,7 @@ impl FromJson for MaybeTyped<DurationRange> {
 
     /// The text of a range, any other text, or an object of a `start` and an `end`.
     #[tactic(auto, unfolding(crate::specs::Values::range_or_text_of))]
-    fn from_json(alloc: Global, json: &Value<'_>) -> Result<MaybeTyped<DurationRange>, Fault> {
+    fn from_json(alloc: Global, json: &Value<'_>) -> Result<MaybeTyped<DurationRange>, ValueError> {
         match json {
             Value::Object(_) => Ok(MaybeTyped::Typed(read_ends(alloc, json)?)),
             _ => read_typed(alloc, json),
@@ -68,7 +68,7 @@ impl FromJson for MaybeTyped<DurationRange> {
 }
 
 // The range of an object.
-fn read_ends(alloc: Global, json: &Value<'_>) -> Result<DurationRange, Fault>
+fn read_ends(alloc: Global, json: &Value<'_>) -> Result<DurationRange, ValueError>
     ensures ok { IfOk result (λ range. range_in (value_view json.now) ≡ Ok range) }
     ensures fault { IfErr result (IsFaultOf (range_in (value_view json.now))) }
 {

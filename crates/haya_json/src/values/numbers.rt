@@ -6,7 +6,7 @@ ghost use Rattle.haya_json.specs.Values.{typed_by};
 ghost use Rattle.haya_json.specs.Whole.{byte_of, whole_read};
 ghost use Rattle.haya_values.specs.MaybeTyped.{maybe_typed_view};
 
-use crate::fault::{Fault, Why};
+use crate::fault::{ValueError, Why};
 use crate::from_json::{FromJson, read_by, read_text};
 use haya_numbers::{Numeric, PageRanges};
 use haya_text::ReadText;
@@ -32,13 +32,13 @@ impl FromJson for i32 {
     ghost reads = { whole_of };
 
     /// A number without a fraction or an exponent.
-    fn from_json(alloc: Global, json: &Value<'_>) -> Result<i32, Fault> {
+    fn from_json(alloc: Global, json: &Value<'_>) -> Result<i32, ValueError> {
         let Some(text) = json.as_number() else {
-            return Err(Fault::refused(alloc, Why::NotWhole));
+            return Err(ValueError::refused(alloc, Why::NotWhole));
         };
         match whole_read(text) {
             Some(number) => Ok(number),
-            None => Err(Fault::refused(alloc, Why::NotWhole)),
+            None => Err(ValueError::refused(alloc, Why::NotWhole)),
         }
     }
 }
@@ -54,11 +54,11 @@ impl FromJson for u8 {
     ghost reads = { byte_in };
 
     /// The number of a month or a day, from 0 on.
-    fn from_json(alloc: Global, json: &Value<'_>) -> Result<u8, Fault> {
+    fn from_json(alloc: Global, json: &Value<'_>) -> Result<u8, ValueError> {
         let number = i32::from_json(alloc, json)?;
         match byte_of(number) {
             Some(number) => Ok(number),
-            None => Err(Fault::refused(alloc, Why::NotWhole)),
+            None => Err(ValueError::refused(alloc, Why::NotWhole)),
         }
     }
 }
@@ -82,7 +82,7 @@ impl FromJson for Numeric {
 
     /// A whole number, or the text of a number.
     #[tactic(auto, unfolding(crate::specs::Values::number_of))]
-    fn from_json(alloc: Global, json: &Value<'_>) -> Result<Numeric, Fault> {
+    fn from_json(alloc: Global, json: &Value<'_>) -> Result<Numeric, ValueError> {
         match json {
             Value::Number(_) => Ok(Numeric::new(i32::from_json(alloc, json)?)),
             _ => read_by(alloc, json, Why::NotNumber),
@@ -91,7 +91,7 @@ impl FromJson for Numeric {
 }
 
 /// What a reader of texts reads, or the text itself.
-pub fn read_typed<T: ReadText>(alloc: Global, json: &Value<'_>) -> Result<MaybeTyped<T>, Fault>
+pub fn read_typed<T: ReadText>(alloc: Global, json: &Value<'_>) -> Result<MaybeTyped<T>, ValueError>
     ensures ok { IfOk result (λ v.
         typed_by T.reads (value_view json.now) ≡ Ok (maybe_typed_view T.value v)) }
     ensures fault { IfErr result (IsFaultOf (typed_by T.reads (value_view json.now))) }
@@ -113,7 +113,7 @@ impl FromJson for MaybeTyped<Numeric> {
 
     /// A whole number, the text of a number, or any other text.
     #[tactic(auto, unfolding(crate::specs::Values::number_or_text_of))]
-    fn from_json(alloc: Global, json: &Value<'_>) -> Result<MaybeTyped<Numeric>, Fault> {
+    fn from_json(alloc: Global, json: &Value<'_>) -> Result<MaybeTyped<Numeric>, ValueError> {
         match json {
             Value::Number(_) => {
                 let number = i32::from_json(alloc, json)?;
@@ -138,13 +138,13 @@ impl FromJson for MaybeTyped<PageRanges> {
 
     /// The number of one page, the text of pages, or any other text.
     #[tactic(auto, unfolding(crate::specs::Values::pages_or_text_of))]
-    fn from_json(alloc: Global, json: &Value<'_>) -> Result<MaybeTyped<PageRanges>, Fault> {
+    fn from_json(alloc: Global, json: &Value<'_>) -> Result<MaybeTyped<PageRanges>, ValueError> {
         match json {
             Value::Number(_) => {
                 let number = i32::from_json(alloc, json)?;
                 match PageRanges::from_i32(alloc, number) {
                     Ok(pages) => Ok(MaybeTyped::Typed(pages)),
-                    Err(_) => Err(Fault::OutOfMemory),
+                    Err(_) => Err(ValueError::OutOfMemory),
                 }
             }
             _ => read_typed(alloc, json),

@@ -6,7 +6,7 @@ ghost use Rattle.haya_people.specs.Roles.{roles_view};
 ghost use Rattle.haya_json.specs.Refusal.{IsFaultOf};
 ghost use Rattle.haya_json.specs.Values.{person_in, roles_in};
 
-use crate::fault::{Fault, Why};
+use crate::fault::{ValueError, Why};
 use crate::from_json::{FromJson, flag, needed, optional, read_by, read_text};
 use haya_people::{Person, PersonRole, PersonsWithRoles};
 use json::Value;
@@ -24,7 +24,7 @@ impl FromJson for Person {
 
     /// A text whose parts are separated by commas, or an object of the parts of the name.
     #[tactic(auto, unfolding(crate::specs::Values::person_of))]
-    fn from_json(alloc: Global, json: &Value<'_>) -> Result<Person, Fault> {
+    fn from_json(alloc: Global, json: &Value<'_>) -> Result<Person, ValueError> {
         match json {
             Value::Object(_) => read_parts(alloc, json),
             _ => read_by(alloc, json, Why::NotPerson),
@@ -33,7 +33,7 @@ impl FromJson for Person {
 }
 
 // The person of an object.
-fn read_parts(alloc: Global, json: &Value<'_>) -> Result<Person, Fault>
+fn read_parts(alloc: Global, json: &Value<'_>) -> Result<Person, ValueError>
     ensures ok { IfOk result (λ p. person_in (value_view json.now) ≡ Ok (person_view p)) }
     ensures fault { IfErr result (IsFaultOf (person_in (value_view json.now))) }
 {
@@ -65,11 +65,11 @@ impl FromJson for PersonRole {
 
     /// The role of this name.
     #[tactic(auto, unfolding(crate::specs::Values::role_of))]
-    fn from_json(alloc: Global, json: &Value<'_>) -> Result<PersonRole, Fault> {
+    fn from_json(alloc: Global, json: &Value<'_>) -> Result<PersonRole, ValueError> {
         let text = read_text(alloc, json)?;
         match text.parse::<PersonRole>() {
             Ok(role) => Ok(role),
-            Err(_) => Err(Fault::refused(alloc, Why::UnknownRole)),
+            Err(_) => Err(ValueError::refused(alloc, Why::UnknownRole)),
         }
     }
 }
@@ -86,17 +86,17 @@ impl FromJson for PersonsWithRoles {
 
     /// An object of a `role` and its `names`.
     #[tactic(auto, unfolding(crate::specs::Values::roles_of))]
-    fn from_json(alloc: Global, json: &Value<'_>) -> Result<PersonsWithRoles, Fault> {
+    fn from_json(alloc: Global, json: &Value<'_>) -> Result<PersonsWithRoles, ValueError> {
         match json {
             Value::Object(_) => read_roles(alloc, json),
-            _ => Err(Fault::refused(alloc, Why::NotObject)),
+            _ => Err(ValueError::refused(alloc, Why::NotObject)),
         }
     }
 }
 
 // The persons of an object with their role.
 #[tactic(auto, unfolding(crate::specs::Values::persons_of))]
-fn read_roles(alloc: Global, json: &Value<'_>) -> Result<PersonsWithRoles, Fault>
+fn read_roles(alloc: Global, json: &Value<'_>) -> Result<PersonsWithRoles, ValueError>
     ensures ok { IfOk result (λ ps. roles_in (value_view json.now) ≡ Ok (roles_view ps)) }
     ensures fault { IfErr result (IsFaultOf (roles_in (value_view json.now))) }
 {

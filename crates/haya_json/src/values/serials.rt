@@ -8,7 +8,7 @@ ghost use Rattle.haya_entry.specs.SerialNumber.{serial_view};
 ghost use Rattle.haya_json.specs.Refusal.{IsFaultOf};
 ghost use Rattle.haya_json.specs.Values.{serials_and, serials_with};
 
-use crate::fault::Fault;
+use crate::fault::ValueError;
 use crate::from_json::FromJson;
 use haya_entry::SerialNumber;
 use haya_text::OutOfMemory;
@@ -28,7 +28,7 @@ impl FromJson for SerialNumber {
 
     /// An object of numbers under their keys, or one number, under the key `serial`.
     #[tactic(auto, unfolding(crate::specs::Values::serials_of))]
-    fn from_json(alloc: Global, json: &Value<'_>) -> Result<SerialNumber, Fault> {
+    fn from_json(alloc: Global, json: &Value<'_>) -> Result<SerialNumber, ValueError> {
         let mut serials = SerialNumber(BTreeMap::new(alloc));
         match json {
             Value::Object(members) => read_members(alloc, &mut serials, members)?,
@@ -46,7 +46,7 @@ fn read_members(
     alloc: Global,
     serials: &mut SerialNumber,
     members: &Vec<(&str, Value<'_>)>,
-) -> Result<(), Fault>
+) -> Result<(), ValueError>
     ensures ok { OnOk result
         (serials_with (serial_view serials.old) (members_view members.now.items)
         ≡ Ok (serial_view serials.new)) }
@@ -68,7 +68,7 @@ fn read_member(
     serials: &mut SerialNumber,
     name: &str,
     json: &Value<'_>,
-) -> Result<(), Fault>
+) -> Result<(), ValueError>
     ensures ok { OnOk result (serials_and (serial_view serials.old) name.now (value_view json.now)
         ≡ Ok (serial_view serials.new)) }
     ensures fault { IfErr result (IsFaultOf

@@ -6,7 +6,7 @@ ghost use Rattle.haya_json.specs.Values.{publisher_in, url_in};
 ghost use Rattle.haya_values.specs.Publisher.{publisher_view};
 ghost use Rattle.haya_values.specs.Url.{url_view};
 
-use crate::fault::{Fault, Why};
+use crate::fault::{ValueError, Why};
 use crate::from_json::{FromJson, needed, optional, read_by};
 use haya_text::FormatString;
 use haya_time::Date;
@@ -26,7 +26,7 @@ impl FromJson for Publisher {
 
     /// The publisher's name, or an object of a `name` and a `location`.
     #[tactic(auto, unfolding(crate::specs::Values::publisher_of))]
-    fn from_json(alloc: Global, json: &Value<'_>) -> Result<Publisher, Fault> {
+    fn from_json(alloc: Global, json: &Value<'_>) -> Result<Publisher, ValueError> {
         match json {
             Value::Object(_) => read_publisher(alloc, json),
             _ => read_by(alloc, json, Why::NotChunks),
@@ -35,7 +35,7 @@ impl FromJson for Publisher {
 }
 
 // The publisher of an object.
-fn read_publisher(alloc: Global, json: &Value<'_>) -> Result<Publisher, Fault>
+fn read_publisher(alloc: Global, json: &Value<'_>) -> Result<Publisher, ValueError>
     ensures ok { IfOk result (λ p. publisher_in (value_view json.now) ≡ Ok (publisher_view p)) }
     ensures fault { IfErr result (IsFaultOf (publisher_in (value_view json.now))) }
 {
@@ -56,7 +56,7 @@ impl FromJson for QualifiedUrl {
 
     /// The address, or an object of a `value` and the `date` of a visit.
     #[tactic(auto, unfolding(crate::specs::Values::url_of))]
-    fn from_json(alloc: Global, json: &Value<'_>) -> Result<QualifiedUrl, Fault> {
+    fn from_json(alloc: Global, json: &Value<'_>) -> Result<QualifiedUrl, ValueError> {
         match json {
             Value::Object(_) => read_url(alloc, json),
             _ => {
@@ -68,7 +68,7 @@ impl FromJson for QualifiedUrl {
 }
 
 // The address of an object.
-fn read_url(alloc: Global, json: &Value<'_>) -> Result<QualifiedUrl, Fault>
+fn read_url(alloc: Global, json: &Value<'_>) -> Result<QualifiedUrl, ValueError>
     ensures ok { IfOk result (λ url. url_in (value_view json.now) ≡ Ok (url_view url)) }
     ensures fault { IfErr result (IsFaultOf (url_in (value_view json.now))) }
 {

@@ -6,7 +6,7 @@ ghost use Rattle.haya_text.specs.Texts.{text_view};
 ghost use Rattle.haya_json.specs.Refusal.{IsFaultOf};
 ghost use Rattle.haya_json.specs.Values.{chunks_in, chunks_of, forms_in, marked_of, verbatim_text};
 
-use crate::fault::{Fault, Why};
+use crate::fault::{ValueError, Why};
 use crate::from_json::{FromJson, flag, needed, optional, read_by};
 use haya_text::{ChunkedString, FormatString, OutOfMemory, StringChunk};
 use json::Value;
@@ -27,7 +27,7 @@ impl FromJson for Verbatim {
 
     ghost reads = { verbatim_of };
 
-    fn from_json(alloc: Global, json: &Value<'_>) -> Result<Verbatim, Fault> {
+    fn from_json(alloc: Global, json: &Value<'_>) -> Result<Verbatim, ValueError> {
         let text = String::from_json(alloc, json)?;
         Ok(Verbatim(verbatim_text(alloc, text)?))
     }
@@ -58,7 +58,7 @@ impl FromJson for Marked {
 
     ghost reads = { marked_of };
 
-    fn from_json(alloc: Global, json: &Value<'_>) -> Result<Marked, Fault> {
+    fn from_json(alloc: Global, json: &Value<'_>) -> Result<Marked, ValueError> {
         Ok(Marked(read_by(alloc, json, Why::NotChunks)?))
     }
 }
@@ -76,7 +76,7 @@ impl FromJson for ChunkedString {
 
     /// A text with its marks, or an object of a `value` that may be `verbatim`.
     #[tactic(auto, unfolding(crate::specs::Values::chunks_of))]
-    fn from_json(alloc: Global, json: &Value<'_>) -> Result<ChunkedString, Fault> {
+    fn from_json(alloc: Global, json: &Value<'_>) -> Result<ChunkedString, ValueError> {
         match json {
             Value::Object(_) => read_object(alloc, json),
             _ => Ok(Marked::from_json(alloc, json)?.0),
@@ -85,7 +85,7 @@ impl FromJson for ChunkedString {
 }
 
 // The chunks of an object of a text with its marks.
-fn read_object(alloc: Global, json: &Value<'_>) -> Result<ChunkedString, Fault>
+fn read_object(alloc: Global, json: &Value<'_>) -> Result<ChunkedString, ValueError>
     ensures ok { IfOk result (λ cs. chunks_in marked_of (value_view json.now) ≡ Ok (chunks cs)) }
     ensures fault { IfErr result (IsFaultOf (chunks_in marked_of (value_view json.now))) }
 {
@@ -107,7 +107,7 @@ impl FromJson for FormatString {
 
     /// A text with its marks, or an object of its forms.
     #[tactic(auto, unfolding(crate::specs::Values::format_of))]
-    fn from_json(alloc: Global, json: &Value<'_>) -> Result<FormatString, Fault> {
+    fn from_json(alloc: Global, json: &Value<'_>) -> Result<FormatString, ValueError> {
         match json {
             Value::Object(_) => read_forms(alloc, json),
             _ => read_by(alloc, json, Why::NotChunks),
@@ -116,7 +116,7 @@ impl FromJson for FormatString {
 }
 
 // The forms of an object.
-fn read_forms(alloc: Global, json: &Value<'_>) -> Result<FormatString, Fault>
+fn read_forms(alloc: Global, json: &Value<'_>) -> Result<FormatString, ValueError>
     ensures ok { IfOk result (λ text. forms_in (value_view json.now) ≡ Ok (text_view text)) }
     ensures fault { IfErr result (IsFaultOf (forms_in (value_view json.now))) }
 {
@@ -131,7 +131,7 @@ fn read_forms(alloc: Global, json: &Value<'_>) -> Result<FormatString, Fault>
 }
 
 // The long form of an object.
-fn read_long(alloc: Global, json: &Value<'_>) -> Result<ChunkedString, Fault>
+fn read_long(alloc: Global, json: &Value<'_>) -> Result<ChunkedString, ValueError>
     ensures ok { IfOk result (λ cs. chunks_in chunks_of (value_view json.now) ≡ Ok (chunks cs)) }
     ensures fault { IfErr result (IsFaultOf (chunks_in chunks_of (value_view json.now))) }
 {

@@ -1,5 +1,5 @@
 use super::{fault_of, words};
-use haya_run::Fault;
+use haya_run::RunError;
 use std::env::{Env, FillError};
 use std::io;
 use std::test::Fail;
@@ -51,7 +51,7 @@ fn refuses_arguments_that_are_not_text(rt: HostRuntime) {
     let Err(fault) = words(&(given, rt.alloc())) else {
         panic!(rt; "arguments that aren't text are taken")
     };
-    assert!(rt; fault == Fault::Usage);
+    assert!(rt; fault == RunError::Usage);
     drop(fault);
 }
 
@@ -59,9 +59,9 @@ fn refuses_arguments_that_are_not_text(rt: HostRuntime) {
 #[test]
 fn tells_memory_from_arguments(rt: HostRuntime) {
     let memory = fault_of(&io::Error::from(io::ErrorKind::OutOfMemory));
-    assert!(rt; memory == Fault::OutOfMemory);
+    assert!(rt; memory == RunError::OutOfMemory);
     drop(memory);
     let other = fault_of(&io::Error::from(io::ErrorKind::InvalidData));
-    assert!(rt; other == Fault::Usage);
+    assert!(rt; other == RunError::Usage);
     drop(other);
 }

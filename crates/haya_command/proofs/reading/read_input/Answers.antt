@@ -1,7 +1,7 @@
 use Rattle.std.proofs.Common.{◌≡◌, ap, subst, ◌∙◌}
 use Rattle.std.specs.Prelude.{string_bytes}
 use Rattle.haya_json.specs.Notes.{notes_view}
-use Rattle.haya_command.specs.Formats.{keyed_by}
+use Rattle.haya_formats.specs.Formats.{keyed_by}
 use Rattle.haya_command.specs.Reading.{Tells, format_in}
 use Rattle.haya_command.proofs.CollectedTexts.{told_by}
 use Rattle.haya_command.proofs.reading.read_input.Goals as goal

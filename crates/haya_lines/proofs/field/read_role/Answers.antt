@@ -2,7 +2,7 @@ use Rattle.std.proofs.Common.{◌≡◌, Option, None, Some, Ok, ap, sym, ◌∙
 use Rattle.std.specs.Prelude.{ok_or, option_map}
 use Rattle.haya_people.specs.Roles.{role_read, role_view}
 use Rattle.haya_people.specs.declared.person.PersonError.TheVariants.{UnknownRole}
-use Rattle.haya_lines.specs.declared.fault.LineFault.TheVariants.{RefusedValue}
+use Rattle.haya_lines.specs.declared.error.LineError.TheVariants.{RefusedValue}
 use Rattle.haya_lines.proofs.field.read_role.Goals as goal
 
 -- what is read is read with another fault beside it too, and seen by value

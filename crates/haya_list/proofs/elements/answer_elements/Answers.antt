@@ -1,5 +1,5 @@
 use Rattle.std.proofs.Common.{◌≡◌, inl, inr, Some, rules, refl}
-use Rattle.std.proofs.lemmas.Result.{IfOk-weaker}
+use Rattle.std.proofs.lemmas.Result.{IfOk-weaker, MatchResult-weaker}
 use Rattle.haya_elements.specs.Elements.{element_lines}
 use Rattle.haya_list.specs.Elements.{lines_left}
 use Rattle.haya_list.proofs.ElementLists.{all_elements}
@@ -15,3 +15,8 @@ returns-clause-all g c = λ text known.
       | inr a ↦ inr (lines_left g.R.Read.remaining c.answer_lent.new.elements, a)
     ])
     (c.answer_lent.ensures.all _ left)
+
+pub returns-clause-part : goal.returns-clause-part
+returns-clause-part g c = λ text known.
+    let left : lines_left g.R.Read.remaining c.new-elements.result ≡ Some (element_lines c.args.brackets text) = rw (c.new-elements.ensures.fresh, known) refl in
+    MatchResult-weaker c.answer_lent.result (c.answer_lent.ensures.part _ left) (λ done _. tt) (λ stopped a. (lines_left g.R.Read.remaining c.answer_lent.new.elements, a))

@@ -12,5 +12,6 @@ returns-in-Ok-clause-all g c =
 
 pub returns-in-Err-clause-part : goal.returns-in-Err-clause-part
 returns-in-Err-clause-part g c =
-    entries_part (λ s. s.number) (λ s. s.reader) (λ s. s.answerer) g.L.EntryReader.says g.A.EntryAnswerer.answers g.A.EntryAnswerer.is_done _ _ refl refl g.L.EntryReader.refuses g.A.EntryAnswerer.refuses _ _ _ _
-    c.in-Err.fault c.in-Err.ensures.part
+    rw c.parts_of-answerer.ensures
+    (entries_part (λ s. s.number) (λ s. s.reader) (λ s. s.answerer) g.L.EntryReader.says g.A.EntryAnswerer.answers g.A.EntryAnswerer.is_done _ _ refl refl g.L.EntryReader.refuses g.L.EntryReader.leaves g.A.EntryAnswerer.refuses _ _ _ _ _
+    c.in-Err.fault c.in-Err.ensures.part)

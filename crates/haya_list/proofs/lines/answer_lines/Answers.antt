@@ -13,5 +13,6 @@ returns-in-Ok-clause-all g c =
 
 pub returns-in-Err-clause-part : goal.returns-in-Err-clause-part
 returns-in-Err-clause-part g c =
-    lines_part (λ s. s.number) (λ s. s.entries) (λ s. s.answerer) g.A.EntryAnswerer.answers g.A.EntryAnswerer.is_done _ refl (ap (λ o. o.chain) c.new.ensures) g.A.EntryAnswerer.refuses _ _ _ _
-    c.in-Err.fault c.in-Err.ensures.part
+    rw c.answerer_of-in-Err.ensures
+    (lines_part (λ s. s.number) (λ s. s.entries) (λ s. s.answerer) g.A.EntryAnswerer.answers g.A.EntryAnswerer.is_done _ refl (ap (λ o. o.chain) c.new.ensures) g.A.EntryAnswerer.refuses _ _ _ _ _
+    c.in-Err.fault c.in-Err.ensures.part)

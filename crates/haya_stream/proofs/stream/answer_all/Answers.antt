@@ -52,7 +52,7 @@ pub returns-in-Ok-eq0-clause-part : goal.returns-in-Ok-eq0-clause-part
 returns-in-Ok-eq0-clause-part g c =
     let read = goes_on (Asked g.A.Answerer.is_done g.A.Answerer.answers) g.A.Answerer.is_done _ _ _ _ _ _ c.reads.invariant.read (sym c.is_done.ensures ∙ c.if-is_done.false) in
     let gave = rw c.in-Ok-eq0.field-0-test at c.in-Ok-eq0.ensures.bytes in
-    end_part (Asked g.A.Answerer.is_done g.A.Answerer.answers) _ _ c.reads.answerer _ _ _ _ _ _ _ read.0 g.A.Answerer.refuses c.answer_rest.result gave.0 (gave.1 refl (search rules))
+    end_part (Asked g.A.Answerer.is_done g.A.Answerer.answers) _ _ c.reads.answerer _ _ _ _ _ _ _ read.0 g.A.Answerer.refuses _ c.answer_rest.result gave.0 (gave.1 refl (search rules))
     (rw c.as_slice.ensures.value at c.answer_rest.ensures.part)
 
 pub returns-in_err-answer_block-in-Ok-clause-part : goal.returns-in_err-answer_block-in-Ok-clause-part
@@ -60,18 +60,18 @@ returns-in_err-answer_block-in-Ok-clause-part g c =
     let read = goes_on (Asked g.A.Answerer.is_done g.A.Answerer.answers) g.A.Answerer.is_done _ _ _ _ _ _ c.reads.invariant.read (sym c.is_done.ensures ∙ c.if-is_done.false) in
     let p = err_from_is_err_and c.from_residual.result c.from_residual.ensures.1 in
     rw (p.1, p.2)
-    (block_part (Asked g.A.Answerer.is_done g.A.Answerer.answers) _ _ c.reads.answerer _ _ _ _ _ _ _ read.0 g.A.Answerer.refuses _ _ c.in-Ok.ensures.bytes.0
+    (block_part (Asked g.A.Answerer.is_done g.A.Answerer.answers) _ _ c.reads.answerer _ _ _ _ _ _ _ read.0 g.A.Answerer.refuses _ _ _ c.in-Ok.ensures.bytes.0
     c.in_err-answer_block-in-Ok.ensures.part)
 
 pub returns-then-ne-clause-part : goal.returns-then-ne-clause-part
 returns-then-ne-clause-part g c =
     let read = goes_on (Asked g.A.Answerer.is_done g.A.Answerer.answers) g.A.Answerer.is_done _ _ _ _ _ _ c.reads.invariant.read (sym c.is_done.ensures ∙ c.if-is_done.false) in
-    read_fails (Asked g.A.Answerer.is_done g.A.Answerer.answers) _ _ c.reads.answerer _ _ _ _ _ None _ read.0 g.A.Answerer.refuses _ read.1 c.in-Err.ensures.bytes
+    read_fails (Asked g.A.Answerer.is_done g.A.Answerer.answers) _ _ c.reads.answerer _ _ _ _ _ None _ read.0 g.A.Answerer.refuses _ _ read.1 c.in-Err.ensures.bytes refl
 
 pub returns-clause-part : goal.returns-clause-part
 returns-clause-part g c =
     let read = goes_on (Asked g.A.Answerer.is_done g.A.Answerer.answers) g.A.Answerer.is_done _ _ _ _ _ _ c.reads.invariant.read (sym c.is_done-2.ensures ∙ c.if-is_done-2.false) in
-    read_fails (Asked g.A.Answerer.is_done g.A.Answerer.answers) _ _ c.reads.answerer _ _ _ _ _ None _ read.0 g.A.Answerer.refuses _ read.1 (Keeps-refl _)
+    read_fails (Asked g.A.Answerer.is_done g.A.Answerer.answers) _ _ c.reads.answerer _ _ _ _ _ None _ read.0 g.A.Answerer.refuses _ _ read.1 (Keeps-refl _) refl
 
 pub returns-then-is_done-2-clause-all : goal.returns-then-is_done-2-clause-all
 returns-then-is_done-2-clause-all g c =

@@ -27,13 +27,13 @@ lines-preserved g c =
 pub returns-in_err-extend_from_slice-clause-stops : goal.returns-in_err-extend_from_slice-clause-stops
 returns-in_err-extend_from_slice-clause-stops g c =
     let p = err_from_is_err_and c.from_residual.result c.from_residual.ensures.1 in
-    let stops = memory_stops (Asked g.A.Answerer.is_done g.A.Answerer.answers) g.A.Answerer.refuses _ _ _ _ _ c.lines.invariant.takes in
+    let stops = memory_stops (Asked g.A.Answerer.is_done g.A.Answerer.answers) g.A.Answerer.refuses _ _ _ _ _ _ c.lines.invariant.takes in
     rw (p.1, p.2) (c.lines.invariant.more, stops.0, c.lines.invariant.prints, stops.1)
 
 pub returns-in_err-extend_from_slice-2-clause-stops : goal.returns-in_err-extend_from_slice-2-clause-stops
 returns-in_err-extend_from_slice-2-clause-stops g c =
     let p = err_from_is_err_and c.from_residual-in_err-extend_from_slice-2.result c.from_residual-in_err-extend_from_slice-2.ensures.1 in
-    let stops = memory_stops (Asked g.A.Answerer.is_done g.A.Answerer.answers) g.A.Answerer.refuses _ _ _ _ _ c.lines.invariant.takes in
+    let stops = memory_stops (Asked g.A.Answerer.is_done g.A.Answerer.answers) g.A.Answerer.refuses _ _ _ _ _ _ c.lines.invariant.takes in
     rw (p.1, p.2) (c.lines.invariant.more, stops.0, c.lines.invariant.prints, stops.1)
 
 pub returns-in_err-answer_line-clause-stops : goal.returns-in_err-answer_line-clause-stops
@@ -46,6 +46,6 @@ returns-in_err-answer_line-clause-stops g c =
     let piece : c.without_return.result.now ≡ strip_carriage_return (held ++ take at rest) =
     c.without_return.ensures ∙ ap strip_carriage_return (c.as_slice.ensures.value ∙ c.in_ok-extend_from_slice.ensures.items) in
     let stops =
-    block_stops (Asked g.A.Answerer.is_done g.A.Answerer.answers) _ held rest at _ _ _ c.lines.invariant.none found.within found.feed found.first c.lines.invariant.takes g.A.Answerer.refuses _
+    block_stops (Asked g.A.Answerer.is_done g.A.Answerer.answers) _ held rest at _ _ _ c.lines.invariant.none found.within found.feed found.first c.lines.invariant.takes g.A.Answerer.refuses _ _
     (rw piece at c.in_err-answer_line.ensures.stops) in
     rw (p.1, p.2) (c.lines.invariant.more, stops.0, c.in_err-answer_line.ensures.kept ∙ c.lines.invariant.prints, stops.1)

@@ -12,7 +12,7 @@ returns-in_err-answer_line-clause-stops g c =
     let some : length c.args.held.now ≢ 0 = search (rules, tests) in
     rw (p.1, p.2) (
       [],
-      last_stops (Asked g.A.Answerer.is_done g.A.Answerer.answers) c.args.held.now c.requires.none _ g.A.Answerer.refuses _ (omega arith) c.in_err-answer_line.ensures.stops,
+      last_stops (Asked g.A.Answerer.is_done g.A.Answerer.answers) c.args.held.now c.requires.none _ g.A.Answerer.refuses _ _ (omega arith) c.in_err-answer_line.ensures.stops,
       c.in_err-answer_line.ensures.kept ∙ sym (append-nil _),
     )
 
@@ -63,10 +63,10 @@ returns-clause-stops g c =
           let some : length held ≢ 0 = search (rules, tests) in
           let (first, utf8, answer, was) = w.in_ok-answer_line.ensures.answers in
           let answered = last_line (Asked g.A.Answerer.is_done g.A.Answerer.answers) held c.requires.none c.args.answerer.now w.answer_line.new.answerer first (omega arith) utf8 answer in
-          end_stopped (Asked g.A.Answerer.is_done g.A.Answerer.answers) g.A.Answerer.refuses held c.args.answerer.now w.answer_line.new.answerer first _ _ _ answered (ap string_bytes w.printed-is ∙ was)
+          end_stopped (Asked g.A.Answerer.is_done g.A.Answerer.answers) g.A.Answerer.refuses held c.args.answerer.now w.answer_line.new.answerer _ first _ _ _ answered (ap string_bytes w.printed-is ∙ was)
           c.answer_end.result (rw (sym w.answerer-is) c.answer_end.ensures.stops) c.answer_end.ensures.kept
       | else-not-is_empty w ↦
           let none : length held ≡ 0 = search (rules, tests) in
-          end_stopped (Asked g.A.Answerer.is_done g.A.Answerer.answers) g.A.Answerer.refuses held c.args.answerer.now c.args.answerer.now [] _ _ _ (no_line (Asked g.A.Answerer.is_done g.A.Answerer.answers) held c.requires.none c.args.answerer.now none)
+          end_stopped (Asked g.A.Answerer.is_done g.A.Answerer.answers) g.A.Answerer.refuses held c.args.answerer.now c.args.answerer.now _ [] _ _ _ (no_line (Asked g.A.Answerer.is_done g.A.Answerer.answers) held c.requires.none c.args.answerer.now none)
           (ap string_bytes w.printed-is ∙ sym (append-nil _)) c.answer_end.result (rw (sym w.answerer-is) c.answer_end.ensures.stops) c.answer_end.ensures.kept
     ]

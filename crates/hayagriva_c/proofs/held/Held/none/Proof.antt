@@ -12,7 +12,7 @@ use contract.Running.{tables}
 use denote.Exit.{yes}
 use denote.RattleType.{RattleType, Valss, owns}
 use denote.Builtin.{RawPtr}
-use denote.RawPtr.{null_ptr, ptr_val}
+use denote.RawPtr.{Ptr, null_ptr, ptr_val}
 use denote.Signature.{types_at, plain}
 use denote.Steps.{nothing}
 use denote.Param.{layout}
@@ -50,7 +50,7 @@ none_spec 𝓤 𝓛 𝓜 𝓡 wired =
     enter ! 𝓣.C 𝓣.Λ code.function (h.0 ∷ []) Post $ alloc_all ! (λ l. pass_all ! refl (h.2, tt) $
     sets ! (agg ! (and_then ! (lit ! tt) (and_then ! (get ! refl) (no_more !)))) refl good $
     -- [what the allocator owns; ..]
-    nothing ! $ nothing ! $ move ! (2 ∷ 0 ∷ []) $ fjoin ! $ feq_i ! (List Val) (p ∷ []) (p ∷ []) refl $ fjoin ! $ feq_i ! (List Val) (w ∷ []) (w ∷ []) refl $ fjoin ! $
+    feq_i ! Ptr null_ptr null_ptr refl $ nothing ! $ move ! (2 ∷ 0 ∷ []) $ fjoin ! $ feq_i ! (List Val) (p ∷ []) (p ∷ []) refl $ fjoin ! $ feq_i ! (List Val) (w ∷ []) (w ∷ []) refl $ fjoin ! $
     fpack ! (Valss (RawPtr ∷ Z ∷ [])) (within (shape (Parts.the_type the_row Z ghosts)) (null_ptr, (a, tt)) (w ∷ [])) (p ∷ [], (h.0 ∷ [], tt)) $ fjoin ! $
     use1 𝓛 (‵ (Held.the_row.own_val (record { ptr = null_ptr; alloc = a; content = None }) (w ∷ []))) (id⊢ 𝓤 _) $
     use0 𝓛 (raw (fact 𝓤 (None ≡ None))) (fact_i 𝓤 (None ≡ None) (emp 𝓤) refl) $ nothing ! $ nothing ! $ fjoin ! $

@@ -1,0 +1,4 @@
+pub mod Spelled
+pub mod Libraries
+pub mod Outcomes
+pub mod Messages

@@ -1,0 +1,15 @@
+pub mod Kinds
+pub mod Values
+pub mod Drafts
+pub mod Rows
+pub mod Containers
+pub mod Titles
+pub mod People
+pub mod PeopleViews
+pub mod Publishers
+pub mod Numbers
+pub mod Serials
+pub mod Dates
+pub mod Sources
+pub mod Places
+pub mod Entries

@@ -1,0 +1,559 @@
+//! The types of entries: the type of the entry that is read, what it appears in, and what its
+//! number is.
+ghost use Rattle.std.specs.Prelude.{◌≡◌};
+ghost use Rattle.haya_bibtex_entries.specs.Kinds.{alone, appears_in, article_in, book_kinds};
+ghost use Rattle.haya_bibtex_entries.specs.Kinds.{given, has_event, host_takes, in_newspaper};
+ghost use Rattle.haya_bibtex_entries.specs.Kinds.{in_periodical, is_in_journal, is_subtype};
+ghost use Rattle.haya_bibtex_entries.specs.Kinds.{kept_kinds, kind_among, kind_named, kind_of};
+ghost use Rattle.haya_bibtex_entries.specs.Kinds.{letter_in, of_institution, of_patent};
+ghost use Rattle.haya_bibtex_entries.specs.Kinds.{paper, paper_kinds, part_kinds, seen_kinds};
+ghost use Rattle.haya_bibtex_entries.specs.Kinds.{stored_kinds, takes_authors, takes_edition};
+ghost use Rattle.haya_bibtex_entries.specs.Kinds.{takes_editors, takes_isbn, takes_issn};
+ghost use Rattle.haya_bibtex_entries.specs.Kinds.{takes_issue, takes_location, takes_publisher};
+ghost use Rattle.haya_bibtex_entries.specs.Kinds.{takes_subtype, takes_volume, unpublished_in};
+ghost use Rattle.haya_bibtex_entries.specs.Rows.{host_level};
+ghost use Rattle.haya_bibtex_inherited.specs.Views.{fields_view};
+
+use crate::draft::Level;
+use crate::texts::{has_field, text_of};
+use haya_bibtex_inherited::FieldRef;
+use haya_entry::EntryType;
+
+/// What a type says of an entry.
+#[derive(Clone, Copy)]
+pub(crate) struct Kind {
+    /// The type of the entry that is read.
+    pub(crate) entry: EntryType,
+    /// What it appears in.
+    pub(crate) host: Option<Host>,
+    /// Whether it was given at a conference.
+    pub(crate) is_given: bool,
+    /// Where its publisher goes.
+    pub(crate) publisher: PublisherRule,
+    /// What its number is.
+    pub(crate) number: NumberRule,
+}
+
+/// What an entry appears in: its type, and the fields that go to it.
+#[derive(Clone, Copy)]
+pub(crate) struct Host {
+    pub(crate) entry: EntryType,
+    pub(crate) takes: Takes,
+}
+
+/// The fields that go to what an entry appears in, beside a title.
+#[derive(Clone, Copy)]
+pub(crate) enum Takes {
+    /// None.
+    Title,
+    /// The volume.
+    Volume,
+    /// What a periodical has.
+    Issue,
+    /// What a newspaper has.
+    Newspaper,
+    /// What the proceedings of a conference have.
+    Proceedings,
+    /// What a book has, with authors of its own.
+    Book,
+    /// What a work of reference has.
+    Reference,
+}
+
+/// Where the publisher of an entry goes.
+#[derive(Clone, Copy)]
+pub(crate) enum PublisherRule {
+    /// To the host that takes it, otherwise to the entry, with its place.
+    Usual,
+    /// It is an organization, and its place that of the entry.
+    Institution,
+    /// To the entry, and its place is that of the entry.
+    Patent,
+}
+
+/// What the number of an entry is.
+#[derive(Clone, Copy)]
+pub(crate) enum NumberRule {
+    /// That of an issue.
+    Issue,
+    /// The volume of its series.
+    Series,
+    /// A serial number.
+    Serial,
+}
+
+impl Takes {
+    /// Whether the publisher goes there.
+    pub(crate) fn publisher(self) -> bool
+        ensures { result ≡ takes_publisher self }
+    {
+        match self {
+            Takes::Issue | Takes::Proceedings | Takes::Book | Takes::Reference => true,
+            _ => false,
+        }
+    }
+
+    /// Whether the volume goes there.
+    pub(crate) fn volume(self) -> bool
+        ensures { result ≡ takes_volume self }
+    {
+        match self {
+            Takes::Title | Takes::Newspaper => false,
+            _ => true,
+        }
+    }
+
+    /// Whether the issue goes there.
+    pub(crate) fn issue(self) -> bool
+        ensures { result ≡ takes_issue self }
+    {
+        match self {
+            Takes::Issue | Takes::Proceedings => true,
+            _ => false,
+        }
+    }
+
+    /// Whether the edition goes there.
+    pub(crate) fn edition(self) -> bool
+        ensures { result ≡ takes_edition self }
+    {
+        match self {
+            Takes::Newspaper | Takes::Book | Takes::Reference => true,
+            _ => false,
+        }
+    }
+
+    /// Whether the editors go there.
+    pub(crate) fn editors(self) -> bool
+        ensures { result ≡ takes_editors self }
+    {
+        match self {
+            Takes::Proceedings | Takes::Book | Takes::Reference => true,
+            _ => false,
+        }
+    }
+
+    /// Whether it has authors of its own.
+    pub(crate) fn authors(self) -> bool
+        ensures { result ≡ takes_authors self }
+    {
+        match self {
+            Takes::Book => true,
+            _ => false,
+        }
+    }
+
+    /// Whether the ISBN goes there.
+    pub(crate) fn isbn(self) -> bool
+        ensures { result ≡ takes_isbn self }
+    {
+        match self {
+            Takes::Proceedings | Takes::Book | Takes::Reference => true,
+            _ => false,
+        }
+    }
+
+    /// Whether the ISSN goes there.
+    pub(crate) fn issn(self) -> bool
+        ensures { result ≡ takes_issn self }
+    {
+        match self {
+            Takes::Issue | Takes::Newspaper | Takes::Proceedings => true,
+            _ => false,
+        }
+    }
+
+    /// Whether the place of the publisher is its location.
+    pub(crate) fn location(self) -> bool
+        ensures { result ≡ takes_location self }
+    {
+        match self {
+            Takes::Newspaper => true,
+            _ => false,
+        }
+    }
+
+    /// Whether the subtype of an entry says what it is.
+    pub(crate) fn subtype(self) -> bool
+        ensures { result ≡ takes_subtype self }
+    {
+        match self {
+            Takes::Issue | Takes::Newspaper => true,
+            _ => false,
+        }
+    }
+}
+
+/// The kind of an entry of this type. Of one that isn't known it is anything.
+pub(crate) fn kind_of(name: &str, fields: &[FieldRef<'_>]) -> Kind
+    ensures { result ≡ kind_of name.now (fields_view fields.now) }
+{
+    kind_named(name, fields).unwrap_or(alone(EntryType::Misc, NumberRule::Serial))
+}
+
+/// The kind of an entry of this type, if that is known.
+pub(crate) fn kind_named(name: &str, fields: &[FieldRef<'_>]) -> Option<Kind>
+    ensures { result ≡ kind_named name.now (fields_view fields.now) }
+{
+    match name {
+        "article" | "suppperiodical" | "review" => Some(article_in(fields)),
+        "newspaper" | "newsarticle" => Some(in_newspaper()),
+        _ => part_kind(name, fields),
+    }
+}
+
+// The same of what is a part of a book, and of what follows.
+fn part_kind(name: &str, fields: &[FieldRef<'_>]) -> Option<Kind>
+    ensures { result ≡ kind_among part_kinds name.now (fields_view fields.now) }
+{
+    match name {
+        "inproceedings" | "conference" => Some(paper()),
+        "incollection" | "suppcollection" => Some(appears_in(
+            EntryType::Anthos,
+            EntryType::Anthology,
+            Takes::Book,
+            NumberRule::Series,
+        )),
+        "inbook" | "suppbook" | "bookinbook" => Some(appears_in(
+            EntryType::Chapter,
+            EntryType::Book,
+            Takes::Book,
+            NumberRule::Series,
+        )),
+        "inreference" => Some(appears_in(
+            EntryType::Entry,
+            EntryType::Reference,
+            Takes::Reference,
+            NumberRule::Series,
+        )),
+        _ => book_kind(name, fields),
+    }
+}
+
+// The same of what is a work of its own, and of what follows.
+fn book_kind(name: &str, fields: &[FieldRef<'_>]) -> Option<Kind>
+    ensures { result ≡ kind_among book_kinds name.now (fields_view fields.now) }
+{
+    match name {
+        "book" | "mvbook" => Some(alone(EntryType::Book, NumberRule::Series)),
+        "booklet" | "commentary" => Some(alone(EntryType::Book, NumberRule::Serial)),
+        "collection" | "mvcollection" => Some(alone(EntryType::Anthology, NumberRule::Series)),
+        "reference" | "mvreference" => Some(alone(EntryType::Reference, NumberRule::Series)),
+        "proceedings" | "mvproceedings" => {
+            Some(given(alone(EntryType::Proceedings, NumberRule::Series)))
+        }
+        _ => paper_kind(name, fields),
+    }
+}
+
+// The same of what an institution gives out, of what comes in issues, and of what follows.
+fn paper_kind(name: &str, fields: &[FieldRef<'_>]) -> Option<Kind>
+    ensures { result ≡ kind_among paper_kinds name.now (fields_view fields.now) }
+{
+    match name {
+        "manual" => Some(alone(EntryType::Reference, NumberRule::Serial)),
+        "periodical" => Some(alone(EntryType::Periodical, NumberRule::Issue)),
+        "thesis" | "phdthesis" | "mastersthesis" => Some(of_institution(EntryType::Thesis)),
+        "report" | "techreport" | "standard" => Some(of_institution(EntryType::Report)),
+        _ => kept_kind(name, fields),
+    }
+}
+
+// The same of what is kept, or of no other kind, and of what follows.
+fn kept_kind(name: &str, fields: &[FieldRef<'_>]) -> Option<Kind>
+    ensures { result ≡ kind_among kept_kinds name.now (fields_view fields.now) }
+{
+    match name {
+        "unpublished" => Some(unpublished_in(fields)),
+        "letter" | "letters" => Some(letter_in(fields)),
+        "patent" => Some(of_patent()),
+        "misc" | "set" => Some(alone(EntryType::Misc, NumberRule::Serial)),
+        "artwork" | "image" => Some(alone(EntryType::Artwork, NumberRule::Serial)),
+        _ => stored_kind(name, fields),
+    }
+}
+
+// The same of what is stored, or on the web, and of what follows.
+fn stored_kind(name: &str, fields: &[FieldRef<'_>]) -> Option<Kind>
+    ensures { result ≡ kind_among stored_kinds name.now (fields_view fields.now) }
+{
+    match name {
+        "software" | "softwareversion" | "softwaremodule" | "codefragment" => {
+            Some(alone(EntryType::Repository, NumberRule::Serial))
+        }
+        "dataset" | "data" => Some(titled_by(EntryType::Repository)),
+        "online" | "electronic" | "www" => Some(titled_by(EntryType::Web)),
+        _ => seen_kind(name, fields),
+    }
+}
+
+// The same of what is seen, heard or performed, and of law.
+fn seen_kind(name: &str, fields: &[FieldRef<'_>]) -> Option<Kind>
+    ensures { result ≡ kind_among seen_kinds name.now (fields_view fields.now) }
+{
+    match name {
+        "video" | "movie" => Some(titled_by(EntryType::Video)),
+        "audio" | "music" => Some(volume_of(EntryType::Audio, EntryType::Audio)),
+        "performance" => Some(given(alone(EntryType::Performance, NumberRule::Serial))),
+        "jurisdiction" => Some(volume_of(EntryType::Case, EntryType::Reference)),
+        "legislation" | "legal" => Some(volume_of(EntryType::Legislation, EntryType::Anthology)),
+        _ => None,
+    }
+}
+
+// An entry of its own.
+fn alone(entry: EntryType, number: NumberRule) -> Kind
+    ensures { result ≡ alone entry number }
+{
+    Kind {
+        entry,
+        host: None,
+        is_given: false,
+        publisher: PublisherRule::Usual,
+        number,
+    }
+}
+
+// One that appears in another, which takes these fields.
+fn appears_in(entry: EntryType, host: EntryType, takes: Takes, number: NumberRule) -> Kind
+    ensures { result ≡ appears_in entry host takes number }
+{
+    let host = Some(Host { entry: host, takes });
+    Kind {
+        host,
+        ..alone(entry, number)
+    }
+}
+
+// One that appears in another of its type, of which the title alone is told.
+fn titled_by(entry: EntryType) -> Kind
+    ensures { result ≡ appears_in entry entry Takes.Title NumberRule.Serial }
+{
+    appears_in(entry, entry, Takes::Title, NumberRule::Serial)
+}
+
+// One that appears in a volume of another.
+fn volume_of(entry: EntryType, host: EntryType) -> Kind
+    ensures { result ≡ appears_in entry host Takes.Volume NumberRule.Serial }
+{
+    appears_in(entry, host, Takes::Volume, NumberRule::Serial)
+}
+
+// One that was given at a conference.
+fn given(kind: Kind) -> Kind
+    ensures { result ≡ given kind }
+{
+    Kind {
+        is_given: true,
+        ..kind
+    }
+}
+
+// One of an institution.
+fn of_institution(entry: EntryType) -> Kind
+    ensures { result ≡ of_institution entry }
+{
+    Kind {
+        publisher: PublisherRule::Institution,
+        ..alone(entry, NumberRule::Serial)
+    }
+}
+
+fn of_patent() -> Kind
+    ensures { result ≡ of_patent }
+{
+    Kind {
+        publisher: PublisherRule::Patent,
+        ..alone(EntryType::Patent, NumberRule::Serial)
+    }
+}
+
+// A paper in the proceedings of a conference.
+fn paper() -> Kind
+    ensures { result ≡ paper }
+{
+    given(appears_in(
+        EntryType::Article,
+        EntryType::Proceedings,
+        Takes::Proceedings,
+        NumberRule::Series,
+    ))
+}
+
+fn in_newspaper() -> Kind
+    ensures { result ≡ in_newspaper }
+{
+    appears_in(
+        EntryType::Article,
+        EntryType::Newspaper,
+        Takes::Newspaper,
+        NumberRule::Issue,
+    )
+}
+
+fn in_periodical() -> Kind
+    ensures { result ≡ in_periodical }
+{
+    appears_in(
+        EntryType::Article,
+        EntryType::Periodical,
+        Takes::Issue,
+        NumberRule::Issue,
+    )
+}
+
+/// Whether the subtype of an entry is this word.
+pub(crate) fn is_subtype(word: &str, fields: &[FieldRef<'_>]) -> bool
+    ensures { result ≡ is_subtype word.now (fields_view fields.now) }
+{
+    match text_of(fields, "entrysubtype") {
+        Some(text) => text.trim() == word,
+        None => false,
+    }
+}
+
+fn article_in(fields: &[FieldRef<'_>]) -> Kind
+    ensures { result ≡ article_in (fields_view fields.now) }
+{
+    if is_subtype("newspaper", fields) {
+        in_newspaper()
+    } else {
+        in_periodical()
+    }
+}
+
+fn has_event(fields: &[FieldRef<'_>]) -> bool
+    ensures { result ≡ has_event (fields_view fields.now) }
+{
+    has_field(fields, "eventtitle") || has_field(fields, "eventdate") || has_field(fields, "venue")
+}
+
+// What wasn't published may have been given at a conference.
+fn unpublished_in(fields: &[FieldRef<'_>]) -> Kind
+    ensures { result ≡ unpublished_in (fields_view fields.now) }
+{
+    if has_event(fields) {
+        given(alone(EntryType::Performance, NumberRule::Serial))
+    } else {
+        alone(EntryType::Manuscript, NumberRule::Serial)
+    }
+}
+
+fn is_in_journal(fields: &[FieldRef<'_>]) -> bool
+    ensures { result ≡ is_in_journal (fields_view fields.now) }
+{
+    has_field(fields, "journaltitle") || has_field(fields, "journal")
+}
+
+// A letter may have been published.
+fn letter_in(fields: &[FieldRef<'_>]) -> Kind
+    ensures { result ≡ letter_in (fields_view fields.now) }
+{
+    if is_in_journal(fields) {
+        article_in(fields)
+    } else {
+        alone(EntryType::Manuscript, NumberRule::Serial)
+    }
+}
+
+impl Kind {
+    /// To which entry the publisher goes.
+    pub(crate) fn publisher_level(self) -> Level
+        ensures { result ≡ host_level takes_publisher self }
+    {
+        match self.host {
+            Some(host) if host.takes.publisher() => Level::Host(host.entry),
+            _ => Level::Own,
+        }
+    }
+
+    /// To which entry the volume goes.
+    pub(crate) fn volume_level(self) -> Level
+        ensures { result ≡ host_level takes_volume self }
+    {
+        match self.host {
+            Some(host) if host.takes.volume() => Level::Host(host.entry),
+            _ => Level::Own,
+        }
+    }
+
+    /// To which entry the issue goes.
+    pub(crate) fn issue_level(self) -> Level
+        ensures { result ≡ host_level takes_issue self }
+    {
+        match self.host {
+            Some(host) if host.takes.issue() => Level::Host(host.entry),
+            _ => Level::Own,
+        }
+    }
+
+    /// To which entry the edition goes.
+    pub(crate) fn edition_level(self) -> Level
+        ensures { result ≡ host_level takes_edition self }
+    {
+        match self.host {
+            Some(host) if host.takes.edition() => Level::Host(host.entry),
+            _ => Level::Own,
+        }
+    }
+
+    /// To which entry the editors go.
+    pub(crate) fn editors_level(self) -> Level
+        ensures { result ≡ host_level takes_editors self }
+    {
+        match self.host {
+            Some(host) if host.takes.editors() => Level::Host(host.entry),
+            _ => Level::Own,
+        }
+    }
+
+    /// To which entry the ISBN goes.
+    pub(crate) fn isbn_level(self) -> Level
+        ensures { result ≡ host_level takes_isbn self }
+    {
+        match self.host {
+            Some(host) if host.takes.isbn() => Level::Host(host.entry),
+            _ => Level::Own,
+        }
+    }
+
+    /// To which entry the ISSN goes.
+    pub(crate) fn issn_level(self) -> Level
+        ensures { result ≡ host_level takes_issn self }
+    {
+        match self.host {
+            Some(host) if host.takes.issn() => Level::Host(host.entry),
+            _ => Level::Own,
+        }
+    }
+
+    /// Whether the place of the publisher is the location of the host.
+    pub(crate) fn locates_host(self) -> bool
+        ensures { result ≡ host_takes takes_location self }
+    {
+        match self.host {
+            Some(host) => host.takes.location(),
+            None => false,
+        }
+    }
+
+    /// Whether the host has authors of its own.
+    pub(crate) fn has_host_authors(self) -> bool
+        ensures { result ≡ host_takes takes_authors self }
+    {
+        match self.host {
+            Some(host) => host.takes.authors(),
+            None => false,
+        }
+    }
+
+    /// Whether the subtype of an entry says what it appears in.
+    pub(crate) fn has_subtype(self) -> bool
+        ensures { result ≡ host_takes takes_subtype self }
+    {
+        match self.host {
+            Some(host) => host.takes.subtype(),
+            None => false,
+        }
+    }
+}

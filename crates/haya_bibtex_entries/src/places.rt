@@ -1,0 +1,221 @@
+//! The fields that have a place, by their names.
+ghost use Rattle.std.specs.Prelude.{◌≡◌, IfOk, false, unwrap_or};
+ghost use Rattle.std.specs.Map.{lookup};
+ghost use Rattle.std.specs.Str.{bytes_eq};
+ghost use Rattle.haya_bibtex_inherited.specs.Entries.{is_among};
+ghost use Rattle.haya_bibtex_inherited.specs.Views.{fields_view};
+ghost use Rattle.haya_bibtex_entries.specs.Places.{container_names, dated_names};
+ghost use Rattle.haya_bibtex_entries.specs.Places.{is_always_placed, is_of_book, is_of_journal};
+ghost use Rattle.haya_bibtex_entries.specs.Places.{is_placed, is_short_of_journal};
+ghost use Rattle.haya_bibtex_entries.specs.Places.{is_subtype_read, linked_names, named_names};
+ghost use Rattle.haya_bibtex_entries.specs.Places.{numbered_names, parent_names};
+ghost use Rattle.haya_bibtex_entries.specs.Places.{published_names, side_names};
+ghost use Rattle.haya_bibtex_entries.specs.Places.{sourced_names, titled_names};
+
+use crate::containers::{Container, container_of};
+use crate::dates::address_of;
+use crate::kinds::{Kind, is_subtype};
+use crate::texts::has_field;
+use haya_bibtex_inherited::FieldRef;
+use haya_text::OutOfMemory;
+use std::alloc::Global;
+
+// ---- fields that always have a place, though another one may be preferred
+
+fn is_titled(name: &str) -> bool
+    ensures { result ≡ is_among titled_names name.now }
+{
+    match name {
+        "title" | "subtitle" | "titleaddon" | "shorttitle" | "maintitle" => true,
+        "mainsubtitle" | "maintitleaddon" | "series" | "shortseries" => true,
+        _ => false,
+    }
+}
+
+fn is_named(name: &str) -> bool
+    ensures { result ≡ is_among named_names name.now }
+{
+    match name {
+        "author" | "editor" | "editora" | "editorb" | "editorc" => true,
+        "translator" | "afterword" | "foreword" | "introduction" => true,
+        "annotator" | "commentator" | "holder" | "director" => true,
+        _ => false,
+    }
+}
+
+fn is_published(name: &str) -> bool
+    ensures { result ≡ is_among published_names name.now }
+{
+    match name {
+        "publisher" | "location" | "address" | "institution" | "school" => true,
+        "organization" | "venue" => true,
+        _ => false,
+    }
+}
+
+fn is_dated(name: &str) -> bool
+    ensures { result ≡ is_among dated_names name.now }
+{
+    match name {
+        "date" | "year" | "month" | "day" => true,
+        "origtitle" | "origdate" | "origyear" | "origpublisher" | "origlocation" => true,
+        _ => false,
+    }
+}
+
+fn is_numbered(name: &str) -> bool
+    ensures { result ≡ is_among numbered_names name.now }
+{
+    match name {
+        "volume" | "number" | "issue" | "edition" | "version" => true,
+        "chapter" | "pages" | "volumes" | "pagetotal" => true,
+        _ => false,
+    }
+}
+
+fn is_linked(name: &str) -> bool
+    ensures { result ≡ is_among linked_names name.now }
+{
+    match name {
+        "doi" | "isbn" | "issn" | "pmid" | "pmcid" | "eid" => true,
+        "eprint" | "url" | "howpublished" | "crossref" | "xdata" => true,
+        _ => false,
+    }
+}
+
+fn is_sourced(name: &str) -> bool
+    ensures { result ≡ is_among sourced_names name.now }
+{
+    match name {
+        "note" | "addendum" | "annotation" | "annote" | "abstract" | "type" => true,
+        "library" | "langid" | "hyphenation" | "language" | "langidopts" => true,
+        _ => false,
+    }
+}
+
+fn is_always_placed(name: &str) -> bool
+    ensures { result ≡ is_always_placed name.now }
+{
+    is_titled(name)
+        || is_named(name)
+        || is_published(name)
+        || is_dated(name)
+        || is_numbered(name)
+        || is_linked(name)
+        || is_sourced(name)
+}
+
+// ---- fields that have a place where another field, or the type, gives them one
+
+fn is_of_journal(container: Container) -> bool
+    ensures { result ≡ is_of_journal container }
+{
+    match container {
+        Container::Journal | Container::Own => true,
+        _ => false,
+    }
+}
+
+fn is_of_book(container: Container) -> bool
+    ensures { result ≡ is_of_book container }
+{
+    match container {
+        Container::Book => true,
+        _ => false,
+    }
+}
+
+fn is_short_of_journal(container: Container) -> bool
+    ensures { result ≡ is_short_of_journal container }
+{
+    match container {
+        Container::Journal => true,
+        _ => false,
+    }
+}
+
+fn is_subtype_read(kind: Kind, fields: &[FieldRef<'_>]) -> bool
+    ensures { result ≡ is_subtype_read kind (fields_view fields.now) }
+{
+    kind.has_subtype() && (is_subtype("newspaper", fields) || is_subtype("magazine", fields))
+}
+
+// Whether a field of a journal or a book has a place, and what follows.
+fn is_contained(
+    alloc: Global,
+    kind: Kind,
+    fields: &[FieldRef<'_>],
+    name: &str,
+) -> Result<bool, OutOfMemory>
+    ensures { IfOk result (λ b. b
+        ≡ unwrap_or (lookup (bytes_eq name.now) (container_names kind (fields_view fields.now)))
+        false) }
+{
+    match name {
+        "journaltitle" | "journal" | "journalsubtitle" | "journaltitleaddon" => {
+            Ok(is_of_journal(container_of(kind, fields)))
+        }
+        "booktitle" | "booksubtitle" | "booktitleaddon" => {
+            Ok(is_of_book(container_of(kind, fields)))
+        }
+        "shortjournal" => Ok(is_short_of_journal(container_of(kind, fields))),
+        _ => is_of_parent(alloc, kind, fields, name),
+    }
+}
+
+// The same of a conference and a host, and of what follows.
+fn is_of_parent(
+    alloc: Global,
+    kind: Kind,
+    fields: &[FieldRef<'_>],
+    name: &str,
+) -> Result<bool, OutOfMemory>
+    ensures { IfOk result (λ b. b
+        ≡ unwrap_or (lookup (bytes_eq name.now) (parent_names kind (fields_view fields.now)))
+        false) }
+{
+    match name {
+        "eventtitle" | "eventtitleaddon" | "eventdate" => Ok(kind.is_given),
+        "bookauthor" => Ok(kind.has_host_authors()),
+        _ => is_beside(alloc, kind, fields, name),
+    }
+}
+
+// The same of what is beside another field.
+fn is_beside(
+    alloc: Global,
+    kind: Kind,
+    fields: &[FieldRef<'_>],
+    name: &str,
+) -> Result<bool, OutOfMemory>
+    ensures { IfOk result (λ b. b
+        ≡ unwrap_or (lookup (bytes_eq name.now) (side_names kind (fields_view fields.now)))
+        false) }
+{
+    match name {
+        "editortype" => Ok(has_field(fields, "editor")),
+        "editoratype" => Ok(has_field(fields, "editora")),
+        "editorbtype" => Ok(has_field(fields, "editorb")),
+        "editorctype" => Ok(has_field(fields, "editorc")),
+        "eprinttype" | "archiveprefix" => Ok(has_field(fields, "eprint")),
+        "urldate" => Ok(address_of(alloc, fields)?.is_some()),
+        "entrysubtype" => Ok(is_subtype_read(kind, fields)),
+        _ => Ok(false),
+    }
+}
+
+/// Whether a field with this name has a place in an entry of this kind. The error: there was no
+/// memory to see it.
+pub(crate) fn is_placed(
+    alloc: Global,
+    kind: Kind,
+    fields: &[FieldRef<'_>],
+    name: &str,
+) -> Result<bool, OutOfMemory>
+    ensures { IfOk result (λ b. b ≡ is_placed kind (fields_view fields.now) name.now) }
+{
+    if is_always_placed(name) {
+        return Ok(true);
+    }
+    is_contained(alloc, kind, fields, name)
+}

@@ -1,0 +1,11 @@
+use Rattle.std.proofs.Common.{take}
+use Rattle.std.specs.Prelude.{All}
+use Rattle.hayagriva.specs.Syntax.{syntax}
+use Rattle.haya_command.specs.Bound.{IsBindable}
+use Rattle.haya_command.specs.Picks.{wanted}
+use Rattle.haya_questions.specs.Place.{place_view}
+use Rattle.haya_command.proofs.bound.check_keys.Given as goal
+
+-- the names so far can be bound
+abbrev pub invariant-keys : goal.invariant-keys
+invariant-keys l = All (λ k. IsBindable (wanted l.invert (syntax l.selector)) (place_view k.place)) (take l.key-index l.keys)

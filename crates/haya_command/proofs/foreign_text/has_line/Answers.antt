@@ -1,8 +1,0 @@
-use Rattle.std.proofs.Common.{rules, tests}
-use Rattle.std.proofs.lemmas.Iterator.Search.{any_from_yields_List}
-use Rattle.std.proofs.lemmas.Iterator.Splits.{YieldsList-from_lines}
-use Rattle.haya_command.specs.FirstLine.{begins}
-use Rattle.haya_command.proofs.foreign_text.has_line.Goals as goal
-
-pub returns : goal.returns
-returns c = any_from_yields_List (begins c.args.sign.now) _ _ _ c.any.ensures.ran (YieldsList-from_lines c.args.text.now c.lines.ensures.rest) (λ x b q k. search (rules, tests))

@@ -1,0 +1,6 @@
+pub mod Bibtex
+pub mod Block
+pub mod FirstLine
+pub mod Foreign
+pub mod Formats
+pub mod Likeness

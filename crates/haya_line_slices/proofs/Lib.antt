@@ -1,0 +1,5 @@
+mod Starts
+mod FirstLines
+mod Ends
+mod Rows
+mod Entries

@@ -1,0 +1,10 @@
+mod Arrays
+mod Classes
+mod Copies
+mod First
+mod Lines
+mod Listed
+mod Pieces
+mod Same
+mod Scanned
+mod Words

@@ -1,0 +1,17 @@
+//! The elements of a text in JSON, as slices of it.
+//!
+//! ```
+//! let slices = element_slices(alloc, Brackets::Square, "[1, {\"a\": 2}]")?; // `1` and `{"a": 2}`
+//! ```
+#![tactic(auto)]
+
+mod element;
+pub mod laws;
+mod printing;
+mod slices;
+#[cfg(test)]
+mod tests;
+mod white;
+
+pub use printing::{list_text, push_element, push_end};
+pub use slices::element_slices;

@@ -1,0 +1,3 @@
+mod Divided
+mod Found
+mod Says

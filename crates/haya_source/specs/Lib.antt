@@ -1,0 +1,3 @@
+pub mod Elements
+pub mod Places
+pub mod Printed

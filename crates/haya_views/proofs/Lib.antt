@@ -1,0 +1,4 @@
+pub mod Nested
+pub mod NextHits
+pub mod Orders
+pub mod Reaches

@@ -1,0 +1,3 @@
+pub mod FieldTexts
+pub mod Hits
+pub mod InOrder

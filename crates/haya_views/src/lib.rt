@@ -1,0 +1,24 @@
+//! What a program in another language asks of a library: entries and their ancestors by number, the
+//! hits of a selector with what its names stand for, and fields as texts.
+//!
+//! ```
+//! let hit = next_hit(alloc, &library, &selector, 0)?;         // the first entry that it picks
+//! let parent = parent_of(alloc, &library, &id, 0)?;           // the number of its first parent
+//! let text = field_text(alloc, entry, "title")?;
+//! ```
+#![tactic(auto)]
+
+mod entries;
+mod entry_id;
+mod field_texts;
+mod hits;
+mod in_order;
+mod names;
+mod type_names;
+
+pub use entries::{entry_at, entry_of_key, parent_of};
+pub use entry_id::EntryId;
+pub use field_texts::field_text;
+pub use hits::{Found, bound_id, next_hit, step_of};
+pub use names::names_of;
+pub use type_names::type_name;

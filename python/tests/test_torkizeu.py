@@ -1,0 +1,158 @@
+"""The package as it is installed. TORKIZEU_EXAMPLES is the folder of the examples, ../../examples where it isn't set."""
+from __future__ import annotations
+
+import doctest
+import gc
+import json
+import os
+import threading
+import unittest
+from pathlib import Path
+from typing import Any
+
+import torkizeu
+from torkizeu import Date, Entry, Library, ParseError, Person, Selector, SelectorError
+
+HERE = Path(__file__).resolve().parent
+EXAMPLES = Path(os.environ.get("TORKIZEU_EXAMPLES", HERE.parent.parent / "examples"))
+
+
+def load_tests(loader: unittest.TestLoader, tests: unittest.TestSuite, pattern: Any) -> unittest.TestSuite:
+    from torkizeu import _errors, _library, _values
+
+    for module in (torkizeu, _errors, _library, _values):
+        tests.addTests(doctest.DocTestSuite(module, extraglobs={"Library": Library}))
+    return tests
+
+
+class Reading(unittest.TestCase):
+    def test_formats_are_told_apart(self) -> None:
+        for name, length in (("zotero.json", 53), ("library.json", 31), ("library.tsv", 2), ("xampl.json", 36)):
+            self.assertEqual(len(Library.read(EXAMPLES / name)), length, name)
+        self.assertEqual(len(Library.parse(b"\xef\xbb\xbf[]")), 0)
+        self.assertEqual(len(Library.read(b"0\ta\tbook\n")), 1)
+
+    def test_places_of_faults(self) -> None:
+        with self.assertRaises(ParseError) as at:
+            Library.parse("0\ta\tbook\n0\tb\tbok\n", "lines", source="x.tsv")
+        fault = at.exception
+        self.assertEqual((fault.line, fault.column, fault.source), (2, None, "x.tsv"))
+        self.assertEqual(str(fault), "x.tsv: line 2: type")
+        with self.assertRaises(ParseError) as at:
+            Library.parse('{"a": ["book"]}')
+        self.assertEqual((at.exception.pointer, at.exception.line), ("/a", None))
+        with self.assertRaises(ParseError):
+            Library.parse(b"\xff", "lines")
+        with self.assertRaises(OSError):
+            Library.read("/nowhere")
+        with self.assertRaises(ValueError):
+            Library.parse("", "bibtex")
+        with self.assertRaises(TypeError):
+            Library()
+
+    def test_writing(self) -> None:
+        library = Library.read(EXAMPLES / "library.json")
+        again = Library.parse(library.to_bytes())
+        self.assertEqual([e.to_dict() for e in library.entries()], [e.to_dict() for e in again.entries()])
+        lines = Library.parse(library.to_bytes("json-lines"), "json-lines")
+        self.assertEqual(list(lines), list(library))
+        with self.assertRaises(torkizeu.Error):
+            library.to_bytes("lines")
+
+
+class Asking(unittest.TestCase):
+    library: Library
+
+    @classmethod
+    def setUpClass(cls) -> None:
+        cls.library = Library.read(EXAMPLES / "zotero.json")
+
+    def test_a_hit_and_what_is_bound(self) -> None:
+        hits = list(self.library.query("article[doi] > p:periodical"))
+        self.assertEqual([hit.key for hit in hits], ["ferrante1987", "altschul1990"])
+        entry, parent = hits[0].entry, hits[0]["p"]
+        self.assertEqual(entry.title, "The program dependence graph and its use in optimization")
+        self.assertEqual(entry.date, Date(1987, 7))
+        self.assertEqual(entry.authors[0], Person("Ferrante", "Jeanne"))
+        self.assertEqual((entry.type, parent.type), ("article", "periodical"))
+        self.assertEqual(parent.title, "ACM Transactions on Programming Languages and Systems")
+        self.assertEqual((parent.text("volume"), entry.doi), ("9", "10.1145/24039.24041"))
+        self.assertEqual(entry["page-range"], "319-349")
+        with self.assertRaises(KeyError):
+            hits[0]["q"]
+
+    def test_one_name_for_two_types(self) -> None:
+        hits = self.library.query("(chapter > b:book) | (anthos > b:anthology)")
+        self.assertEqual({hit.key: hit["b"].type for hit in hits}, {"shelley2003": "anthology", "melville1851": "book"})
+
+    def test_mapping(self) -> None:
+        self.assertEqual(self.library["ferrante1987"].key, "ferrante1987")
+        self.assertNotIn("nobody", self.library)
+        self.assertIsNone(self.library.get("nobody"))
+        self.assertEqual(len(list(self.library.items())), 53)
+        with self.assertRaises(IndexError):
+            self.library.at(53)
+
+    def test_bound_entries_are_those_of_the_tree(self) -> None:
+        tree = {"type": "article", "parent": [{"type": "blog", "title": "1", "parent": {"type": "misc", "title": "2"}},
+                                              {"type": "blog", "title": "3", "parent": {"type": "web", "title": "4"}}]}
+        library = Library.parse(json.dumps({"a": tree}))
+        for selector, title in (("* > x:blog", "1"), ("* > (blog > x:misc)", "2"), ("* > x:(blog > web)", "3"), ("* > (blog > x:web)", "4")):
+            (hit,) = library.query(selector)
+            self.assertEqual(hit["x"].title, title, selector)
+        self.assertEqual([e.title for e in library["a"].ancestors()], ["1", "2", "3", "4"])
+
+    def test_selectors(self) -> None:
+        selector = Selector("article > p:periodical")
+        self.assertEqual(selector.names, ("p",))
+        self.assertTrue(self.library.matches(selector, next(iter(self.library.query(selector))).place))
+        with self.assertRaises(SelectorError) as at:
+            self.library.query("article > Pamphlet")
+        self.assertEqual((at.exception.name, at.exception.position), ("pamphlet", 10))
+        with self.assertRaises(SelectorError) as at:
+            Selector("(" * 2000)
+        self.assertIsNone(at.exception.position)
+        with self.assertRaises(ValueError):
+            Selector("article, book")
+
+    def test_many_threads(self) -> None:
+        selector, wrong = Selector("article[doi] > p:periodical"), []
+
+        def ask() -> None:
+            for _ in range(50):
+                if [hit["p"].type for hit in self.library.query(selector)] != ["periodical", "periodical"]:
+                    wrong.append(1)
+
+        threads = [threading.Thread(target=ask) for _ in range(4)]
+        for thread in threads:
+            thread.start()
+        for thread in threads:
+            thread.join()
+        self.assertEqual(wrong, [])
+
+    def test_what_is_asked_outlives_its_library(self) -> None:
+        hits = list(Library.parse("0\ta\tarticle\n1\tb\tblog\n").query("* > x:blog"))
+        gc.collect()
+        self.assertEqual(hits[0]["x"].key, "b")
+
+
+class Values(unittest.TestCase):
+    def test_every_entry_of_the_examples(self) -> None:
+        for name in ("zotero.json", "library.json", "fields.json", "xampl.json"):
+            for entry in Library.read(EXAMPLES / name).entries():
+                for each in (entry, *entry.ancestors()):
+                    self.assertIsInstance(each, Entry)
+                    _ = (each.title, each.authors, each.editors, each.date, each.doi, each.url, each.to_dict(), repr(each))
+
+    def test_persons(self) -> None:
+        self.assertEqual(Person.of("de la Cruz, Juana"), Person("Cruz", "Juana", "de la"))
+        self.assertEqual(Person.of("King, Jr., Martin Luther"), Person("King", "Martin Luther", None, "Jr."))
+        self.assertEqual(Person.of("UNESCO"), Person("UNESCO"))
+
+    def test_dates(self) -> None:
+        self.assertEqual(Date.of("~1987"), Date(1987, None, None, None, True))
+        self.assertEqual(str(Date(1987, 7, 5)), "1987-07-05")
+
+
+if __name__ == "__main__":
+    unittest.main()
