@@ -83,8 +83,16 @@ static void inputs(void) {
     refused(TEXT("[{\"type\": \"book\"}]"), HAYA_CSL, HAYA_REFUSED_VALUE, 0, 0, "/0/id", "/0/id: missing");
     refused(TEXT("\n{\"key\": \"a\", \"entry\": 1}"), HAYA_JSON_LINES, HAYA_REFUSED_VALUE, 2, 0, "/entry",
             "line 2: /entry: expected an object");
-    refused(TEXT("{}"), 0, HAYA_NO_FORMAT, 0, 0, "", "");
-    refused(TEXT("{}"), 5, HAYA_NO_FORMAT, 0, 0, "", "");
+    refused(TEXT("k:\n  type: book\n  title: A: B\n"), HAYA_YAML, HAYA_NOT_YAML, 3, 11, "",
+            "line 3, column 11: nested key: put a value with a colon in quotes");
+    refused(TEXT("\nk: book\n"), HAYA_GUESSED, HAYA_REFUSED_VALUE, 2, 0, "/k", "line 2: /k: expected an object");
+    refused(TEXT("@book{a title"), HAYA_BIBTEX, HAYA_NOT_BIBTEX, 1, 9, "",
+            "line 1, column 9: no comma: expected a comma or the closing bracket");
+    refused(TEXT("\xef\xbb\xbf{"), HAYA_JSON, HAYA_NOT_JSON, 1, 2, "", "line 1, column 2: invalid JSON");
+    refused(TEXT("\xef\xbb\xbf\n@book{a title"), HAYA_GUESSED, HAYA_NOT_BIBTEX, 2, 9, "",
+            "line 2, column 9: no comma: expected a comma or the closing bracket");
+    refused(TEXT("\xff"), HAYA_GUESSED, HAYA_NOT_TEXT, 0, 0, "", "");
+    refused(TEXT("{}"), 7, HAYA_NO_FORMAT, 0, 0, "", "");
     refused(TEXT("{}"), UINT32_MAX, HAYA_NO_FORMAT, 0, 0, "", "");
     haya_library *library = library_of("\n\n", HAYA_LINES);
     is(haya_library_len(library) == 0, "empty lines");
@@ -346,6 +354,42 @@ static void many(void) {
     haya_library_free(library);
 }
 
+/* Reads a book with the title A, in any of the formats, behind a byte order mark too. */
+static void book(const char *text, uint32_t format) {
+    char marked[128];
+    snprintf(marked, sizeof marked, "\xef\xbb\xbf%s", text);
+    for (int i = 0; i < 2; i++) {
+        haya_library *library = library_of(i == 0 ? text : marked, format);
+        haya_entry entry = {7, 7};
+        is(haya_library_len(library) == 1 && haya_library_get(library, "k", 1, &entry) == HAYA_OK, text);
+        field(library, entry, "title", "A");
+        haya_library_free(library);
+    }
+}
+
+static void formats(void) {
+    static const char *const texts[] = {
+        [HAYA_LINES] = "0\tk\tbook\ttitle=A",
+        [HAYA_JSON] = "{\"k\": {\"type\": \"book\", \"title\": \"A\"}}",
+        [HAYA_CSL] = "[{\"id\": \"k\", \"type\": \"book\", \"title\": \"A\"}]",
+        [HAYA_JSON_LINES] = "{\"key\": \"k\", \"entry\": {\"type\": \"book\", \"title\": \"A\"}}",
+        [HAYA_YAML] = "k:\n  type: book\n  title: A\n",
+        [HAYA_BIBTEX] = "@book{k, title = {A}}",
+    };
+    haya_written text = HAYA_NOTHING_WRITTEN;
+    haya_library *library = library_of("", HAYA_GUESSED);
+    is(haya_library_len(library) == 0, "no bytes of a format that is guessed");
+    for (uint32_t format = HAYA_LINES; format <= HAYA_BIBTEX; format++) {
+        book(texts[format], format);
+        book(texts[format], HAYA_GUESSED);
+        bool is_written = format == HAYA_JSON || format == HAYA_JSON_LINES;
+        is(haya_library_write(library, format, &text) == (is_written ? HAYA_OK : HAYA_NO_FORMAT), "what is written");
+    }
+    is(haya_library_write(library, HAYA_GUESSED, &text) == HAYA_NO_FORMAT, "nothing is guessed where it is written");
+    haya_written_free(&text);
+    haya_library_free(library);
+}
+
 static void written(void) {
     const char *paper = "{\"paper\": {\"type\": \"article\", \"title\": \"T\", \"parent\": {\"type\": \"blog\"}}}";
     const char *line = "{\"key\":\"paper\",\"entry\":{\"type\":\"article\",\"title\":\"T\",\"parent\":{\"type\":\"blog\"}}}\n";
@@ -380,7 +424,7 @@ static void written(void) {
 }
 
 static void messages(void) {
-    static const uint32_t codes[] = {0, 1, 2, 3, 4, 5, 6, 7, 8, 101, 102, 103, 104, 105, 201, 202, 203, 204, 205, 206, 207, 208};
+    static const uint32_t codes[] = {0, 1, 2, 3, 4, 5, 6, 7, 8, 101, 102, 103, 104, 105, 201, 202, 203, 204, 205, 206, 207, 208, 209, 210};
     char room[64];
     is(haya_version() == HAYA_VERSION && haya_version_least() <= HAYA_VERSION, "the version");
     for (size_t i = 0; i < sizeof codes / sizeof *codes; i++) {
@@ -399,6 +443,7 @@ int main(void) {
     hits();
     entries();
     many();
+    formats();
     written();
     messages();
     printf("%d passed, %d failed\n", passed, failed);

@@ -103,6 +103,12 @@ static void run(void) {
     is_done(haya_library_read(TEXT("{"), HAYA_JSON, 0, 0, &other, &fault), HAYA_NOT_JSON, "no JSON");
     is_done(haya_library_read(TEXT("{"), HAYA_JSON_LINES, 0, 0, &other, &fault), HAYA_NOT_JSON, "no lines of JSON");
     is_done(haya_library_read(TEXT("0\ta\tboook"), HAYA_LINES, 0, 0, &other, &fault), HAYA_LINE_TYPE, "no lines");
+    is_done(haya_library_read(TEXT("{\"items\": [{\"id\": \"k\", \"type\": \"book\"}]}"), HAYA_GUESSED, 0, 0, &other, &fault), HAYA_OK, "a guess");
+    is_done(haya_library_read(TEXT("k:\n  type: book\n"), HAYA_YAML, 0, 0, &other, &fault), HAYA_OK, "YAML");
+    is_done(haya_library_read(TEXT("k: book"), HAYA_YAML, 0, 0, &other, &fault), HAYA_REFUSED_VALUE, "a value in YAML");
+    is_done(haya_library_read(TEXT("k: a: b"), HAYA_YAML, 0, 0, &other, &fault), HAYA_NOT_YAML, "no YAML");
+    is_done(haya_library_read(TEXT("@book{k, title = {A}}"), HAYA_BIBTEX, 0, 0, &other, &fault), HAYA_OK, "a .bib file");
+    is_done(haya_library_read(TEXT("@book{k"), HAYA_BIBTEX, 0, 0, &other, &fault), HAYA_NOT_BIBTEX, "no .bib file");
     haya_fault_free(&fault);
     haya_library_free(library);
     haya_library_free(other);
@@ -133,7 +139,7 @@ static char *filled(const char *first, const char *last) {
     return text;
 }
 
-static const char *many_lines, *many_json, *many_csl, *long_line, *long_selector;
+static const char *many_lines, *many_json, *many_csl, *many_yaml, *many_bibtex, *long_line, *long_selector;
 
 /* Reads a text in which all is right. */
 static bool reads(const char *text, uint32_t format, size_t entries, haya_library **library, haya_fault *fault) {
@@ -162,6 +168,8 @@ static void run_many(void) {
     haya_written_free(&written);
     if (reads(many_json, HAYA_JSON, MANY, &other, &fault)) haya_library_free(other), other = NULL;
     if (reads(many_csl, HAYA_CSL, MANY, &other, &fault)) haya_library_free(other), other = NULL;
+    if (reads(many_yaml, HAYA_YAML, MANY, &other, &fault)) haya_library_free(other), other = NULL;
+    if (reads(many_bibtex, HAYA_BIBTEX, MANY, &other, &fault)) haya_library_free(other), other = NULL;
     if (reads(long_line, HAYA_LINES, 1, &other, &fault)) {
         if (is_done(haya_entry_text(other, &(haya_entry){0, 0}, TEXT("title"), room, sizeof room, &len), HAYA_OK, "a long text")) {
             must(len == LONG && room[0] == 'x' && memcmp(room, room + 1, LONG - 1) == 0, "the long text");
@@ -196,6 +204,8 @@ int main(int count, char **words) {
     strcat((char *)many_json, "}");
     many_csl = repeated("[{\"id\": \"k0\", \"type\": \"book\"}", ", {\"id\": \"k%d\", \"type\": \"book\"}", MANY - 1);
     strcat((char *)many_csl, "]");
+    many_yaml = repeated("", "k%d:\n  type: book\n", MANY);
+    many_bibtex = repeated("", "@book{k%d}\n", MANY);
     long_line = filled("0\tk\tbook\ttitle=", "");
     long_selector = filled("", ":book");
     refuse_each(run);

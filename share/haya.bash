@@ -5,7 +5,7 @@ _haya_values() {
     case $1 in
         -f | --from) echo hayagriva yaml bibtex csl-json json-lines lines ;;
         --key) echo citation-key id ;;
-        -t | --to) echo keys lines hayagriva yaml json-lines csv tsv ;;
+        -t | --to) echo keys lines hayagriva yaml json-lines source csl-json csv tsv ;;
         -w | --where | --sort | --unique | --duplicates | --columns)
             echo key type date title author editor doi volume issue page-range publisher language ;;
         -n | --max) echo 10 100 ;;

@@ -1,7 +1,7 @@
-/* large lines|json|csl|json-lines[,FIRST,SECOND] SELECTOR [NAME]: prints the hits that the library for C finds in the library on standard input, as
- * hayagriva_query does; with a NAME also how many parents each has and the text of its field of this name, each behind a tab. It
- * asks each hit again whether the selector holds there, and ends with status 1 where it doesn't. FIRST and SECOND are the keys that
- * the library hashes with, or else 1 and 2. */
+/* large lines|json|csl|json-lines|yaml|bibtex|guessed[,FIRST,SECOND] SELECTOR [NAME]: prints the hits that the library for C finds in
+ * the library on standard input, as hayagriva_query does; with a NAME also how many parents each has and the text of its field of this
+ * name, each behind a tab. It asks each hit again whether the selector holds there, and ends with status 1 where it doesn't. FIRST and
+ * SECOND are the keys that the library hashes with, or else 1 and 2. */
 #include "hayagriva.h"
 
 #include <stdio.h>
@@ -50,15 +50,15 @@ static char *read_all(size_t *len) {
 
 /* Reads the format in front of a comma, and the keys behind it. */
 static uint32_t format_of(const char *word, uint64_t keys[2]) {
-    static const char *const names[] = {"lines", "json", "csl", "json-lines"};
-    static const uint32_t formats[] = {HAYA_LINES, HAYA_JSON, HAYA_CSL, HAYA_JSON_LINES};
+    static const char *const names[] = {"lines", "json", "csl", "json-lines", "yaml", "bibtex", "guessed"};
+    static const uint32_t formats[] = {HAYA_LINES, HAYA_JSON, HAYA_CSL, HAYA_JSON_LINES, HAYA_YAML, HAYA_BIBTEX, HAYA_GUESSED};
     char *end = strchr(word, ',');
     size_t len = end != NULL ? (size_t)(end - word) : strlen(word);
     for (int i = 0; end != NULL && i < 2; i++) keys[i] = strtoull(end + 1, &end, 10);
-    for (size_t i = 0; i < 4; i++) {
+    for (size_t i = 0; i < sizeof formats / sizeof *formats; i++) {
         if (strlen(names[i]) == len && memcmp(names[i], word, len) == 0) return formats[i];
     }
-    return 0;
+    return UINT32_MAX;
 }
 
 /* Prints the key of an entry. */

@@ -1,6 +1,6 @@
-/* leaks lines|json|csl FILE..: reads each file, which has a fault behind entries that are good, where a library was read before
- * and where there was none, and asks the first. Ends with status 1 where a file is read without a fault. Whoever runs it counts
- * what isn't freed. */
+/* leaks lines|json|csl|json-lines|yaml|bibtex|guessed FILE..: reads each file, which has a fault behind entries that are good, where a
+ * library was read before and where there was none, and asks the first. Ends with status 1 where a file is read without a fault.
+ * Whoever runs it counts what isn't freed. */
 #include "hayagriva.h"
 
 #include <stdio.h>
@@ -8,7 +8,11 @@
 #include <string.h>
 
 static uint32_t format_of(const char *word) {
-    return strcmp(word, "json") == 0 ? HAYA_JSON : strcmp(word, "csl") == 0 ? HAYA_CSL : HAYA_LINES;
+    static const char *const names[] = {"guessed", "lines", "json", "csl", "json-lines", "yaml", "bibtex"};
+    for (uint32_t format = HAYA_GUESSED; format <= HAYA_BIBTEX; format++) {
+        if (strcmp(word, names[format]) == 0) return format;
+    }
+    return UINT32_MAX;
 }
 
 /* Reads the text in the place of a library, and answers whether it was refused and the library kept as it was. */

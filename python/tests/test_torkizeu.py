@@ -27,10 +27,27 @@ def load_tests(loader: unittest.TestLoader, tests: unittest.TestSuite, pattern: 
 
 class Reading(unittest.TestCase):
     def test_formats_are_told_apart(self) -> None:
-        for name, length in (("zotero.json", 53), ("library.json", 31), ("library.tsv", 2), ("xampl.json", 36)):
+        json_files = (("zotero.json", 53), ("library.json", 31), ("xampl.json", 36))
+        for name, length in (*json_files, ("library.tsv", 2), ("library.yml", 31), ("refs.bib", 9)):
             self.assertEqual(len(Library.read(EXAMPLES / name)), length, name)
         self.assertEqual(len(Library.parse(b"\xef\xbb\xbf[]")), 0)
         self.assertEqual(len(Library.read(b"0\ta\tbook\n")), 1)
+
+    def test_each_format(self) -> None:
+        texts = {
+            "lines": "0\tk\tbook\ttitle=A",
+            "hayagriva": '{"k": {"type": "book", "title": "A"}}',
+            "yaml": "k:\n  type: book\n  title: A\n",
+            "csl-json": '[{"id": "k", "type": "book", "title": "A"}]',
+            "json-lines": '{"key": "k", "entry": {"type": "book", "title": "A"}}',
+            "bibtex": "@book{k, title = {A}}",
+        }
+        for name, text in texts.items():
+            for marked in (text.encode(), b"\xef\xbb\xbf" + text.encode()):
+                for library in (Library.parse(marked), Library.parse(marked, name)):
+                    self.assertEqual([(e.key, e.type, e.title) for e in library.entries()], [("k", "book", "A")], name)
+        yaml, json_file = (Library.read(EXAMPLES / f"library.{end}") for end in ("yml", "json"))
+        self.assertEqual([e.to_dict() for e in yaml.entries()], [e.to_dict() for e in json_file.entries()])
 
     def test_places_of_faults(self) -> None:
         with self.assertRaises(ParseError) as at:
@@ -41,12 +58,21 @@ class Reading(unittest.TestCase):
         with self.assertRaises(ParseError) as at:
             Library.parse('{"a": ["book"]}')
         self.assertEqual((at.exception.pointer, at.exception.line), ("/a", None))
+        places = {
+            "k:\n  type: book\n  title: A: B\n": (3, 11, None),
+            "\nk: book\n": (2, None, "/k"),
+            "@book{k,\n  title {A}}": (2, 9, None),
+        }
+        for text, place in places.items():
+            with self.assertRaises(ParseError) as at:
+                Library.parse(text)
+            self.assertEqual((at.exception.line, at.exception.column, at.exception.pointer), place, text)
         with self.assertRaises(ParseError):
             Library.parse(b"\xff", "lines")
         with self.assertRaises(OSError):
             Library.read("/nowhere")
         with self.assertRaises(ValueError):
-            Library.parse("", "bibtex")
+            Library.parse("", "ris")
         with self.assertRaises(TypeError):
             Library()
 
@@ -56,8 +82,9 @@ class Reading(unittest.TestCase):
         self.assertEqual([e.to_dict() for e in library.entries()], [e.to_dict() for e in again.entries()])
         lines = Library.parse(library.to_bytes("json-lines"), "json-lines")
         self.assertEqual(list(lines), list(library))
-        with self.assertRaises(torkizeu.Error):
-            library.to_bytes("lines")
+        for name in ("lines", "yaml", "csl-json", "bibtex"):
+            with self.assertRaises(torkizeu.Error):
+                library.to_bytes(name)
 
 
 class Asking(unittest.TestCase):

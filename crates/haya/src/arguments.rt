@@ -5,7 +5,7 @@ use crate::lists::List;
 use clap::parser::ValueSource;
 use clap::{Arg, ArgAction, ArgMatches, Command, Error};
 use haya_asked::Questions;
-use haya_command::{Form, Options};
+use haya_command::{Form, Options, SourceForm};
 use haya_csl::ItemKey;
 use haya_formats::Format;
 use haya_questions::Table;
@@ -58,12 +58,14 @@ const FORMATS: [&str; 6] = [
 
 const KEYS: [&str; 2] = ["citation-key", "id"];
 
-const FORMS: [&str; 7] = [
+const FORMS: [&str; 9] = [
     "keys",
     "lines",
     "hayagriva",
     "yaml",
     "json-lines",
+    "source",
+    "csl-json",
     "csv",
     "tsv",
 ];
@@ -255,6 +257,7 @@ fn options_in(alloc: Global, matches: &ArgMatches<'_>) -> Result<Options, AllocE
         questions: Questions::none(alloc),
         to: form_in(matches),
         columns: None,
+        source: source_in(matches),
         count: matches.get_flag("count"),
         quiet: matches.get_flag("quiet"),
         invert: matches.get_flag("invert"),
@@ -344,6 +347,11 @@ fn form_in(matches: &ArgMatches<'_>) -> Form {
         Some(name) => Form::named(name).unwrap_or(Form::Keys),
         None => Form::Keys,
     }
+}
+
+// The form that is given, where entries are printed as their input has them.
+fn source_in(matches: &ArgMatches<'_>) -> Option<SourceForm> {
+    SourceForm::named(matches.get_str("to")?)
 }
 
 // What is to be listed.

@@ -58,7 +58,10 @@ fn questions_of(alloc: Global, words: &Words) -> Result<Questions, CommandError>
 // The table, where one is asked for.
 fn columns_of(alloc: Global, words: &Words) -> Result<Option<Columns>, CommandError> {
     let Some(table) = words.table else {
-        return Ok(None);
+        return match &words.columns {
+            Some(_) => Err(CommandError::NoTable),
+            None => Ok(None),
+        };
     };
     let places = match &words.columns {
         Some(text) => places_of(alloc, text.as_str())?,

@@ -28,6 +28,7 @@ Examples:
   haya '*' -w 'date >= 1986' --sort -date refs.json    what came out since 1986, newest first
   haya 'article' --columns key,date,title refs.json    the articles as a table
   haya '*' --unique doi refs.json more.json            the entries of both files, each DOI once
+  haya -t source 'book' refs.json                      the books as the file has them, byte for byte
 
 Tests (-w) are a place, one of = != ~ !~ < <= > >=, and a text, which is compared case aside. A
 place is a name of --list fields, a role such as translator, key or type; behind p. it is of p.

@@ -1,5 +1,5 @@
 //! What `--list` prints: the names that a selector or an option takes, each with what it is.
-use haya_command::Form;
+use haya_command::{Form, SourceForm};
 use haya_formats::Format;
 use hayagriva::types::{EntryType, FieldName};
 use std::alloc::{AllocError, Global};
@@ -70,9 +70,10 @@ fn fields_text(alloc: Global) -> Result<String, AllocError> {
 fn formats_text(alloc: Global) -> Result<String, AllocError> {
     let mut text = String::new(alloc);
     for format in Format::ALL {
-        let use_words = match Form::named(format.name()) {
-            Some(_) => "read and printed: ",
-            None => "read: ",
+        let use_words = if is_printed(format) {
+            "read and printed: "
+        } else {
+            "read: "
         };
         push_name(&mut text, format.name(), 12)?;
         text.push_str(use_words)?;
@@ -87,6 +88,8 @@ fn formats_text(alloc: Global) -> Result<String, AllocError> {
             text.push('\n')?;
         }
     }
+    push_name(&mut text, SourceForm::Source.name(), 12)?;
+    text.push_str("printed: the entries as the input has them, byte for byte\n")?;
     for (name, words) in TABLES {
         push_name(&mut text, name, 12)?;
         text.push_str("printed: ")?;
@@ -94,6 +97,11 @@ fn formats_text(alloc: Global) -> Result<String, AllocError> {
         text.push('\n')?;
     }
     Ok(text)
+}
+
+// Whether entries are printed in this format.
+fn is_printed(format: Format) -> bool {
+    Form::named(format.name()).is_some() || SourceForm::named(format.name()).is_some()
 }
 
 // The tables that are printed.

@@ -85,6 +85,7 @@ fn word_chars(alloc: Global, words: &[&[(char, Kind)]]) -> Result<Vec<char>, All
 fn push_chars(chars: &mut Vec<char>, word: &[(char, Kind)]) -> Result<(), AllocError>
     ensures { OnOk result (chars.new.items ≡ chars.old.items ++ map (λ x. x.0) word.now) }
 {
+    chars.reserve(word.len())?;
     'chars: for (c, _) in word {
         chars.push(*c)?;
     }
@@ -102,7 +103,7 @@ fn is_blank(c: char) -> bool
 fn single_blanks(alloc: Global, chars: &[char]) -> Result<String, AllocError>
     ensures { IfOk result (λ s. string_bytes s ≡ encode_utf8_all (single_blanks chars.now)) }
 {
-    let mut text = String::new(alloc);
+    let mut text = String::with_capacity(alloc, chars.len())?;
     let mut started = false;
     let mut gap = false;
     'chars: for c in chars {

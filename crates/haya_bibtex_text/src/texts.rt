@@ -10,6 +10,7 @@ pub(crate) fn push_characters(text: &mut String, characters: &[char]) -> Result<
     ensures { OnOk result
         (chars (string_bytes text.new) ≡ chars (string_bytes text.old) ++ characters.now) }
 {
+    text.reserve(characters.len())?;
     'characters: for c in characters {
         text.push(*c)?;
     }
@@ -31,7 +32,7 @@ pub(crate) fn lowercase(alloc: Global, characters: &[char]) -> Result<String, Al
     ensures { IfOk result (λ t.
         chars (string_bytes t) ≡ map to_ascii_lowercase characters.now) }
 {
-    let mut text = String::new(alloc);
+    let mut text = String::with_capacity(alloc, characters.len())?;
     'characters: for c in characters {
         text.push(c.to_ascii_lowercase())?;
     }

@@ -12,3 +12,4 @@ mod Streams
 mod CollectedTexts
 mod Written
 mod Settled
+mod Sourced

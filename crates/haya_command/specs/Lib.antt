@@ -7,6 +7,8 @@ pub mod Printed
 pub mod Reading
 pub mod Run
 pub mod SelectorText
+pub mod Source
+pub mod SourceForm
 pub mod Streamable
 pub mod Streamed
 pub mod Told

@@ -1,5 +1,5 @@
 -- Entries asked one after another, as they are read.
-use Rattle.std.specs.Prelude.{◌≡◌, ◌≢◌, ◌⊎◌, ◌≤◌, ◌+◌, ◌&&◌, ◌||◌, ℕ, Any, Bool, IfSome, IsFalse, IsTrue, MatchBool, List, [], ◌∷◌, ◌++◌, Option, None, Some, String, decimal, filter, length, map, nat_le, nat_lt, string_bytes, false, if◌then◌else◌}
+use Rattle.std.specs.Prelude.{◌≡◌, ◌≢◌, ◌⊎◌, ◌≤◌, ◌+◌, ◌&&◌, ◌||◌, ℕ, Any, Bool, IfSome, IsFalse, IsTrue, MatchBool, List, [], ◌∷◌, ◌++◌, Option, None, Some, String, decimal, filter, is_some, length, map, nat_le, nat_lt, string_bytes, false, if◌then◌else◌}
 use Rattle.std.specs.Io.KnownBytes.{Appends, Consumes, IsAtEnd}
 use Rattle.std.specs.IoError.{error_kind}
 use Rattle.std.specs.Str.{IsUtf8, chars}
@@ -43,6 +43,7 @@ use Rattle.haya_command.specs.declared.options.Options.{Options}
 abbrev pub IsAskerFault : Options → CommandError → Type 0
 IsAskerFault options (fault.Selector e) =
     IfSome (selector.fault e) (TextFails (chars (string_bytes options.selector)))
+IsAskerFault options fault.StreamsNoSource = IsTrue (is_some options.source)
 IsAskerFault options fault.CannotStream = IsTrue (is_library options.to)
 IsAskerFault options fault.StreamAsks = IsFalse (is_streamable options)
 IsAskerFault options fault.OutOfMemory = Unit {0}

@@ -52,8 +52,8 @@ pub fn ask(
     Ok(Answer { text, found, notes })
 }
 
-// The hits that are asked for.
-fn asked_hits<'l>(
+/// The hits that are asked for.
+pub(crate) fn asked_hits<'l>(
     alloc: Global,
     keys: HashKeys,
     hits: Vec<Hit<'l>>,
@@ -107,8 +107,8 @@ fn written(
     }
 }
 
-// A number in a line of its own.
-fn count_line(alloc: Global, count: usize) -> Result<String, CommandError>
+/// A number in a line of its own.
+pub(crate) fn count_line(alloc: Global, count: usize) -> Result<String, CommandError>
     ensures line { IfOk result (λ text. string_bytes text ≡ decimal count ++ line_feed ∷ []) }
     ensures error { IsOkUnless result memory }
 {

@@ -1,6 +1,7 @@
 //! What is asked of each entry.
 ghost use Rattle.std.specs.Prelude.{◌≡◌, ◌<◌, ◌+◌, ◌↔◌, ◌∷◌, ◌++◌, [], ℕ, List, IfErr, IfOk};
-ghost use Rattle.std.specs.Prelude.{IsFalse, IsTrue, OnErr, OnOk, Some, length, map, string_bytes};
+ghost use Rattle.std.specs.Prelude.{IsFalse, IsTrue, None, OnErr, OnOk, Some, length, map};
+ghost use Rattle.std.specs.Prelude.{string_bytes};
 ghost use Rattle.std.specs.Str.{chars};
 ghost use Rattle.std.specs.Io.KnownBytes.{Appends};
 ghost use Rattle.hayagriva.specs.Query.{hit_entry};
@@ -48,9 +49,9 @@ pub struct Asker<'o> {
 
 impl<'o> Asker<'o> {
     /// What is asked under these options. A map of what is passed over hashes with the keys.
-    /// `Selector`: the selector's text is none. `CannotStream`: hits are to be printed in a form
-    /// that is none of each alone. `StreamAsks`: they are to be sorted, or told from others that
-    /// share their values.
+    /// `Selector`: the selector's text is none. `StreamsNoSource`: hits are to be printed as their
+    /// input has them. `CannotStream`: they are to be printed in a form that is none of each alone.
+    /// `StreamAsks`: they are to be sorted, or told from others that share their values.
     pub fn new(
         alloc: Global,
         keys: HashKeys,
@@ -61,9 +62,13 @@ impl<'o> Asker<'o> {
             × (asker.selector ≡ wanted options.now.invert s)) }
         ensures options { IfOk result (λ asker. asker.options.now ≡ options.now) }
         ensures streamable { OnOk result (IsTrue (is_streamable options.now)) }
+        ensures form { OnOk result (options.now.source ≡ None) }
         ensures none { IfOk result (λ asker. asker.hits ≡ 0) }
         ensures error { IfErr result (IsAskerFault options.now) }
     {
+        if options.source.is_some() {
+            return Err(CommandError::StreamsNoSource);
+        }
         if options.to.is_library() {
             return Err(CommandError::CannotStream);
         }

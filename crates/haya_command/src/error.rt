@@ -3,6 +3,7 @@ ghost use Rattle.std.specs.Prelude.{◌≡◌, ◌≢◌, ◌⊎◌};
 ghost use Rattle.std.specs.IoError.{error_kind};
 ghost use Rattle.std.specs.declared.io.ErrorKind.TheVariants as kind;
 
+use crate::source_error::SourceError;
 use haya_bibtex::BibtexReadError;
 use haya_formats::ForeignInput;
 use haya_input::InputError;
@@ -116,6 +117,15 @@ pub enum CommandError {
     /// Hits are to be printed as a library, of which nothing can be said before the last is there.
     #[error("--stream prints no library: --to keys, lines or json-lines")]
     CannotStream,
+    /// Entries are to be printed as their input has them, of which nothing is kept in a stream.
+    #[error("--stream prints no entry as the input has it: --to keys, lines or json-lines")]
+    StreamsNoSource,
+    /// The entries of the text that is called so aren't printed as it has them.
+    #[error("{0}: {1}")]
+    Source(String, SourceError),
+    /// There is no element for an entry: no input is refused so.
+    #[error("an entry has no element")]
+    NoPart,
     /// Hits are to be sorted, or told from others that share their values, which can't be said of one
     /// before the last is there.
     #[error("--stream takes no --sort, --unique or --duplicates, which wait for the last entry")]
@@ -129,6 +139,9 @@ pub enum CommandError {
     /// The selector binds nothing to the name of a place of this text.
     #[error("the selector binds no `{1}`")]
     Unbound(String, String),
+    /// Columns are asked for, and a form that is no table.
+    #[error("--columns is of csv and tsv: leave --to out, or give one of these")]
+    NoTable,
     /// A text is no number.
     #[error("`{0}` is no number")]
     NotANumber(String),

@@ -4,6 +4,7 @@ ghost use Rattle.haya_command.specs.Streamable.{is_streamable};
 ghost use Rattle.haya_command.specs.Streamed.{has_enough};
 
 use crate::form::Form;
+use crate::source_form::SourceForm;
 use haya_asked::{Columns, Questions, Repeats};
 use haya_csl::ItemKey;
 use haya_formats::Format;
@@ -23,6 +24,8 @@ pub struct Options {
     pub to: Form,
     /// The table in which they are printed, in place of the form.
     pub columns: Option<Columns>,
+    /// The form in which they are printed as their input has them, in place of both.
+    pub source: Option<SourceForm>,
     /// Whether the number of hits is printed in their place.
     pub count: bool,
     /// Whether nothing is printed, neither an answer nor a message.

@@ -8,7 +8,7 @@ ghost use Rattle.haya_json.specs.Told.{told_again};
 ghost use Rattle.hayagriva.specs.Library.{get, key_of};
 ghost use Rattle.hayagriva.specs.Tree.{Tree};
 ghost use Rattle.haya_command.specs.Reading.{AddsPart, AreCollected, Describes, IsAgain};
-ghost use Rattle.haya_command.specs.Reading.{IsAgainFault};
+ghost use Rattle.haya_command.specs.Reading.{IsAgainFault, IsAgainIn};
 ghost use Rattle.haya_command.specs.Reading.{IsErrorOf, IsFaultBehind, IsFaultIn, IsInputError};
 ghost use Rattle.haya_command.specs.Reading.{IsLoss};
 ghost use Rattle.haya_command.specs.Reading.{IsKeyAgain, IsReadAs, Tells, TellsBy, again_note};
@@ -153,7 +153,31 @@ fn add_input(
     ensures fault { IfErr result (λ e.
         (e ≡ CommandError.OutOfMemory) ⊎ IsFaultBehind options.now library.old input.now e) }
 {
-    let (part, mut notes) = read_input(alloc, keys, options, input)?;
+    let (part, notes) = read_input(alloc, keys, options, input)?;
+    add_part(alloc, options, input, part, notes, library, told)
+}
+
+/// Pushes the library that one input is read as to that of those before it, and tells what is told
+/// of it: these notes, and which of its keys come again.
+pub(crate) fn add_part(
+    alloc: Global,
+    options: &Options,
+    input: &Input,
+    part: Library,
+    notes: Notes,
+    library: &mut Library,
+    told: &mut Vec<InputNotes>,
+) -> Result<(), CommandError>
+    ensures adds { IsReadAs options.now (string_bytes input.now.text) part →
+        TellsBy options.now (string_bytes input.now.text) (notes_view notes) →
+        OnOk result (AddsPart options.now (string_bytes input.now.text) library.old library.new
+        (told_views told.old.items) (told_views told.new.items)) }
+    ensures names { OnOk result (told_names told.new.items
+        ≡ told_names told.old.items ++ string_bytes input.now.name ∷ []) }
+    ensures fault { IsReadAs options.now (string_bytes input.now.text) part → IfErr result (λ e.
+        (e ≡ CommandError.OutOfMemory) ⊎ IsAgainIn options.now library.old input.now e) }
+{
+    let mut notes = notes;
     note_repeats(
         alloc,
         options,
@@ -167,8 +191,8 @@ fn add_input(
     Ok(())
 }
 
-// The library of one input, and what is told of it; in a strict run the first of this is a fault.
-fn read_input(
+/// The library of one input, and what is told of it; in a strict run the first of this is a fault.
+pub(crate) fn read_input(
     alloc: Global,
     keys: HashKeys,
     options: &Options,

@@ -1,10 +1,11 @@
 //! A whole run, but for where its words and its texts come from.
-ghost use Rattle.std.specs.Prelude.{◌≡◌, ◌≤◌, false, true, IfOk, IsTrue, OnErr, OnOk};
+ghost use Rattle.std.specs.Prelude.{◌≡◌, ◌≤◌, false, true, IfOk, IsTrue, OnErr, OnOk, Some};
 ghost use Rattle.std.specs.Prelude.{string_bytes};
 ghost use Rattle.std.specs.Io.KnownBytes.{Keeps};
 ghost use Rattle.haya_command.specs.Reading.{texts};
 ghost use Rattle.haya_command.specs.Run.{Prints, Stands};
 ghost use Rattle.haya_command.specs.SelectorText.{IsOneSelector};
+ghost use Rattle.haya_command.specs.Source.{Answered, Halted, PrintsSource};
 
 use crate::answering::{Answer, ask};
 use crate::error::CommandError;
@@ -13,6 +14,9 @@ use crate::notes::fault_text;
 use crate::options::{Input, Options};
 use crate::reading::{Collected, read_inputs};
 use crate::selector_text::check_selector;
+use crate::source_answering::ask_source;
+use crate::source_form::SourceForm;
+use crate::sources::{Sources, kind_of_inputs, read_sources};
 use crate::told::told_text;
 use haya_stream::write_text;
 use hayagriva::{HashKeys, Library};
@@ -31,18 +35,22 @@ pub fn run<W: Write, E: Write>(
     out: &mut W,
     err: &mut E,
 ) -> u8
-    ensures hit { result ≡ 0 → Prints options.now (texts inputs.now)
+    ensures hit { result ≡ 0 → Answered options.now.source options.now (texts inputs.now)
         (W.contents out.old) (W.contents out.new) true }
-    ensures none { result ≡ 1 → Prints options.now (texts inputs.now)
+    ensures none { result ≡ 1 → Answered options.now.source options.now (texts inputs.now)
         (W.contents out.old) (W.contents out.new) false }
-    ensures fault { result ≡ 2 → Stands options.now (texts inputs.now)
+    ensures fault { result ≡ 2 → Halted options.now.source options.now (texts inputs.now)
         (W.contents out.old) (W.contents out.new) }
     ensures status { result ≤ 2 }
     ensures alone { result ≤ 1 → IsOneSelector (string_bytes options.now.selector) }
     ensures quiet { IsTrue options.now.quiet →
         Keeps (E.contents err.old) (E.contents err.new) }
 {
-    match print_answer(alloc, keys, options, inputs, out, err) {
+    let printed = match options.source {
+        Some(form) => print_source(alloc, keys, options, form, inputs, out, err),
+        None => print_answer(alloc, keys, options, inputs, out, err),
+    };
+    match printed {
         Ok(true) => 0,
         Ok(false) => 1,
         Err(fault) => complain(alloc, options, &fault, err),
@@ -103,6 +111,44 @@ fn print_answer<W: Write, E: Write>(
     tell_notes(options, hint.as_str(), err);
     write_text(out, answer.text.as_str())?;
     Ok(answer.found)
+}
+
+// Prints the answer as the inputs have it, in this form, and says whether an entry is found.
+fn print_source<W: Write, E: Write>(
+    alloc: Global,
+    keys: HashKeys,
+    options: &Options,
+    form: SourceForm,
+    inputs: &[Input],
+    out: &mut W,
+    err: &mut E,
+) -> Result<bool, CommandError>
+    ensures answer { IfOk result (λ found. PrintsSource options.now form (texts inputs.now)
+        (W.contents out.old) (W.contents out.new) found) }
+    ensures fault { OnErr result (Halted (Some form) options.now (texts inputs.now)
+        (W.contents out.old) (W.contents out.new)) }
+    ensures alone { OnOk result (IsOneSelector (string_bytes options.now.selector)) }
+    ensures quiet { IsTrue options.now.quiet →
+        Keeps (E.contents err.old) (E.contents err.new) }
+{
+    check_selector(alloc, options.selector.as_str())?;
+    let kind = kind_of_inputs(alloc, options, form, inputs)?;
+    let Sources {
+        library,
+        told,
+        places,
+    } = read_sources(alloc, keys, options, kind, inputs)?;
+    let asked = ask_source(alloc, keys, &library, options, kind, &places);
+    let hint = hint_for(alloc, options, &library, &asked);
+    mem::forget(library);
+    mem::forget(places);
+    let Answer { text, found, .. } = asked?;
+    let notes = told_text(alloc, told.as_slice())?;
+    tell_notes(options, notes.as_str(), err);
+    warn(alloc, options, err);
+    tell_notes(options, hint.as_str(), err);
+    write_text(out, text.as_str())?;
+    Ok(found)
 }
 
 // What was probably meant where no entry is found. Without memory there is no hint.

@@ -1,4 +1,5 @@
 pub mod Scans
+pub mod Simple
 pub mod Kinds
 pub mod Tokens
 pub mod TokenViews

@@ -16,6 +16,7 @@ mod kinds;
 mod readers;
 mod runs;
 mod scans;
+mod simple;
 mod text;
 mod tokens;
 

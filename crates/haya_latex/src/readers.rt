@@ -3,7 +3,7 @@ ghost use Rattle.std.specs.Prelude.{◌≡◌, ◌∷◌, ◌++◌, [], reverse,
 ghost use Rattle.std.specs.Prelude.{IfOk, OnOk};
 ghost use Rattle.haya_latex.specs.Reading.{close, count, end_group, enter, is_inside, leave, put};
 ghost use Rattle.haya_latex.specs.Reading.{put_formula, put_last, put_output, put_text, settle};
-ghost use Rattle.haya_latex.specs.Reading.{settle_inner, start, take_turn, under, wait};
+ghost use Rattle.haya_latex.specs.Reading.{settle_inner, start, take_turn, under, wait, write};
 ghost use Rattle.haya_latex.specs.Reading.{write_under};
 ghost use Rattle.haya_latex.specs.ReadingViews.{group_view, reader_view};
 ghost use Rattle.haya_latex.specs.TokenViews.{output_view};
@@ -42,12 +42,12 @@ pub(crate) struct Reader {
     pub(crate) waiting: Vec<(Accent, Kind, usize)>,
 }
 
-/// A reader of text of a kind.
-pub(crate) fn start(alloc: Global, kind: Kind) -> Reader
-    ensures { reader_view result ≡ start kind }
+/// A reader of text of a kind, with room for so many characters.
+pub(crate) fn start(alloc: Global, kind: Kind, room: usize) -> Result<Reader, AllocError>
+    ensures { IfOk result (λ r. reader_view r ≡ start kind) }
 {
-    Reader {
-        chars: Vec::new(alloc),
+    Ok(Reader {
+        chars: Vec::with_capacity(alloc, room)?,
         counted: Vec::new(alloc),
         inner: Group {
             kind,
@@ -56,7 +56,7 @@ pub(crate) fn start(alloc: Global, kind: Kind) -> Reader
         },
         outer: Vec::new(alloc),
         waiting: Vec::new(alloc),
-    }
+    })
 }
 
 /// Whether it is inside of a group.
@@ -140,10 +140,23 @@ fn settle_inner(reader: &mut Reader, alloc: Global) -> Result<(), AllocError>
     settle(reader, alloc, groups)
 }
 
+/// Writes a character where no accent waits.
+pub(crate) fn put_alone(reader: &mut Reader, c: char, kind: Kind) -> Result<(), AllocError>
+    ensures { OnOk result
+        (reader_view reader.new ≡ write ((c, kind) ∷ []) (reader_view reader.old)) }
+{
+    reader.chars.push((c, kind))?;
+    Ok(())
+}
+
 // Writes a character.
+#[tactic(auto, using(crate::proofs::Itself::put_free))]
 fn put(reader: &mut Reader, alloc: Global, c: char, kind: Kind) -> Result<(), AllocError>
     ensures { OnOk result (reader_view reader.new ≡ put c kind (reader_view reader.old)) }
 {
+    if reader.waiting.is_empty() {
+        return put_alone(reader, c, kind);
+    }
     if c.is_whitespace() {
         settle(reader, alloc, 0)?;
         reader.chars.push((c, kind))?;

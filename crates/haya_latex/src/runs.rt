@@ -1,10 +1,11 @@
 //! Runs of characters of a kind.
-ghost use Rattle.std.specs.Prelude.{◌≡◌, ◌++◌, true, flat_map, map, reverse, All, IfOk, OnOk};
+ghost use Rattle.std.specs.Prelude.{◌≡◌, ◌++◌, ◌∷◌, [], true, flat_map, map, reverse, All, IfOk, OnOk};
 ghost use Rattle.haya_latex.specs.RunViews.{HasText, run_bytes, run_kind};
 ghost use Rattle.haya_latex.specs.Texts.{alternates, char_bytes, single_blanks, without_last_blank};
 
 use crate::kinds::Kind;
 use std::alloc::{AllocError, Global};
+use std::mem::replace;
 
 /// Characters of a kind that follow one another.
 #[derive(Debug, Drop)]
@@ -22,7 +23,7 @@ pub(crate) fn single_blanks(
 ) -> Result<Vec<(char, Kind)>, AllocError>
     ensures { IfOk result (λ v. v.items ≡ single_blanks true chars.now) }
 {
-    let mut singles = Vec::new(alloc);
+    let mut singles = Vec::with_capacity(alloc, chars.len())?;
     let mut behind = true;
     'chars: for (c, kind) in chars {
         let blank = *c == ' ';
@@ -52,34 +53,44 @@ pub(crate) fn runs_of(alloc: Global, chars: &[(char, Kind)]) -> Result<Vec<Run>,
     ensures texts { IfOk result (λ v. All HasText v.items) }
 {
     let mut runs = Vec::new(alloc);
-    'chars: for (c, kind) in chars {
-        push_char(&mut runs, alloc, *c, *kind)?;
+    let Some(((first, first_kind), behind)) = chars.split_first() else {
+        return Ok(runs);
+    };
+    let mut last = new_run(alloc, *first, *first_kind)?;
+    'chars: for (c, kind) in behind {
+        push_char(&mut runs, &mut last, alloc, *c, *kind)?;
     }
+    runs.push(last)?;
     Ok(runs)
 }
 
-// Puts a character behind runs.
-fn push_char(runs: &mut Vec<Run>, alloc: Global, c: char, kind: Kind) -> Result<(), AllocError>
-    requires kinds { alternates (reverse (map run_kind runs.old.items)) ≡ true }
-    requires texts { All HasText runs.old.items }
-    ensures bytes { OnOk result (flat_map run_bytes runs.new.items
-        ≡ flat_map run_bytes runs.old.items ++ char_bytes (c, kind)) }
-    ensures kinds { OnOk result (alternates (reverse (map run_kind runs.new.items)) ≡ true) }
-    ensures texts { OnOk result (All HasText runs.new.items) }
+// Puts a character behind runs and the last one.
+fn push_char(
+    runs: &mut Vec<Run>,
+    last: &mut Run,
+    alloc: Global,
+    c: char,
+    kind: Kind,
+) -> Result<(), AllocError>
+    requires kinds { alternates (reverse (map run_kind (runs.old.items ++ last.old ∷ []))) ≡ true }
+    requires texts { All HasText (runs.old.items ++ last.old ∷ []) }
+    ensures bytes { OnOk result (flat_map run_bytes (runs.new.items ++ last.new ∷ [])
+        ≡ flat_map run_bytes (runs.old.items ++ last.old ∷ []) ++ char_bytes (c, kind)) }
+    ensures kinds { OnOk result
+        (alternates (reverse (map run_kind (runs.new.items ++ last.new ∷ []))) ≡ true) }
+    ensures texts { OnOk result (All HasText (runs.new.items ++ last.new ∷ [])) }
 {
-    match runs.pop() {
-        Some(mut run) if run.kind == kind => {
-            run.text.push(c)?;
-            runs.push(run)?;
-        }
-        Some(run) => {
-            runs.push(run)?;
-            runs.push(new_run(alloc, c, kind)?)?;
-        }
-        None => runs.push(new_run(alloc, c, kind)?)?,
+    if last.kind == kind {
+        last.text.push(c)?;
+    } else {
+        let next = new_run(alloc, c, kind)?;
+        runs.push(replace(last, next))?;
     }
     Ok(())
 }
+
+// How many bytes a run has room for at first.
+const FIRST_ROOM: usize = 32;
 
 // A run of one character.
 fn new_run(alloc: Global, c: char, kind: Kind) -> Result<Run, AllocError>
@@ -87,7 +98,7 @@ fn new_run(alloc: Global, c: char, kind: Kind) -> Result<Run, AllocError>
     ensures kind { IfOk result (λ r. r.kind ≡ kind) }
     ensures text { IfOk result HasText }
 {
-    let mut text = String::new(alloc);
+    let mut text = String::with_capacity(alloc, FIRST_ROOM)?;
     text.push(c)?;
     Ok(Run { kind, text })
 }

@@ -5,12 +5,14 @@ ghost use Rattle.std.specs.Str.{chars};
 ghost use Rattle.haya_latex.specs.Reading.{read_all};
 ghost use Rattle.haya_latex.specs.ReadingViews.{reader_view};
 ghost use Rattle.haya_latex.specs.RunViews.{HasText, run_bytes, run_kind};
+ghost use Rattle.haya_latex.specs.Simple.{is_simple};
 ghost use Rattle.haya_latex.specs.Texts.{alternates, char_bytes, name_chars, name_unknown};
 ghost use Rattle.haya_latex.specs.Texts.{text_chars, text_unknown, trimmed};
 
 use crate::kinds::Kind;
-use crate::readers::{Reader, is_inside, put_output, settle, start, take_turn};
+use crate::readers::{Reader, is_inside, put_alone, put_output, settle, start, take_turn};
 use crate::runs::{Run, drop_last_blank, runs_of, single_blanks};
+use crate::simple::{is_itself, is_simple};
 use crate::tokens::token_at;
 use std::alloc::{AllocError, Global};
 
@@ -56,6 +58,9 @@ pub fn read_text(alloc: Global, text: &str) -> Result<Text, AllocError>
     ensures unknown { IfOk result (λ t. map string_bytes t.unknown.items
         ≡ text_unknown (chars text.now)) }
 {
+    if is_simple(text.as_bytes()) {
+        return simple_text(alloc, text);
+    }
     let reader = read(alloc, Kind::Normal, text)?;
     let Reader {
         chars,
@@ -85,7 +90,11 @@ pub fn read_names(alloc: Global, text: &str) -> Result<Names, AllocError>
     ensures unknown { IfOk result (λ n. map string_bytes n.unknown.items
         ≡ name_unknown (chars text.now)) }
 {
-    let reader = read(alloc, Kind::Free, text)?;
+    let reader = if is_simple(text.as_bytes()) {
+        read_simple(alloc, Kind::Free, text.as_bytes())?
+    } else {
+        read(alloc, Kind::Free, text)?
+    };
     let Reader {
         chars,
         counted,
@@ -97,6 +106,40 @@ pub fn read_names(alloc: Global, text: &str) -> Result<Names, AllocError>
         chars,
         unknown: counted,
     })
+}
+
+// What a simple text says: itself.
+fn simple_text(alloc: Global, text: &str) -> Result<Text, AllocError>
+    requires { is_simple true text.now ≡ true }
+    ensures bytes { IfOk result (λ t. flat_map run_bytes t.runs.items
+        ≡ flat_map char_bytes (text_chars (chars text.now))) }
+    ensures runs { IfOk result (λ t. alternates (reverse (map run_kind t.runs.items)) ≡ true) }
+    ensures texts { IfOk result (λ t. All HasText t.runs.items) }
+    ensures unknown { IfOk result (λ t. map string_bytes t.unknown.items
+        ≡ text_unknown (chars text.now)) }
+{
+    let run = Run {
+        kind: Kind::Normal,
+        text: String::from_str(alloc, text)?,
+    };
+    let mut runs = Vec::with_capacity(alloc, 1)?;
+    runs.push(run)?;
+    Ok(Text {
+        runs,
+        unknown: Vec::new(alloc),
+    })
+}
+
+// The same as a reader, of text of a kind.
+fn read_simple(alloc: Global, kind: Kind, text: &[u8]) -> Result<Reader, AllocError>
+    requires { is_simple true text.now ≡ true }
+    ensures { IfOk result (λ r. reader_view r ≡ read_all kind (chars text.now)) }
+{
+    let mut reader = start(alloc, kind, text.len())?;
+    'bytes: for byte in text {
+        put_alone(&mut reader, char::from(*byte), kind)?;
+    }
+    Ok(reader)
 }
 
 // The characters without blanks at both ends, and without each behind another one.
@@ -120,7 +163,7 @@ fn read(alloc: Global, kind: Kind, text: &str) -> Result<Reader, AllocError>
 fn chars_of(alloc: Global, text: &str) -> Result<Vec<char>, AllocError>
     ensures { IfOk result (λ v. v.items ≡ chars text.now) }
 {
-    let mut list = Vec::new(alloc);
+    let mut list = Vec::with_capacity(alloc, text.len())?;
     'chars: for c in text.chars() {
         list.push(c)?;
     }
@@ -132,10 +175,15 @@ fn read_all(alloc: Global, kind: Kind, text: &[char]) -> Result<Reader, AllocErr
     requires { length text.now < 2 ^ 63 }
     ensures { IfOk result (λ r. reader_view r ≡ read_all kind text.now) }
 {
-    let mut reader = start(alloc, kind);
+    let mut reader = start(alloc, kind, text.len())?;
     let mut left = text;
     'tokens: while let Some((first, behind)) = left.split_first() {
         let inner = reader.inner;
+        if reader.waiting.is_empty() && is_itself(*first, behind) {
+            put_alone(&mut reader, *first, inner.kind)?;
+            left = behind;
+            continue 'tokens;
+        }
         let token = token_at(inner.kind, inner.depth, is_inside(&reader), *first, behind);
         put_output(&mut reader, alloc, token.output)?;
         take_turn(&mut reader, alloc, token.turn)?;

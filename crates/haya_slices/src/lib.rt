@@ -9,8 +9,6 @@ mod element;
 pub mod laws;
 mod printing;
 mod slices;
-#[cfg(test)]
-mod tests;
 mod white;
 
 pub use printing::{list_text, push_element, push_end};

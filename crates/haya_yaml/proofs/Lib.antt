@@ -6,4 +6,5 @@ pub mod Marks
 pub mod Nodes
 pub mod Options
 pub mod Printed
+pub mod Quiet
 pub mod Rests

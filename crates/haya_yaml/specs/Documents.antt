@@ -122,6 +122,11 @@ is_control c cs =
     || ((c == 194) && is_c1 cs)
     || ((c == 239) && (is_two 187 191 cs || is_two 191 190 cs || is_two 191 191 cs))
 
+-- the byte may begin such a character, and no other does
+abbrev pub may_begin_control : ℕ → Bool
+may_begin_control c =
+    (nat_lt c 32 && not (c == 10)) || (c == 127) || (c == 194) || (c == 239)
+
 -- no such character appears in the text
 unfoldable pub is_printable : List ℕ → Bool
 is_printable [] = true

@@ -1,11 +1,11 @@
-//! The document of a text, and the characters that no text may have.
+//! The document of a text.
 ghost use Rattle.std.specs.Prelude.{◌≡◌, ◌&&◌, ◌||◌, ◌<◌, ◌≤◌, ◌∷◌, length, take, drop, option_map};
 ghost use Rattle.std.specs.Prelude.{IfOk, OnOk, MatchOption, Ok, Err, None, Some, true, false};
 ghost use Rattle.haya_yaml_text.specs.Writing.{KeepsBefore};
 ghost use Rattle.haya_yaml.specs.Documents.{are_ended, behind_mark, behind_sign, behind_start};
-ghost use Rattle.haya_yaml.specs.Documents.{behind_stop, body, document_of, document_value, is_c1};
-ghost use Rattle.haya_yaml.specs.Documents.{is_clear, is_clear_behind, is_clear_if, is_control};
-ghost use Rattle.haya_yaml.specs.Documents.{is_digit, is_directive, is_printable, is_two};
+ghost use Rattle.haya_yaml.specs.Documents.{behind_stop, body, document_of, document_value};
+ghost use Rattle.haya_yaml.specs.Documents.{is_clear, is_clear_behind, is_clear_if};
+ghost use Rattle.haya_yaml.specs.Documents.{is_digit, is_directive};
 ghost use Rattle.haya_yaml.specs.Documents.{is_version, is_version_if, started, with_front};
 ghost use Rattle.haya_yaml.specs.Line.{is_skipped, texts};
 ghost use Rattle.haya_yaml.specs.Saying.{said};
@@ -155,60 +155,6 @@ pub(crate) fn are_ended(lines: &[&str]) -> bool
         }
     }
     true
-}
-
-fn is_two(first: u8, second: u8, bytes: &[u8]) -> bool
-    ensures { result ≡ is_two first second bytes.now }
-{
-    match bytes {
-        [] => false,
-        [byte, rest @ ..] => *byte == first && begins_with(second, rest),
-    }
-}
-
-fn is_c1(bytes: &[u8]) -> bool
-    ensures { result ≡ is_c1 bytes.now }
-{
-    match bytes {
-        [] => false,
-        [byte, ..] => *byte < 160 && *byte != 133,
-    }
-}
-
-// Whether a byte begins a character that no text may have; the rest is what follows it.
-fn is_control(byte: u8, rest: &[u8]) -> bool
-    ensures { result ≡ is_control byte rest.now }
-{
-    if byte >= 32 && byte < 127 {
-        return false;
-    }
-    if byte < 32 {
-        return !(byte == b'\t' || byte == b'\n' || (byte == b'\r' && begins_with(b'\n', rest)));
-    }
-    byte == 127
-        || (byte == 194 && is_c1(rest))
-        || (byte == 239
-            && (is_two(187, 191, rest) || is_two(191, 190, rest) || is_two(191, 191, rest)))
-}
-
-/// How many bytes are left at the first character that no text may have, or `None` without one.
-#[tactic(auto, unfolding(crate::specs::Documents::is_printable))]
-pub(crate) fn control_character(text: &str) -> Option<usize>
-    ensures { MatchOption result (is_printable text.now ≡ true)
-        (λ left. is_printable text.now ≡ false) }
-{
-    let mut rest = text.as_bytes();
-    'bytes: loop {
-        match rest {
-            [] => return None,
-            [byte, more @ ..] => {
-                if is_control(*byte, more) {
-                    return Some(rest.len());
-                }
-                rest = more;
-            }
-        }
-    }
 }
 
 // A line behind the end of a document on which something stands.

@@ -7,6 +7,7 @@
 #![tactic(auto)]
 
 mod block;
+mod controls;
 mod document;
 pub mod error;
 pub mod laws;

@@ -16,7 +16,8 @@ ghost use Rattle.haya_yaml.specs.Saying.{said};
 ghost use Rattle.haya_yaml.specs.Says.{ContentSays, IsJsonFor, IsJsonIf, IsJsonOf, SaysNothing};
 ghost use Rattle.haya_yaml.specs.Says.{Strictness};
 
-use crate::document::{control_character, find_document, write_document};
+use crate::controls::control_character;
+use crate::document::{find_document, write_document};
 use crate::error::{Fault, YamlError, in_lines};
 use crate::names::second_key;
 use crate::value::{last, walk_to};

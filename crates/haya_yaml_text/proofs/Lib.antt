@@ -5,3 +5,4 @@ pub mod Places
 pub mod Plain
 pub mod PlainKeys
 pub mod Steps
+pub mod Sure

@@ -3,6 +3,7 @@ pub mod Faults
 pub mod Flow
 pub mod FlowTurns
 pub mod Keys
+pub mod Lanes
 pub mod Resolved
 pub mod Scalars
 pub mod Signs

@@ -1,6 +1,11 @@
 //! The texts of scalars.
 ghost use Rattle.std.specs.Prelude.{◌≡◌, ◌+◌, ◌<◌, ◌≤◌, ◌^◌, ◌++◌, [], drop, length, replicate};
-ghost use Rattle.std.specs.Prelude.{string_bytes, take, IfOk, OnOk, Err, None};
+ghost use Rattle.std.specs.Prelude.{string_bytes, take, IfOk, OnOk, Err, None, map};
+ghost use Rattle.std.specs.Prelude.{◌==◌, if◌then◌else◌};
+ghost use Rattle.std.specs.Int.{w64, trailing_zeros};
+ghost use Rattle.std.specs.Simd.Lanes.{mask_l};
+ghost use Rattle.haya_yaml_text.specs.Lanes.{may_stop, pairs};
+ghost use Rattle.haya_yaml_text.specs.declared.scalar.Style.TheVariants as Style;
 ghost use Rattle.std.specs.Prelude.{IsTrue, Some, false, true, ℕ, List, Bool};
 ghost use Rattle.haya_yaml_text.specs.Scalars.{behind, fold_break, gap_text, is_apart, more_feeds};
 ghost use Rattle.haya_yaml_text.specs.Scalars.{scalar, scalar_of, without_comment, may_end};
@@ -12,6 +17,7 @@ use crate::fault::{FaultKind, ReadError, Refusal};
 use crate::sign::{Sign, sign_of};
 use crate::white::{begins_with, behind, is_hash, line_end, split_blanks};
 use std::alloc::{AllocError, Global};
+use std::simd::prelude::*;
 
 // How much room a scalar's text is given at first: most are no longer.
 const ROOM: usize = 256;
@@ -124,6 +130,77 @@ fn run(style: Style, text: &str) -> usize
     1 + plain_length(style, rest)
 }
 
+// How many signs are looked at together.
+const LANES: usize = 16;
+
+// Which signs may not go on in a plain scalar before the next ones: a bit for each.
+#[inline(always)]
+fn doubtful(signs: u8x16, next: u8x16) -> u64
+    ensures { result ≡ mask_l (map may_stop (pairs signs next)) }
+{
+    let special = signs.simd_le(u8x16::splat(b'#')) | signs.simd_eq(u8x16::splat(b':'));
+    let alone = next.simd_le(u8x16::splat(b'#'))
+        | next.simd_eq(u8x16::splat(b':'))
+        | signs.simd_ne(u8x16::splat(b' '));
+    (special & alone).to_bitmask()
+}
+
+// How many bits come before the first that is set, or `LANES` where none is.
+#[inline(always)]
+fn first_mark(marks: u64) -> usize
+    ensures { result ≡ if marks == 0 then LANES else trailing_zeros w64 marks }
+{
+    if marks == 0 {
+        LANES
+    } else {
+        marks.trailing_zeros() as usize
+    }
+}
+
+// How many of the first signs come before one that may not go on in a plain scalar.
+#[inline(always)]
+fn sure(bytes: &[u8]) -> usize
+    requires { LANES < length bytes.now }
+    ensures within { result ≤ LANES }
+    ensures more { plain_length Style.Plain bytes.now
+        ≡ result + plain_length Style.Plain (drop result bytes.now) }
+{
+    let signs = u8x16::from_slice(bytes);
+    let next = u8x16::from_slice(&bytes[1..]);
+    first_mark(doubtful(signs, next))
+}
+
+// How many signs begin a text that go on in a plain scalar: further ones may, too.
+#[inline(always)]
+fn sure_length(bytes: &[u8]) -> usize
+    ensures within { result ≤ length bytes.now }
+    ensures more { plain_length Style.Plain bytes.now
+        ≡ result + plain_length Style.Plain (drop result bytes.now) }
+{
+    let mut count = 0;
+    'lanes: while bytes.len() - count > LANES {
+        let more = sure(&bytes[count..]);
+        count += more;
+        if more < LANES {
+            return count;
+        }
+    }
+    count
+}
+
+// The same in a scalar of this style.
+#[inline(always)]
+fn sure_in(style: Style, bytes: &[u8]) -> usize
+    ensures within { result ≤ length bytes.now }
+    ensures more { plain_length style bytes.now
+        ≡ result + plain_length style (drop result bytes.now) }
+{
+    match style {
+        Style::Plain => sure_length(bytes),
+        _ => 0,
+    }
+}
+
 /// How many bytes begin a text that stand for themselves, and single spaces between such bytes.
 pub(crate) fn plain_length(style: Style, bytes: &[u8]) -> usize
     ensures is { result ≡ plain_length style bytes.now }
@@ -131,11 +208,15 @@ pub(crate) fn plain_length(style: Style, bytes: &[u8]) -> usize
 {
     let mut count = 0;
     let mut rest = bytes;
-    'signs: while goes_on(style, rest) {
-        (_, rest) = rest.split_at(1);
-        count += 1;
+    'signs: loop {
+        let sure = sure_in(style, rest);
+        let (_, left) = rest.split_at(sure);
+        if !goes_on(style, left) {
+            return count + sure;
+        }
+        (_, rest) = left.split_at(1);
+        count += sure + 1;
     }
-    count
 }
 
 /// Whether a text is a scalar without quotes in which each byte stands for itself. Where it is and

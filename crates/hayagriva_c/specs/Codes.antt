@@ -36,4 +36,6 @@ message_of code =
     if code == 205 then codes "depth" else
     if code == 206 then codes "type" else
     if code == 207 then codes "field" else
-    if code == 208 then codes "value" else codes "no such code"
+    if code == 208 then codes "value" else
+    if code == 209 then codes "invalid YAML" else
+    if code == 210 then codes "invalid BibTeX" else codes "no such code"

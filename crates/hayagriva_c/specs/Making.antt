@@ -1,5 +1,6 @@
 -- What is made of bytes behind a pointer, or told.
 use Rattle.std.specs.Prelude.{◌≡◌, ◌⊎◌, ℕ, List, Some}
+use Rattle.haya_formats.specs.Block.{without_mark}
 use Rattle.hayagriva_c.specs.Faults.{IsMemory, Tells}
 use Rattle.hayagriva_c.specs.Reading.{AsksAs, Says, WhyNoLibrary, WhyNoSelector}
 use Rattle.hayagriva_c.specs.declared.content.Asked.{Asked}
@@ -28,14 +29,14 @@ pub record NoMemory (c : ℕ) (old new : Held) (after : Fault) : Type 0 where
 pub record MadeLibrary (format : ℕ) (bytes : List ℕ) (c : ℕ) (new : Held) (before after : Fault) : Type 0 where
   pub shelf : Shelf
   pub holds : new.content ≡ Some (Library shelf)
-  pub says : Says format bytes shelf.library
+  pub says : Says format (without_mark bytes) shelf.library
   pub code : c ≡ 0
   pub same : after ≡ before
 
 abbrev pub LibraryRead : ℕ → List ℕ → ℕ → Held → Held → Fault → Fault → Type 0
 LibraryRead format bytes code old new before after =
     MadeLibrary format bytes code new before after
-    ⊎ (Refuses (WhyNoLibrary format bytes) code old new after ⊎ NoMemory code old new after)
+    ⊎ (Refuses (WhyNoLibrary format (without_mark bytes)) code old new after ⊎ NoMemory code old new after)
 
 -- the pointer leads to the selector at the front of the bytes, and its end is told
 pub record MadeSelector (bytes : List ℕ) (c end : ℕ) (new : Held) (before after : Fault) : Type 0 where

@@ -1,6 +1,9 @@
 -- What is told of the errors of a text.
-use Rattle.std.specs.Prelude.{ℕ, List, [], ◌++◌, codes, map, string_bytes}
+use Rattle.std.specs.Prelude.{ℕ, List, [], ◌++◌, codes, map, string_bytes, unwrap_or}
 use Rattle.std.specs.Fmt.{decimal}
+use Rattle.haya_bibtex.specs.Messages as bibtex_messages
+use Rattle.haya_bibtex.specs.declared.error.BibtexReadError.{BibtexReadError}
+use Rattle.haya_bibtex.specs.declared.error.BibtexReadError.TheVariants as bibtex
 use Rattle.haya_input.specs.declared.error.InputError.{InputError}
 use Rattle.haya_input.specs.declared.error.InputError.TheVariants as input
 use Rattle.haya_json.specs.Messages.{error_text, line_error_text, pointer}
@@ -13,6 +16,9 @@ use Rattle.hayagriva.specs.declared.SelectorError.{SelectorError}
 use Rattle.hayagriva.specs.declared.SelectorError.TheVariants as selector
 use Rattle.hayagriva_c.specs.Codes.{error_code, message_of}
 use Rattle.hayagriva_c.specs.declared.told.Told.{Told}
+use Rattle.haya_yaml_library.specs.Messages as yaml_messages
+use Rattle.haya_yaml_library.specs.declared.error.YamlReadError.{YamlReadError}
+use Rattle.haya_yaml_library.specs.declared.error.YamlReadError.TheVariants as yaml
 use Rattle.haya_lines.specs.declared.error.LineError.{LineError}
 use Rattle.haya_lines.specs.declared.error.LineError.TheVariants as variant
 use Rattle.hayagriva_c.specs.Told.{IsMemoryTold, IsTold}
@@ -63,6 +69,20 @@ abbrev pub IsToldOfJsonLine : JsonLineError → Told → Type 0
 IsToldOfJsonLine e =
     IsTold (json_code e.error) 0 e.line (place_of e.error).column (pointer_of e.error) []
     (line_error_text e)
+
+-- what is no YAML has a place in the text, and a refused value the line of its key, if that is known
+abbrev pub IsToldOfYaml : YamlReadError → Told → Type 0
+IsToldOfYaml (yaml.NotYaml f) =
+    IsTold 209 0 f.line f.column [] [] (yaml_messages.error_text (yaml.NotYaml f))
+IsToldOfYaml (yaml.Refused line e) =
+    IsTold (json_code e) 0 (unwrap_or line 0) 0 (pointer_of e) []
+    (yaml_messages.error_text (yaml.Refused line e))
+IsToldOfYaml yaml.OutOfMemory = IsMemoryTold
+
+abbrev pub IsToldOfBibtex : BibtexReadError → Told → Type 0
+IsToldOfBibtex (bibtex.NotBibtex f) =
+    IsTold 210 0 f.line f.column [] [] (bibtex_messages.error_text (bibtex.NotBibtex f))
+IsToldOfBibtex bibtex.OutOfMemory = IsMemoryTold
 
 -- the name that is unknown
 abbrev pub unknown_name : SelectorError → List ℕ

@@ -7,7 +7,7 @@ use Rattle.json.specs.Tree.{json_tokens}
 use Rattle.haya_entry.specs.Tree.{Tree, fields}
 use Rattle.haya_json.specs.Printed.{json_of, library_json}
 use Rattle.hayagriva_c.specs.Asking.{IsWritten, Leaves}
-use Rattle.hayagriva_c.specs.Reading.{format_of}
+use Rattle.hayagriva_c.specs.Reading.{numbered}
 use Rattle.hayagriva_c.specs.Texts.{TextIs}
 use Rattle.hayagriva_c.specs.declared.content.Content.TheVariants.{Text}
 use Rattle.hayagriva_c.specs.declared.fault.Written.{Written}
@@ -32,6 +32,8 @@ abbrev pub text_in : List Tree → Format → Option (List ℕ)
 text_in library format.Lines = None
 text_in library format.Json = Some (print (json_tokens (library_json library)))
 text_in library format.Csl = None
+text_in library format.Yaml = None
+text_in library format.Bibtex = None
 text_in library format.JsonLines = Some (lines_text library)
 
 -- the entry's line is written, or out of memory, or there is no entry
@@ -59,4 +61,4 @@ PutsIf (Some text) code old new = Puts text code old new
 abbrev pub WriteGives : Option (List Tree) → ℕ → ℕ → Written → Written → Type 0
 WriteGives None format code old new = (code ≡ 4) × (new ≡ old)
 WriteGives (Some library) format code old new =
-    PutsIf (option_and_then (text_in library) (format_of format)) code old new
+    PutsIf (option_and_then (text_in library) (numbered format)) code old new

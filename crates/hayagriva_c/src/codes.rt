@@ -70,6 +70,12 @@ pub const LINE_FIELD: u32 = 207;
 /// A line has a value that isn't read as its field's type.
 pub const LINE_VALUE: u32 = 208;
 
+/// The input is no YAML.
+pub const NOT_YAML: u32 = 209;
+
+/// The input is no `.bib` file.
+pub const NOT_BIBTEX: u32 = 210;
+
 /// The code of a selector's error.
 pub fn of_selector(error: &SelectorError) -> u32
     ensures { result ≡ error_code error.now }
@@ -111,6 +117,8 @@ pub fn message(code: u32) -> &'static str
         LINE_TYPE => "type",
         LINE_FIELD => "field",
         LINE_VALUE => "value",
+        NOT_YAML => "invalid YAML",
+        NOT_BIBTEX => "invalid BibTeX",
         _ => "no such code",
     }
 }

@@ -1,26 +1,34 @@
 //! Libraries and selectors that are read from bytes.
 ghost use Rattle.std.specs.Prelude.{◌≡◌, ◌⊎◌, IfErr, IfOk, map, string_bytes};
+ghost use Rattle.haya_bibtex.specs.Libraries.{DescribesAsBibtex};
 ghost use Rattle.haya_csl.specs.Libraries.{DescribesAsCsl};
 ghost use Rattle.haya_csl.specs.declared.item_key.ItemKey.TheVariants.{CitationKey};
+ghost use Rattle.haya_formats.specs.Block.{without_mark};
 ghost use Rattle.haya_input.specs.Input.{Describes as LinesDescribe};
 ghost use Rattle.haya_json.specs.JsonLines.{Describes as JsonLinesDescribe};
 ghost use Rattle.haya_json.specs.Libraries.{Describes as JsonDescribes};
 ghost use Rattle.haya_selectors.specs.BoundNames.{bound_names};
 ghost use Rattle.haya_selectors.specs.Syntax.{syntax};
+ghost use Rattle.haya_yaml_library.specs.Libraries.{DescribesAsYaml};
 ghost use Rattle.hayagriva_c.specs.Reading.{AsksAs, IsFront, IsToldAt, Says, SaysIn, WhyNoFront};
-ghost use Rattle.hayagriva_c.specs.Reading.{WhyNoLibrary, WhyNoSelector, WhyNotCsl, WhyNotIn, WhyNotJson};
-ghost use Rattle.hayagriva_c.specs.Reading.{WhyNotJsonLines, WhyNotLines, format_of, nests_too_deep};
+ghost use Rattle.hayagriva_c.specs.Reading.{WhyNoLibrary, WhyNoSelector, WhyNotBibtex, WhyNotCsl};
+ghost use Rattle.hayagriva_c.specs.Reading.{WhyNotIn, WhyNotJson, WhyNotJsonLines, WhyNotLines};
+ghost use Rattle.hayagriva_c.specs.Reading.{WhyNotYaml, asked_format, guessed, nests_too_deep};
+ghost use Rattle.hayagriva_c.specs.Reading.{numbered};
 ghost use Rattle.hayagriva_c.specs.Told.{IsMemoryTold};
 
 use crate::content::{Asked, Shelf};
 use crate::told::Told;
 use crate::{codes, reasons};
+use haya_bibtex::read_bibtex_with_hash_keys;
 use haya_csl::{ItemKey, read_csl_json_with_hash_keys};
+use haya_formats::{Format as Guess, format_of, without_mark};
 use haya_input::read_library;
 use haya_json::{read_json_lines, read_library_with_hash_keys};
 use haya_selectors::CompiledSelector;
 use haya_text::OutOfMemory;
 use haya_views::names_of;
+use haya_yaml_library::read_yaml_with_hash_keys;
 use hayagriva::{HashKeys, Library, Selector, SelectorError};
 use std::alloc::Global;
 
@@ -36,29 +44,70 @@ pub enum Format {
     Csl,
     /// Lines of JSON, one an entry: an object of its `key` and of the `entry` in the file format.
     JsonLines,
+    /// hayagriva's own file format, written in YAML.
+    Yaml,
+    /// `.bib` files.
+    Bibtex,
 }
 
 impl Format {
     /// The format with this number.
     pub fn of_number(number: u32) -> Option<Format>
-        ensures { result ≡ format_of number }
+        ensures { result ≡ numbered number }
     {
         match number {
             1 => Some(Format::Lines),
             2 => Some(Format::Json),
             3 => Some(Format::Csl),
             4 => Some(Format::JsonLines),
+            5 => Some(Format::Yaml),
+            6 => Some(Format::Bibtex),
             _ => None,
+        }
+    }
+
+    // The format that is guessed.
+    fn of_guess(guess: Guess) -> Format
+        ensures { result ≡ guessed guess }
+    {
+        match guess {
+            Guess::Hayagriva => Format::Json,
+            Guess::Yaml => Format::Yaml,
+            Guess::Bibtex => Format::Bibtex,
+            Guess::CslJson(_) => Format::Csl,
+            Guess::JsonLines => Format::JsonLines,
+            Guess::Lines => Format::Lines,
         }
     }
 }
 
-/// The library that bytes say in the format with this number, or why they say none.
-pub fn library_of(alloc: Global, keys: HashKeys, format: u32, bytes: &[u8]) -> Result<Shelf, Told>
-    ensures library { IfOk result (λ shelf. Says format bytes.now shelf.library) }
-    ensures told { IfErr result (WhyNoLibrary format bytes.now) }
+// The number that asks for the format that a text's first signs tell.
+const GUESSED: u32 = 0;
+
+// The format that this number asks for, if there is one: at 0 the one that is guessed from the
+// bytes, as the command does.
+fn asked_format(alloc: Global, number: u32, bytes: &[u8]) -> Result<Option<Format>, OutOfMemory>
+    ensures format { IfOk result (λ format. format ≡ asked_format number bytes.now) }
+    ensures memory { IfErr result (λ _. number ≡ 0) }
 {
-    let Some(format) = Format::of_number(format) else {
+    if number != GUESSED {
+        return Ok(Format::of_number(number));
+    }
+    let guess = format_of(alloc, bytes)?;
+    Ok(Some(Format::of_guess(guess)))
+}
+
+/// The library that bytes say in the format with this number, or why they say none. A byte order
+/// mark at their front is passed over.
+pub fn library_of(alloc: Global, keys: HashKeys, number: u32, bytes: &[u8]) -> Result<Shelf, Told>
+    ensures library { IfOk result (λ shelf. Says number (without_mark bytes.now) shelf.library) }
+    ensures told { IfErr result (WhyNoLibrary number (without_mark bytes.now)) }
+{
+    let bytes = without_mark(bytes);
+    let Ok(format) = asked_format(alloc, number, bytes) else {
+        return Err(Told::memory(alloc));
+    };
+    let Some(format) = format else {
         return Err(Told::alone(alloc, codes::NO_FORMAT));
     };
     let Ok(text) = str::from_utf8(bytes) else {
@@ -80,6 +129,8 @@ fn library_in(alloc: Global, keys: HashKeys, format: Format, text: &str) -> Resu
         Format::Json => json(alloc, keys, text),
         Format::Csl => csl(alloc, keys, text),
         Format::JsonLines => json_lines(alloc, keys, text),
+        Format::Yaml => yaml(alloc, keys, text),
+        Format::Bibtex => bibtex(alloc, keys, text),
     }
 }
 
@@ -129,6 +180,32 @@ fn json_lines(alloc: Global, keys: HashKeys, text: &str) -> Result<Library, Told
             Ok(library)
         }
         Err(error) => Err(reasons::of_json_line(alloc, &error)),
+    }
+}
+
+fn yaml(alloc: Global, keys: HashKeys, text: &str) -> Result<Library, Told>
+    ensures library { IfOk result (DescribesAsYaml text.now) }
+    ensures told { IfErr result (WhyNotYaml text.now) }
+{
+    match read_yaml_with_hash_keys(alloc, keys, text) {
+        Ok((library, notes)) => {
+            drop(notes);
+            Ok(library)
+        }
+        Err(error) => Err(reasons::of_yaml(alloc, &error)),
+    }
+}
+
+fn bibtex(alloc: Global, keys: HashKeys, text: &str) -> Result<Library, Told>
+    ensures library { IfOk result (DescribesAsBibtex text.now) }
+    ensures told { IfErr result (WhyNotBibtex text.now) }
+{
+    match read_bibtex_with_hash_keys(alloc, keys, text) {
+        Ok((library, notes)) => {
+            drop(notes);
+            Ok(library)
+        }
+        Err(error) => Err(reasons::of_bibtex(alloc, &error)),
     }
 }
 

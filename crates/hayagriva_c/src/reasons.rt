@@ -2,17 +2,20 @@
 ghost use Rattle.std.specs.Prelude.{◌≡◌, ◌⊎◌, [], IfOk, map, string_bytes};
 ghost use Rattle.haya_json.specs.Messages.{pointer};
 ghost use Rattle.haya_json.specs.Refusal.{step_view};
-ghost use Rattle.hayagriva_c.specs.Reasons.{IsToldOfJson, IsToldOfJsonLine, IsToldOfLine};
-ghost use Rattle.hayagriva_c.specs.Reasons.{IsToldOfSelector, json_code, line_code, line_reason};
-ghost use Rattle.hayagriva_c.specs.Reasons.{place_of, pointer_of, unknown_name};
+ghost use Rattle.hayagriva_c.specs.Reasons.{IsToldOfBibtex, IsToldOfJson, IsToldOfJsonLine};
+ghost use Rattle.hayagriva_c.specs.Reasons.{IsToldOfLine, IsToldOfSelector, IsToldOfYaml};
+ghost use Rattle.hayagriva_c.specs.Reasons.{json_code, line_code, line_reason, place_of};
+ghost use Rattle.hayagriva_c.specs.Reasons.{pointer_of, unknown_name};
 ghost use Rattle.hayagriva_c.specs.Told.{IsMemoryTold, IsTold};
 
 use crate::codes;
 use crate::told::Told;
+use haya_bibtex::BibtexReadError;
 use haya_input::InputError;
 use haya_json::{JsonLineError, Position, ReadError, Step};
 use haya_lines::LineError;
 use haya_text::OutOfMemory;
+use haya_yaml_library::YamlReadError;
 use hayagriva::SelectorError;
 use std::alloc::Global;
 
@@ -67,6 +70,62 @@ pub fn of_json_line(alloc: Global, error: &JsonLineError) -> Told
         column: place_of(&error.error).column,
     };
     Told::of_input(alloc, json_code(&error.error), place, pointer, reason)
+}
+
+/// Why a text in YAML is no library.
+pub fn of_yaml(alloc: Global, error: &YamlReadError) -> Told
+    ensures { IsToldOfYaml error.now result ⊎ IsMemoryTold result }
+{
+    let Ok(reason) = format!(in alloc; "{error}") else {
+        return Told::memory(alloc);
+    };
+    match error {
+        YamlReadError::NotYaml(fault) => {
+            of_text(alloc, codes::NOT_YAML, fault.line, fault.column, reason)
+        }
+        YamlReadError::Refused(line, error) => of_value(alloc, line.unwrap_or(0), error, reason),
+        YamlReadError::OutOfMemory => Told::memory(alloc),
+    }
+}
+
+/// Why a `.bib` file is no library.
+pub fn of_bibtex(alloc: Global, error: &BibtexReadError) -> Told
+    ensures { IsToldOfBibtex error.now result ⊎ IsMemoryTold result }
+{
+    let Ok(reason) = format!(in alloc; "{error}") else {
+        return Told::memory(alloc);
+    };
+    match error {
+        BibtexReadError::NotBibtex(fault) => {
+            of_text(alloc, codes::NOT_BIBTEX, fault.line, fault.column, reason)
+        }
+        BibtexReadError::OutOfMemory => Told::memory(alloc),
+    }
+}
+
+// A text isn't by its grammar at this place, for this reason.
+fn of_text(alloc: Global, code: u32, line: usize, column: usize, reason: String) -> Told
+    ensures { IsTold code 0 line column [] [] (string_bytes reason) result }
+{
+    let place = Position { line, column };
+    Told::of_input(alloc, code, place, String::new(alloc), reason)
+}
+
+// A value in this line is refused, for this reason.
+fn of_value(alloc: Global, line: usize, error: &ReadError, reason: String) -> Told
+    ensures { IsTold (json_code error.now) 0 line 0 (pointer_of error.now) []
+        (string_bytes reason) result ⊎ IsMemoryTold result }
+{
+    let Ok(pointer) = pointer_of(alloc, error) else {
+        return Told::memory(alloc);
+    };
+    Told::of_input(
+        alloc,
+        json_code(error),
+        Position { line, column: 0 },
+        pointer,
+        reason,
+    )
 }
 
 /// Why the text of a selector is none, with the byte at which that is seen.

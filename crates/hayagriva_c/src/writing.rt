@@ -61,7 +61,7 @@ fn text_in(shelf: &Shelf, format: Format) -> Result<Option<Vec<u8>>, OutOfMemory
     match format {
         Format::Json => Ok(Some(to_json(shelf.alloc, &shelf.library)?)),
         Format::JsonLines => Ok(Some(lines_of(shelf)?)),
-        Format::Lines | Format::Csl => Ok(None),
+        Format::Lines | Format::Csl | Format::Yaml | Format::Bibtex => Ok(None),
     }
 }
 

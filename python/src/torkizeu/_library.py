@@ -14,7 +14,14 @@ from ._values import Date, Person, listed, text_of
 
 #: The names of the formats, as those of the command `haya`.
 Format = str
-_FORMATS = {"lines": n.LINES, "hayagriva": n.JSON, "csl-json": n.CSL, "json-lines": n.JSON_LINES}
+_FORMATS = {
+    "lines": n.LINES,
+    "hayagriva": n.JSON,
+    "yaml": n.YAML,
+    "csl-json": n.CSL,
+    "json-lines": n.JSON_LINES,
+    "bibtex": n.BIBTEX,
+}
 
 # How many lines of JSON are read at once.
 _AT_ONCE = 64
@@ -226,11 +233,14 @@ class Library(Mapping[str, Entry]):
     def parse(
         cls, data: Union[str, bytes], format: Optional[Format] = None, *, source: Optional[str] = None
     ) -> Library:
-        """The library of a text, in one of the formats `lines`, `hayagriva`, `csl-json` and `json-lines`; without
-        one, by its first signs: `[` begins CSL-JSON, `{` hayagriva's file format, any other lines."""
+        """The library of a text, in one of the formats `lines`, `hayagriva` (in JSON), `yaml`, `csl-json`,
+        `json-lines` and `bibtex`; without one the format is guessed from the first bytes, as `haya` does.
+
+        >>> Library.parse("@book{lee, title = {It}}")["lee"].title, Library.parse("lee: {type: book}")["lee"].type
+        ('It', 'book')
+        """
         text = data.encode() if isinstance(data, str) else bytes(data)
-        text = text[3:] if text.startswith(b"\xef\xbb\xbf") else text
-        number = _FORMATS.get(format or _looks_like(text))
+        number = n.GUESSED if format is None else _FORMATS.get(format)
         if number is None:
             raise ValueError(f"no format {format!r}: there are {', '.join(_FORMATS)}")
         held, fault, self = c_void_p(), n.Fault(), object.__new__(cls)
@@ -331,8 +341,3 @@ class Library(Mapping[str, Entry]):
 
     def __repr__(self) -> str:
         return f"<Library of {len(self)} entries{f' from {self.source!r}' if self.source else ''}>"
-
-
-def _looks_like(text: bytes) -> Format:
-    start = text.lstrip()[:1]
-    return "csl-json" if start == b"[" else "hayagriva" if start == b"{" else "lines"

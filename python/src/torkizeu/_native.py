@@ -7,7 +7,7 @@ from pathlib import Path
 from typing import Any, Callable
 
 OK, END, NO_ENTRY, NO_FIELD, WRONG_KIND, NOT_TEXT, OUT_OF_MEMORY, NO_FORMAT, TOO_DEEP = range(9)
-LINES, JSON, CSL, JSON_LINES = range(1, 5)
+GUESSED, LINES, JSON, CSL, JSON_LINES, YAML, BIBTEX = range(7)
 NOWHERE = c_size_t(-1).value
 VERSION = 2
 

@@ -4,7 +4,7 @@ use Rattle.haya_bibtex_text.proofs.Characters.{chars-more, map-take-more}
 use Rattle.haya_bibtex_text.proofs.texts.lowercase.Goals as goal
 
 pub characters-init : goal.characters-init
-characters-init c = rw (c.new-text.ensures.bytes, chars-nil)
+characters-init c = rw (c.in_ok-text.ensures.bytes, chars-nil)
 
 pub characters-preserved : goal.characters-preserved
 characters-preserved c =

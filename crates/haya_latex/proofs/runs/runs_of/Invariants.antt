@@ -1,13 +1,15 @@
 use Rattle.std.specs.Prelude.{All}
-use Rattle.std.proofs.Common.{◌≡◌, ◌++◌, true, drop, flat_map, map, reverse}
+use Rattle.std.proofs.Common.{◌≡◌, ◌++◌, ◌∷◌, [], true, drop, flat_map, map, reverse}
 use Rattle.haya_latex.specs.RunViews.{HasText, run_bytes, run_kind}
 use Rattle.haya_latex.specs.Texts.{alternates, char_bytes}
 use Rattle.haya_latex.proofs.runs.runs_of.Given as goal
 
 -- the runs so far, and the rest, are all characters
 abbrev pub invariant-chars : goal.invariant-chars
-invariant-chars l = record {
-  bytes : flat_map char_bytes l.chars ≡ flat_map run_bytes l.runs.items ++ flat_map char_bytes (drop l.c-index l.chars);
-  kinds : alternates (reverse (map run_kind l.runs.items)) ≡ true;
-  texts : All HasText l.runs.items;
-}
+invariant-chars l =
+    let runs = l.runs.items ++ l.last ∷ [] in
+    record {
+      bytes : flat_map char_bytes l.chars ≡ flat_map run_bytes runs ++ flat_map char_bytes (drop l.c-index l.behind);
+      kinds : alternates (reverse (map run_kind runs)) ≡ true;
+      texts : All HasText runs;
+    }
