@@ -74,13 +74,24 @@ const LISTS: [&str; 3] = ["types", "fields", "formats"];
 
 // All arguments.
 fn command<'a>(alloc: Global) -> Result<Command<'a>, AllocError> {
-    Command::new(alloc, "haya")
+    let command = Command::new(alloc, "haya")
         .version("0.1.0")
         .about(ABOUT)
         .after_help(AFTER)
         .arg(selector(alloc))?
         .arg(files(alloc))?
-        .arg(tests(alloc))?
+        .arg(tests(alloc))?;
+    let asking = with_order(alloc, command)?;
+    let reading = asking.arg(max(alloc))?.arg(from(alloc))?.arg(key(alloc))?;
+    let printing = with_forms(alloc, reading)?;
+    with_flags(alloc, printing)?
+        .arg(strict(alloc))?
+        .arg(list(alloc))
+}
+
+// With those of the order of the entries, and of entries that have the same values.
+fn with_order<'a>(alloc: Global, command: Command<'a>) -> Result<Command<'a>, AllocError> {
+    command
         .arg(listed(
             alloc,
             "sort",
@@ -99,10 +110,12 @@ fn command<'a>(alloc: Global) -> Result<Command<'a>, AllocError> {
             "duplicates",
             "PLACE[,PLACE..]",
             "Print the entries alone that share their values there with others",
-        ))?
-        .arg(max(alloc))?
-        .arg(from(alloc))?
-        .arg(key(alloc))?
+        ))
+}
+
+// With those of what is printed of the entries.
+fn with_forms<'a>(alloc: Global, command: Command<'a>) -> Result<Command<'a>, AllocError> {
+    command
         .arg(to(alloc))?
         .arg(listed(
             alloc,
@@ -111,7 +124,12 @@ fn command<'a>(alloc: Global) -> Result<Command<'a>, AllocError> {
             "The columns of csv and tsv; without --to, of tsv [default: key,type,author,date,title]",
         ))?
         .arg(no_header(alloc))?
-        .arg(flag(alloc, "count", 'c', "Print the number of entries alone"))?
+        .arg(flag(alloc, "count", 'c', "Print the number of entries alone"))
+}
+
+// With those that are there or not.
+fn with_flags<'a>(alloc: Global, command: Command<'a>) -> Result<Command<'a>, AllocError> {
+    command
         .arg(flag(
             alloc,
             "quiet",
@@ -135,9 +153,7 @@ fn command<'a>(alloc: Global) -> Result<Command<'a>, AllocError> {
             "stream",
             's',
             "Ask each entry as it is read: in little memory, keys that come again not looked for",
-        ))?
-        .arg(strict(alloc))?
-        .arg(list(alloc))
+        ))
 }
 
 // The selector.

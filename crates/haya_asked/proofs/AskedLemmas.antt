@@ -1,7 +1,6 @@
 -- What is asked where nothing is.
 use Rattle.std.proofs.Common.{◌≡◌, ℕ, true, false, ◌&&◌, List, [], ◌∷◌, ◌++◌, Option, None, Some, eqb, filter, length, map, refl, sym, ap, ◌∙◌, append_assoc, subst, arith}
 use Rattle.std.proofs.lemmas.Bool.{and_parts, eqb-true}
-use Rattle.std.proofs.lemmas.List.Sorted.{IsPermutation-refl}
 use Rattle.std.proofs.lemmas.Option.{slice_get-map}
 use Rattle.std.specs.Bool.{IsTrue}
 use Rattle.std.specs.Prelude.{String, is_none, option_map, slice_get, string_bytes}
@@ -11,17 +10,15 @@ use Rattle.haya_questions.specs.Order.{all_tied, hit_order}
 use Rattle.haya_questions.specs.Ranked.{IsSortOf}
 use Rattle.haya_questions.specs.SortText.{sort_key_view}
 use Rattle.haya_questions.specs.Test.{test_view}
+use Rattle.haya_questions.proofs.Sorts.{unsorted}
 use Rattle.haya_asked.specs.Alike.{before_others}
 use Rattle.haya_asked.specs.Asked.{AreAsked, AreLeft, asks_nothing, at_most, keeps_repeats, passes}
 use Rattle.haya_asked.specs.declared.questions.Questions.{Questions}
 use Rattle.haya_asked.specs.declared.questions.Repeats.{Repeats}
 use Rattle.haya_asked.specs.declared.questions.Repeats.TheVariants.{Kept, Dropped, Alone}
 
--- a list is a sort of itself where all tie
-pub unsorted : {A : Type 0} (xs : List A) → IsSortOf all_tied xs xs
-unsorted xs = record { same = IsPermutation-refl xs; sorted = λ k d low high. refl; stable = λ k d within. refl }
-
-filter-always : {A : Type 0} (xs : List A) → filter (λ x. true) xs ≡ xs
+-- a test that always holds keeps all
+pub filter-always : {A : Type 0} (xs : List A) → filter (λ x. true) xs ≡ xs
 filter-always [] = refl
 filter-always (x ∷ xs) = ap (λ ys. x ∷ ys) (filter-always xs)
 

@@ -11,7 +11,7 @@ use Rattle.haya_asked.specs.declared.duplicates.PlacedHit.{PlacedHit}
 use Rattle.hayagriva.specs.declared.query.Hit.{Hit}
 use Rattle.haya_asked.proofs.PlaceLemmas.{like, position-any}
 use Rattle.haya_asked.proofs.ShareLemmas.{same_place}
-use Rattle.haya_asked.proofs.SortLemmas.{filter-alike, filter-items}
+use Rattle.haya_questions.proofs.Sorts.{filter-alike, filter-items}
 
 count-cons : {A : Type 0} (t : A → Bool) (x : A) (xs : List A) → count_by t (x ∷ xs) ≡ cond (t x) 1 0 + count_by t xs
 count-cons t x xs = sum_by-cons (λ y. cond (t y) 1 0) x xs

@@ -1,9 +1,6 @@
 //! What is asked of the hits of a selector.
 ghost use Rattle.std.specs.Prelude.{◌≡◌, IfOk, IsTrue, filter, map};
 ghost use Rattle.std.specs.List.{list_all};
-ghost use Rattle.haya_questions.specs.Order.{hit_order};
-ghost use Rattle.haya_questions.specs.Ranked.{IsSortOf};
-ghost use Rattle.haya_questions.specs.SortText.{sort_key_view};
 ghost use Rattle.haya_questions.specs.Test.{holds, test_view};
 ghost use Rattle.haya_asked.specs.Asked.{AreAsked, AreLeft, asks_nothing, at_most, passes};
 
@@ -74,7 +71,7 @@ impl Questions {
         ensures { IfOk result (λ asked. AreAsked self.now hits.entry.items asked.items) }
     {
         let passing = passing_hits(alloc, hits, self.tests.as_slice())?;
-        let sorted = sorted_hits(alloc, passing, self.keys.as_slice())?;
+        let sorted = sort_hits(alloc, passing, self.keys.as_slice())?;
         let left = left_hits(alloc, keys, sorted, &self.repeats)?;
         Ok(at_most(left, self.max))
     }
@@ -89,6 +86,9 @@ fn passing_hits<'s>(
     ensures { IfOk result (λ passing. passing.items
         ≡ filter (passes (map test_view tests.now)) hits.entry.items) }
 {
+    if tests.is_empty() {
+        return Ok(hits);
+    }
     let mut passing = Vec::new(alloc);
     'hits: for hit in hits {
         if passes(alloc, &hit, tests)? {
@@ -108,21 +108,6 @@ pub fn passes(alloc: Global, hit: &Hit, tests: &[Test]) -> Result<bool, OutOfMem
         }
     }
     Ok(true)
-}
-
-// The hits sorted by the keys.
-fn sorted_hits<'s>(
-    alloc: Global,
-    hits: Vec<Hit<'s>>,
-    keys: &[SortKey],
-) -> Result<Vec<Hit<'s>>, OutOfMemory>
-    ensures { IfOk result (λ sorted.
-        IsSortOf (hit_order (map sort_key_view keys.now)) hits.entry.items sorted.items) }
-{
-    if keys.is_empty() {
-        return Ok(hits);
-    }
-    sort_hits(alloc, hits, keys)
 }
 
 // So many at most, from the first on.

@@ -30,7 +30,7 @@ pub struct DateTexts<'a> {
 }
 
 /// The date of an entry, and which of its fields have a value that isn't read.
-#[derive(Clone, Copy, Debug)]
+#[derive(Clone, Copy)]
 pub struct EntryDate {
     /// The date, if one is told.
     pub date: Option<Date>,

@@ -203,11 +203,7 @@ pub(crate) fn date_in(text: &[char]) -> Option<Date>
 pub(crate) fn chars_of(alloc: Global, text: &str) -> Result<Vec<char>, AllocError>
     ensures { IfOk result (λ v. v.items ≡ chars text.now) }
 {
-    let mut list = Vec::new(alloc);
-    'chars: for c in text.chars() {
-        list.push(c)?;
-    }
-    Ok(list)
+    text.chars().collect(alloc)
 }
 
 /// The date of a text in extended date format, or of the first of two with `/` between them that

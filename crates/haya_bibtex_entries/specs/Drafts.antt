@@ -1,13 +1,12 @@
 -- The entries that one entry makes: its own, and the parents that its fields go to.
-use Rattle.std.specs.Prelude.{ℕ, List, [], ◌∷◌, ◌++◌, Option, None, Some, fold, map, option_map, string_bytes}
+use Rattle.std.specs.Prelude.{ℕ, List, [], ◌∷◌, ◌++◌, Option, None, Some, fold, map, string_bytes}
 use Rattle.haya_entry.specs.Tree.{Tree, new_entry, view, with_parents}
 use Rattle.haya_entry.specs.declared.types.EntryType.{EntryType}
 use Rattle.haya_entry.specs.declared.types.EntryType.TheVariants as type
-use Rattle.haya_bibtex_entries.specs.Values.{FieldValue, value_view, with_value}
+use Rattle.haya_bibtex_entries.specs.Values.{FieldValue, with_value}
 use Rattle.haya_bibtex_entries.specs.declared.draft.Draft.{Draft}
 use Rattle.haya_bibtex_entries.specs.declared.draft.Level.{Level}
 use Rattle.haya_bibtex_entries.specs.declared.draft.Level.TheVariants as level
-use Rattle.haya_bibtex_entries.specs.declared.draft.Row.{Row}
 
 -- the entry's own, and each parent that a field went to: none, or one
 pub record DraftView : Type 0 where
@@ -99,13 +98,6 @@ draft_view d = record {
   main = map view d.main.items;
   series = map view d.series.items;
   original = map view d.original.items;
-}
-
-abbrev pub row_view : Row → RowView
-row_view r = record {
-  level = r.level;
-  value = option_map value_view r.value;
-  passed_over = map string_bytes r.passed_over.items;
 }
 
 abbrev pub so_far : Draft → SoFar

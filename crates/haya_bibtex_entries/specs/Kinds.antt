@@ -1,6 +1,7 @@
 -- The types of entries: the type of the entry that is read, what it appears in, and what its number
 -- is.
 use Rattle.std.specs.Prelude.{ℕ, ◌||◌, Bool, true, false, List, [], ◌∷◌, Option, None, Some, option_map, unwrap_or, codes, if◌then◌else◌}
+use Rattle.std.specs.Borrow.{Bor}
 use Rattle.std.specs.Map.{lookup}
 use Rattle.std.specs.Option.{option_map_or}
 use Rattle.std.specs.Str.{bytes_eq, trim}
@@ -11,6 +12,8 @@ use Rattle.haya_bibtex_entries.specs.declared.kinds.Kind.{Kind}
 use Rattle.haya_bibtex_entries.specs.declared.kinds.NumberRule.{NumberRule}
 use Rattle.haya_bibtex_entries.specs.declared.kinds.NumberRule.TheVariants as number
 use Rattle.haya_bibtex_entries.specs.declared.kinds.PublisherRule.TheVariants as publisher
+use Rattle.haya_bibtex_entries.specs.declared.rules.Rule.{Rule}
+use Rattle.haya_bibtex_entries.specs.declared.rules.Rule.TheVariants as rule
 use Rattle.haya_bibtex_entries.specs.declared.kinds.Takes.{Takes}
 use Rattle.haya_bibtex_entries.specs.declared.kinds.Takes.TheVariants as takes
 
@@ -144,142 +147,93 @@ letter_in fs = if is_in_journal fs then article_in fs else alone type.Manuscript
 
 -- ---- the table
 
-abbrev pub always : Kind → List FieldBytes → Kind
-always kind fs = kind
-
-abbrev pub KindTable : Type 0
-KindTable = List (List ℕ × (List FieldBytes → Kind))
-
-abbrev pub web : Kind
-web = appears_in type.Web type.Web takes.Title number.Serial
-
-abbrev pub video : Kind
-video = appears_in type.Video type.Video takes.Title number.Serial
-
-abbrev pub audio : Kind
-audio = appears_in type.Audio type.Audio takes.Volume number.Serial
-
-abbrev pub law : Kind
-law = appears_in type.Legislation type.Anthology takes.Volume number.Serial
-
--- what is seen, heard or performed, and law
-abbrev pub seen_kinds : KindTable
-seen_kinds =
-    (codes "video", always video)
-    ∷ (codes "movie", always video)
-    ∷ (codes "audio", always audio)
-    ∷ (codes "music", always audio)
-    ∷ (codes "performance", always (given (alone type.Performance number.Serial)))
-    ∷ (
-      codes "jurisdiction",
-      always (appears_in type.Case type.Reference takes.Volume number.Serial),
-    )
-    ∷ (codes "legislation", always law)
-    ∷ (codes "legal", always law)
-    ∷ []
-
-abbrev pub software : Kind
-software = alone type.Repository number.Serial
-
-abbrev pub data_set : Kind
-data_set = appears_in type.Repository type.Repository takes.Title number.Serial
-
--- what is stored, or on the web
-abbrev pub stored_kinds : KindTable
-stored_kinds =
-    (codes "software", always software)
-    ∷ (codes "softwareversion", always software)
-    ∷ (codes "softwaremodule", always software)
-    ∷ (codes "codefragment", always software)
-    ∷ (codes "dataset", always data_set)
-    ∷ (codes "data", always data_set)
-    ∷ (codes "online", always web)
-    ∷ (codes "electronic", always web)
-    ∷ (codes "www", always web)
-    ∷ seen_kinds
-
--- what is kept, or of no other kind
-abbrev pub kept_kinds : KindTable
-kept_kinds =
-    (codes "unpublished", unpublished_in)
-    ∷ (codes "letter", letter_in)
-    ∷ (codes "letters", letter_in)
-    ∷ (codes "patent", always of_patent)
-    ∷ (codes "misc", always (alone type.Misc number.Serial))
-    ∷ (codes "set", always (alone type.Misc number.Serial))
-    ∷ (codes "artwork", always (alone type.Artwork number.Serial))
-    ∷ (codes "image", always (alone type.Artwork number.Serial))
-    ∷ stored_kinds
-
--- what an institution gives out, and what comes in issues
-abbrev pub paper_kinds : KindTable
-paper_kinds =
-    (codes "manual", always (alone type.Reference number.Serial))
-    ∷ (codes "periodical", always (alone type.Periodical number.Issue))
-    ∷ (codes "thesis", always (of_institution type.Thesis))
-    ∷ (codes "phdthesis", always (of_institution type.Thesis))
-    ∷ (codes "mastersthesis", always (of_institution type.Thesis))
-    ∷ (codes "report", always (of_institution type.Report))
-    ∷ (codes "techreport", always (of_institution type.Report))
-    ∷ (codes "standard", always (of_institution type.Report))
-    ∷ kept_kinds
-
--- what is a work of its own
-abbrev pub book_kinds : KindTable
-book_kinds =
-    (codes "book", always (alone type.Book number.Series))
-    ∷ (codes "mvbook", always (alone type.Book number.Series))
-    ∷ (codes "booklet", always (alone type.Book number.Serial))
-    ∷ (codes "commentary", always (alone type.Book number.Serial))
-    ∷ (codes "collection", always (alone type.Anthology number.Series))
-    ∷ (codes "mvcollection", always (alone type.Anthology number.Series))
-    ∷ (codes "reference", always (alone type.Reference number.Series))
-    ∷ (codes "mvreference", always (alone type.Reference number.Series))
-    ∷ (codes "proceedings", always (given (alone type.Proceedings number.Series)))
-    ∷ (codes "mvproceedings", always (given (alone type.Proceedings number.Series)))
-    ∷ paper_kinds
-
+-- a paper in the proceedings of a conference
 abbrev pub paper : Kind
 paper = given (appears_in type.Article type.Proceedings takes.Proceedings number.Series)
 
-abbrev pub contribution : Kind
-contribution = appears_in type.Anthos type.Anthology takes.Book number.Series
+-- the kind of an entry by what decides it
+abbrev pub kind_by : Rule → List FieldBytes → Kind
+kind_by (rule.Alone entry n) fs = alone entry n
+kind_by (rule.Given entry n) fs = given (alone entry n)
+kind_by (rule.In entry host taken n) fs = appears_in entry host taken n
+kind_by (rule.Institution entry) fs = of_institution entry
+kind_by rule.Patent fs = of_patent
+kind_by rule.Paper fs = paper
+kind_by rule.Newspaper fs = in_newspaper
+kind_by rule.Article fs = article_in fs
+kind_by rule.Unpublished fs = unpublished_in fs
+kind_by rule.Letter fs = letter_in fs
 
-abbrev pub chapter : Kind
-chapter = appears_in type.Chapter type.Book takes.Book number.Series
+-- all types that are known: what appears in issues, parts of books, works of their own, what an
+-- institution gives out, what is kept, what is stored or on the web, what is seen, heard or
+-- performed, and law
+abbrev pub rules : List (List ℕ × Rule)
+rules =
+    (codes "article", rule.Article)
+    ∷ (codes "suppperiodical", rule.Article)
+    ∷ (codes "review", rule.Article)
+    ∷ (codes "newspaper", rule.Newspaper)
+    ∷ (codes "newsarticle", rule.Newspaper)
+    ∷ (codes "inproceedings", rule.Paper)
+    ∷ (codes "conference", rule.Paper)
+    ∷ (codes "incollection", rule.In type.Anthos type.Anthology takes.Book number.Series)
+    ∷ (codes "suppcollection", rule.In type.Anthos type.Anthology takes.Book number.Series)
+    ∷ (codes "inbook", rule.In type.Chapter type.Book takes.Book number.Series)
+    ∷ (codes "suppbook", rule.In type.Chapter type.Book takes.Book number.Series)
+    ∷ (codes "bookinbook", rule.In type.Chapter type.Book takes.Book number.Series)
+    ∷ (codes "inreference", rule.In type.Entry type.Reference takes.Reference number.Series)
+    ∷ (codes "book", rule.Alone type.Book number.Series)
+    ∷ (codes "mvbook", rule.Alone type.Book number.Series)
+    ∷ (codes "booklet", rule.Alone type.Book number.Serial)
+    ∷ (codes "commentary", rule.Alone type.Book number.Serial)
+    ∷ (codes "collection", rule.Alone type.Anthology number.Series)
+    ∷ (codes "mvcollection", rule.Alone type.Anthology number.Series)
+    ∷ (codes "reference", rule.Alone type.Reference number.Series)
+    ∷ (codes "mvreference", rule.Alone type.Reference number.Series)
+    ∷ (codes "proceedings", rule.Given type.Proceedings number.Series)
+    ∷ (codes "mvproceedings", rule.Given type.Proceedings number.Series)
+    ∷ (codes "manual", rule.Alone type.Reference number.Serial)
+    ∷ (codes "periodical", rule.Alone type.Periodical number.Issue)
+    ∷ (codes "thesis", rule.Institution type.Thesis)
+    ∷ (codes "phdthesis", rule.Institution type.Thesis)
+    ∷ (codes "mastersthesis", rule.Institution type.Thesis)
+    ∷ (codes "report", rule.Institution type.Report)
+    ∷ (codes "techreport", rule.Institution type.Report)
+    ∷ (codes "standard", rule.Institution type.Report)
+    ∷ (codes "unpublished", rule.Unpublished)
+    ∷ (codes "letter", rule.Letter)
+    ∷ (codes "letters", rule.Letter)
+    ∷ (codes "patent", rule.Patent)
+    ∷ (codes "misc", rule.Alone type.Misc number.Serial)
+    ∷ (codes "set", rule.Alone type.Misc number.Serial)
+    ∷ (codes "artwork", rule.Alone type.Artwork number.Serial)
+    ∷ (codes "image", rule.Alone type.Artwork number.Serial)
+    ∷ (codes "software", rule.Alone type.Repository number.Serial)
+    ∷ (codes "softwareversion", rule.Alone type.Repository number.Serial)
+    ∷ (codes "softwaremodule", rule.Alone type.Repository number.Serial)
+    ∷ (codes "codefragment", rule.Alone type.Repository number.Serial)
+    ∷ (codes "dataset", rule.In type.Repository type.Repository takes.Title number.Serial)
+    ∷ (codes "data", rule.In type.Repository type.Repository takes.Title number.Serial)
+    ∷ (codes "online", rule.In type.Web type.Web takes.Title number.Serial)
+    ∷ (codes "electronic", rule.In type.Web type.Web takes.Title number.Serial)
+    ∷ (codes "www", rule.In type.Web type.Web takes.Title number.Serial)
+    ∷ (codes "video", rule.In type.Video type.Video takes.Title number.Serial)
+    ∷ (codes "movie", rule.In type.Video type.Video takes.Title number.Serial)
+    ∷ (codes "audio", rule.In type.Audio type.Audio takes.Volume number.Serial)
+    ∷ (codes "music", rule.In type.Audio type.Audio takes.Volume number.Serial)
+    ∷ (codes "performance", rule.Given type.Performance number.Serial)
+    ∷ (codes "jurisdiction", rule.In type.Case type.Reference takes.Volume number.Serial)
+    ∷ (codes "legislation", rule.In type.Legislation type.Anthology takes.Volume number.Serial)
+    ∷ (codes "legal", rule.In type.Legislation type.Anthology takes.Volume number.Serial)
+    ∷ []
 
--- what is a part of a book
-abbrev pub part_kinds : KindTable
-part_kinds =
-    (codes "inproceedings", always paper)
-    ∷ (codes "conference", always paper)
-    ∷ (codes "incollection", always contribution)
-    ∷ (codes "suppcollection", always contribution)
-    ∷ (codes "inbook", always chapter)
-    ∷ (codes "suppbook", always chapter)
-    ∷ (codes "bookinbook", always chapter)
-    ∷ (
-      codes "inreference",
-      always (appears_in type.Entry type.Reference takes.Reference number.Series),
-    )
-    ∷ book_kinds
-
--- all of them
-abbrev pub kind_table : KindTable
-kind_table =
-    (codes "article", article_in)
-    ∷ (codes "suppperiodical", article_in)
-    ∷ (codes "review", article_in)
-    ∷ (codes "newspaper", always in_newspaper)
-    ∷ (codes "newsarticle", always in_newspaper)
-    ∷ part_kinds
-
-abbrev pub kind_among : KindTable → List ℕ → List FieldBytes → Option Kind
-kind_among table name fs = option_map (λ kind. kind fs) (lookup (bytes_eq name) table)
+-- the rows of the code's table by value
+abbrev pub rule_view : Bor (List ℕ) × Rule → List ℕ × Rule
+rule_view r = (r.0.now, r.1)
 
 -- the kind of a type; one that isn't known is none
 abbrev pub kind_named : List ℕ → List FieldBytes → Option Kind
-kind_named name fs = kind_among kind_table name fs
+kind_named name fs = option_map (λ r. kind_by r fs) (lookup (bytes_eq name) rules)
 
 -- the kind of an entry; of an unknown type it is anything
 abbrev pub kind_of : List ℕ → List FieldBytes → Kind

@@ -1,5 +1,6 @@
 -- The fields that have a place, by their names. All others are passed over.
 use Rattle.std.specs.Prelude.{ℕ, ◌&&◌, ◌||◌, Bool, true, false, List, [], ◌∷◌, is_some, unwrap_or, codes, if◌then◌else◌}
+use Rattle.std.specs.Borrow.{Bor}
 use Rattle.std.specs.Map.{lookup}
 use Rattle.std.specs.Str.{bytes_eq}
 use Rattle.haya_bibtex_inherited.specs.Entries.{FieldBytes, has_field, is_among}
@@ -69,53 +70,30 @@ container_names k fs =
 
 -- ---- fields that always have one, though another one may be preferred
 
-abbrev pub sourced_names : List (List ℕ)
-sourced_names =
-    codes "note" ∷ codes "addendum" ∷ codes "annotation" ∷ codes "annote" ∷ codes "abstract"
-    ∷ codes "type" ∷ codes "library" ∷ codes "langid" ∷ codes "hyphenation" ∷ codes "language"
-    ∷ codes "langidopts" ∷ []
-
-abbrev pub linked_names : List (List ℕ)
-linked_names =
-    codes "doi" ∷ codes "isbn" ∷ codes "issn" ∷ codes "pmid" ∷ codes "pmcid" ∷ codes "eid"
-    ∷ codes "eprint" ∷ codes "url" ∷ codes "howpublished" ∷ codes "crossref" ∷ codes "xdata" ∷ []
-
-abbrev pub numbered_names : List (List ℕ)
-numbered_names =
-    codes "volume" ∷ codes "number" ∷ codes "issue" ∷ codes "edition" ∷ codes "version"
-    ∷ codes "chapter" ∷ codes "pages" ∷ codes "volumes" ∷ codes "pagetotal" ∷ []
-
-abbrev pub dated_names : List (List ℕ)
-dated_names =
-    codes "date" ∷ codes "year" ∷ codes "month" ∷ codes "day" ∷ codes "origtitle"
-    ∷ codes "origdate" ∷ codes "origyear" ∷ codes "origpublisher" ∷ codes "origlocation" ∷ []
-
-abbrev pub published_names : List (List ℕ)
-published_names =
-    codes "publisher" ∷ codes "location" ∷ codes "address" ∷ codes "institution" ∷ codes "school"
-    ∷ codes "organization" ∷ codes "venue" ∷ []
-
-abbrev pub named_names : List (List ℕ)
-named_names =
-    codes "author" ∷ codes "editor" ∷ codes "editora" ∷ codes "editorb" ∷ codes "editorc"
+abbrev pub placed_names : List (List ℕ)
+placed_names =
+    codes "title" ∷ codes "subtitle" ∷ codes "titleaddon" ∷ codes "shorttitle" ∷ codes "maintitle"
+    ∷ codes "mainsubtitle" ∷ codes "maintitleaddon" ∷ codes "series" ∷ codes "shortseries"
+    ∷ codes "author" ∷ codes "editor" ∷ codes "editora" ∷ codes "editorb" ∷ codes "editorc"
     ∷ codes "translator" ∷ codes "afterword" ∷ codes "foreword" ∷ codes "introduction"
-    ∷ codes "annotator" ∷ codes "commentator" ∷ codes "holder" ∷ codes "director" ∷ []
-
-abbrev pub titled_names : List (List ℕ)
-titled_names =
-    codes "title" ∷ codes "subtitle" ∷ codes "titleaddon" ∷ codes "shorttitle"
-    ∷ codes "maintitle" ∷ codes "mainsubtitle" ∷ codes "maintitleaddon" ∷ codes "series"
-    ∷ codes "shortseries" ∷ []
+    ∷ codes "annotator" ∷ codes "commentator" ∷ codes "holder" ∷ codes "director"
+    ∷ codes "publisher" ∷ codes "location" ∷ codes "address" ∷ codes "institution"
+    ∷ codes "school" ∷ codes "organization" ∷ codes "venue" ∷ codes "date" ∷ codes "year"
+    ∷ codes "month" ∷ codes "day" ∷ codes "origtitle" ∷ codes "origdate" ∷ codes "origyear"
+    ∷ codes "origpublisher" ∷ codes "origlocation" ∷ codes "volume" ∷ codes "number"
+    ∷ codes "issue" ∷ codes "edition" ∷ codes "version" ∷ codes "chapter" ∷ codes "pages"
+    ∷ codes "volumes" ∷ codes "pagetotal" ∷ codes "doi" ∷ codes "isbn" ∷ codes "issn"
+    ∷ codes "pmid" ∷ codes "pmcid" ∷ codes "eid" ∷ codes "eprint" ∷ codes "url"
+    ∷ codes "howpublished" ∷ codes "crossref" ∷ codes "xdata" ∷ codes "note" ∷ codes "addendum"
+    ∷ codes "annotation" ∷ codes "annote" ∷ codes "abstract" ∷ codes "type" ∷ codes "library"
+    ∷ codes "langid" ∷ codes "hyphenation" ∷ codes "language" ∷ codes "langidopts" ∷ []
 
 abbrev pub is_always_placed : List ℕ → Bool
-is_always_placed n =
-    is_among titled_names n
-    || is_among named_names n
-    || is_among published_names n
-    || is_among dated_names n
-    || is_among numbered_names n
-    || is_among linked_names n
-    || is_among sourced_names n
+is_always_placed n = is_among placed_names n
+
+-- the names of the code's table by value
+abbrev pub name_view : Bor (List ℕ) → List ℕ
+name_view n = n.now
 
 -- ---- all of them
 

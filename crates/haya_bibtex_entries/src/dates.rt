@@ -1,10 +1,11 @@
 //! The table of dates and addresses.
-ghost use Rattle.std.specs.Prelude.{◌≡◌, ◌++◌, IfOk, OnOk, option_map, map, string_bytes};
+ghost use Rattle.std.specs.Prelude.{◌≡◌, ◌++◌, IfOk, OnOk, codes, option_map, map, string_bytes};
 ghost use Rattle.std.specs.Str.{chars};
 ghost use Rattle.haya_bibtex_dates.specs.DateViews.{date_view, text_chars, texts_view};
 ghost use Rattle.haya_bibtex_dates.specs.Entries.{date_of};
-ghost use Rattle.haya_bibtex_fields.specs.FieldTexts.{unknown_of, unless_empty};
+ghost use Rattle.haya_bibtex_fields.specs.FieldTexts.{unknown_of};
 ghost use Rattle.haya_bibtex_fields.specs.Serials.{eprint_view};
+ghost use Rattle.haya_bibtex_inherited.specs.Entries.{text_of};
 ghost use Rattle.haya_bibtex_inherited.specs.Views.{fields_view};
 ghost use Rattle.haya_bibtex_values.specs.Standing.{as_it_stands};
 ghost use Rattle.haya_bibtex_entries.specs.Dates.{address_of, address_row};
@@ -13,18 +14,18 @@ ghost use Rattle.haya_bibtex_entries.specs.Dates.{both_chars, date_row, date_row
 ghost use Rattle.haya_bibtex_entries.specs.Dates.{eprint_address_in, is_by_date, lost_dates};
 ghost use Rattle.haya_bibtex_entries.specs.Dates.{original_date_row, own_date_row, plain_text};
 ghost use Rattle.haya_bibtex_entries.specs.Dates.{texts_by, unknown_dates, visit_of};
-ghost use Rattle.haya_bibtex_entries.specs.Drafts.{row_view, so_far, with_rows};
+ghost use Rattle.haya_bibtex_entries.specs.Drafts.{so_far, with_any_row, with_row, with_rows};
 ghost use Rattle.haya_bibtex_entries.specs.Values.{date_value, value_view};
 
-use crate::draft::{Draft, Level, Row};
+use crate::draft::{Draft, Level};
 use crate::kinds::Kind;
 use crate::publishers::published_at;
-use crate::rows::commands;
+use crate::rows::{commands, push_names};
 use crate::serials::eprint_of;
 use crate::texts::{has_field, text_of};
 use crate::values::Value;
 use haya_bibtex_dates::{DateTexts, EntryDate, entry_date, read_date};
-use haya_bibtex_fields::{Eprint, Reading, read_plain};
+use haya_bibtex_fields::{Eprint, Reading, read_plain, read_standing};
 use haya_bibtex_inherited::FieldRef;
 use haya_bibtex_values::as_it_stands;
 use haya_text::OutOfMemory;
@@ -91,24 +92,56 @@ fn both<'a>(standing: &'a Option<String>, plain: &'a Option<String>) -> Option<(
     }
 }
 
+// The texts of a year, a month and a day as they are read, and the commands in them that aren't
+// known.
+#[derive(Drop)]
+struct DayTexts {
+    year: Option<String>,
+    month: Option<String>,
+    day: Option<String>,
+    unknown: Vec<String>,
+}
+
+fn day_texts(alloc: Global, fields: &[FieldRef<'_>]) -> Result<DayTexts, OutOfMemory>
+    ensures year { IfOk result (λ d. option_map string_bytes d.year
+        ≡ option_map plain_text (text_of (fields_view fields.now) (codes "year"))) }
+    ensures month { IfOk result (λ d. option_map string_bytes d.month
+        ≡ option_map plain_text (text_of (fields_view fields.now) (codes "month"))) }
+    ensures day { IfOk result (λ d. option_map string_bytes d.day
+        ≡ option_map plain_text (text_of (fields_view fields.now) (codes "day"))) }
+    ensures unknown { IfOk result (λ d. map string_bytes d.unknown.items
+        ≡ unknown_dates (fields_view fields.now)) }
+{
+    let year = plain_text(alloc, text_of(fields, "year"))?;
+    let month = plain_text(alloc, text_of(fields, "month"))?;
+    let day = plain_text(alloc, text_of(fields, "day"))?;
+    let mut unknown = year.unknown;
+    push_names(&mut unknown, month.unknown)?;
+    push_names(&mut unknown, day.unknown)?;
+    Ok(DayTexts {
+        year: year.value,
+        month: month.value,
+        day: day.value,
+        unknown,
+    })
+}
+
 // The texts of a date that are lent.
 fn lent_texts<'a>(
     date: &'a Option<String>,
     year: &'a Option<String>,
-    plain: &'a Option<String>,
-    month: &'a Option<String>,
-    day: &'a Option<String>,
+    texts: &'a DayTexts,
 ) -> DateTexts<'a>
     ensures { texts_view result
         ≡ texts_by (option_map string_bytes date.now) (option_map string_bytes year.now)
-        (option_map string_bytes plain.now) (option_map string_bytes month.now)
-        (option_map string_bytes day.now) }
+        (option_map string_bytes texts.now.year) (option_map string_bytes texts.now.month)
+        (option_map string_bytes texts.now.day) }
 {
     DateTexts {
         date: lent(date),
-        year: both(year, plain),
-        month: lent(month),
-        day: lent(day),
+        year: both(year, &texts.year),
+        month: lent(&texts.month),
+        day: lent(&texts.day),
     }
 }
 
@@ -121,22 +154,9 @@ fn own_date(alloc: Global, fields: &[FieldRef<'_>]) -> Result<(EntryDate, Vec<St
 {
     let date = standing_text(alloc, text_of(fields, "date"))?;
     let year = standing_text(alloc, text_of(fields, "year"))?;
-    let Reading {
-        value: year_text,
-        mut unknown,
-    } = plain_text(alloc, text_of(fields, "year"))?;
-    let Reading {
-        value: month,
-        unknown: mut of_month,
-    } = plain_text(alloc, text_of(fields, "month"))?;
-    let Reading {
-        value: day,
-        unknown: mut of_day,
-    } = plain_text(alloc, text_of(fields, "day"))?;
-    let said = entry_date(alloc, lent_texts(&date, &year, &year_text, &month, &day))?;
-    unknown.append(&mut of_month)?;
-    unknown.append(&mut of_day)?;
-    Ok((said, unknown))
+    let texts = day_texts(alloc, fields)?;
+    let said = entry_date(alloc, lent_texts(&date, &year, &texts))?;
+    Ok((said, texts.unknown))
 }
 
 // Puts a name behind others, where its field isn't read.
@@ -201,17 +221,19 @@ fn date_commands(
     commands(alloc, unknown)
 }
 
-fn own_date_row(alloc: Global, fields: &[FieldRef<'_>]) -> Result<Row, OutOfMemory>
-    ensures { IfOk result (λ r. row_view r ≡ own_date_row (fields_view fields.now)) }
+fn add_own_date(
+    alloc: Global,
+    draft: &mut Draft,
+    key: &str,
+    fields: &[FieldRef<'_>],
+) -> Result<(), OutOfMemory>
+    ensures { OnOk result (so_far draft.new
+        ≡ with_row key.now (own_date_row (fields_view fields.now)) (so_far draft.old)) }
 {
     let (said, unknown) = own_date(alloc, fields)?;
     let mut passed_over = date_commands(alloc, fields, &said, unknown)?;
     push_lost(alloc, &mut passed_over, &said)?;
-    Ok(Row {
-        level: Level::Own,
-        value: date_value(said.date),
-        passed_over,
-    })
+    draft.add(alloc, key, Level::Own, date_value(said.date), passed_over)
 }
 
 // ---- other dates
@@ -223,77 +245,65 @@ fn date_said(alloc: Global, text: &str) -> Result<Option<Date>, OutOfMemory>
     Ok(read_date(alloc, text.as_str())?)
 }
 
-// The row of a date, whose field is passed over where it isn't read.
-fn row_of_date(alloc: Global, level: Level, name: &str, text: &str) -> Result<Row, OutOfMemory>
-    ensures { IfOk result (λ r. row_view r ≡ date_row level name.now text.now) }
-{
-    let date = date_said(alloc, text)?;
-    let mut passed_over = Vec::new(alloc);
-    push_if(alloc, &mut passed_over, date.is_none(), name)?;
-    Ok(Row {
-        level,
-        value: date_value(date),
-        passed_over,
-    })
-}
-
-fn date_row(
+// Puts a date, whose field is passed over where it isn't read.
+fn add_date(
     alloc: Global,
+    draft: &mut Draft,
+    key: &str,
     level: Level,
     name: &str,
     text: Option<&str>,
-) -> Result<Option<Row>, OutOfMemory>
-    ensures { IfOk result (λ r. option_map row_view r
-        ≡ option_map (date_row level name.now) (option_map (λ t. t.now) text.entry)) }
+) -> Result<(), OutOfMemory>
+    ensures { OnOk result (so_far draft.new
+        ≡ with_any_row key.now (option_map (date_row level name.now)
+        (option_map (λ t. t.now) text.entry)) (so_far draft.old)) }
 {
-    match text {
-        Some(text) => Ok(Some(row_of_date(alloc, level, name, text)?)),
-        None => Ok(None),
-    }
+    let Some(text) = text else {
+        return Ok(());
+    };
+    let date = date_said(alloc, text)?;
+    let mut passed_over = Vec::new(alloc);
+    push_if(alloc, &mut passed_over, date.is_none(), name)?;
+    draft.add(alloc, key, level, date_value(date), passed_over)
 }
 
-fn conference_date_row(
+fn add_conference_date(
     alloc: Global,
+    draft: &mut Draft,
+    key: &str,
     is_given: bool,
     fields: &[FieldRef<'_>],
-) -> Result<Option<Row>, OutOfMemory>
-    ensures { IfOk result (λ r. option_map row_view r
-        ≡ conference_date_row is_given (fields_view fields.now)) }
+) -> Result<(), OutOfMemory>
+    ensures { OnOk result (so_far draft.new
+        ≡ with_any_row key.now (conference_date_row is_given (fields_view fields.now))
+        (so_far draft.old)) }
 {
     if !is_given {
-        return Ok(None);
+        return Ok(());
     }
-    date_row(
-        alloc,
-        Level::Conference,
-        "eventdate",
-        text_of(fields, "eventdate"),
-    )
+    let text = text_of(fields, "eventdate");
+    add_date(alloc, draft, key, Level::Conference, "eventdate", text)
 }
 
-fn original_date_row(alloc: Global, fields: &[FieldRef<'_>]) -> Result<Option<Row>, OutOfMemory>
-    ensures { IfOk result (λ r. option_map row_view r
-        ≡ original_date_row (fields_view fields.now)) }
+fn add_original_date(
+    alloc: Global,
+    draft: &mut Draft,
+    key: &str,
+    fields: &[FieldRef<'_>],
+) -> Result<(), OutOfMemory>
+    ensures { OnOk result (so_far draft.new
+        ≡ with_any_row key.now (original_date_row (fields_view fields.now)) (so_far draft.old)) }
 {
     match text_of(fields, "origdate") {
-        Some(text) => Ok(Some(row_of_date(alloc, Level::Original, "origdate", text)?)),
-        None => date_row(
-            alloc,
-            Level::Original,
-            "origyear",
-            text_of(fields, "origyear"),
-        ),
+        Some(text) => add_date(alloc, draft, key, Level::Original, "origdate", Some(text)),
+        None => {
+            let text = text_of(fields, "origyear");
+            add_date(alloc, draft, key, Level::Original, "origyear", text)
+        }
     }
 }
 
 // ---- the address, with the date of the visit
-
-// A text, unless it is empty.
-fn unless_empty(text: String) -> Option<String>
-    ensures { option_map string_bytes result ≡ unless_empty (string_bytes text) }
-{
-    if text.is_empty() { None } else { Some(text) }
-}
 
 // The address of an archive's number.
 fn eprint_address(eprint: Option<Eprint>) -> Option<String>
@@ -314,7 +324,7 @@ pub(crate) fn address_of(
     ensures { IfOk result (λ a. option_map string_bytes a ≡ address_of (fields_view fields.now)) }
 {
     if let Some(text) = text_of(fields, "url") {
-        return Ok(unless_empty(as_it_stands(alloc, text)?));
+        return read_standing(alloc, text);
     }
     match published_at(alloc, fields)? {
         Some(address) => Ok(Some(address)),
@@ -332,21 +342,24 @@ fn visit_of(alloc: Global, fields: &[FieldRef<'_>]) -> Result<Option<Date>, OutO
     }
 }
 
-fn address_row(alloc: Global, fields: &[FieldRef<'_>]) -> Result<Option<Row>, OutOfMemory>
-    ensures { IfOk result (λ r. option_map row_view r ≡ address_row (fields_view fields.now)) }
+fn add_address(
+    alloc: Global,
+    draft: &mut Draft,
+    key: &str,
+    fields: &[FieldRef<'_>],
+) -> Result<(), OutOfMemory>
+    ensures { OnOk result (so_far draft.new
+        ≡ with_any_row key.now (address_row (fields_view fields.now)) (so_far draft.old)) }
 {
     let Some(value) = address_of(alloc, fields)? else {
-        return Ok(None);
+        return Ok(());
     };
     let visit_date = visit_of(alloc, fields)?;
     let is_lost = has_field(fields, "urldate") && visit_date.is_none();
     let mut passed_over = Vec::new(alloc);
     push_if(alloc, &mut passed_over, is_lost, "urldate")?;
-    Ok(Some(Row {
-        level: Level::Own,
-        value: Some(Value::Url(QualifiedUrl { value, visit_date })),
-        passed_over,
-    }))
+    let url = Some(Value::Url(QualifiedUrl { value, visit_date }));
+    draft.add(alloc, key, Level::Own, url, passed_over)
 }
 
 /// Puts dates and the address where they go. The error: there was no memory for them.
@@ -360,13 +373,8 @@ pub(crate) fn add_dates(
     ensures { OnOk result (so_far draft.new
         ≡ with_rows key.now (date_rows kind (fields_view fields.now)) (so_far draft.old)) }
 {
-    draft.add(alloc, key, Some(own_date_row(alloc, fields)?))?;
-    draft.add(
-        alloc,
-        key,
-        conference_date_row(alloc, kind.is_given, fields)?,
-    )?;
-    draft.add(alloc, key, original_date_row(alloc, fields)?)?;
-    draft.add(alloc, key, address_row(alloc, fields)?)?;
-    Ok(())
+    add_own_date(alloc, draft, key, fields)?;
+    add_conference_date(alloc, draft, key, kind.is_given, fields)?;
+    add_original_date(alloc, draft, key, fields)?;
+    add_address(alloc, draft, key, fields)
 }

@@ -2,10 +2,11 @@
 ghost use Rattle.std.specs.Prelude.{◌≡◌, ◌++◌, [], map, option_map, IfOk, OnOk, string_bytes};
 ghost use Rattle.haya_entry.specs.Tree.{view};
 ghost use Rattle.haya_bibtex_entries.specs.Drafts.{below, draft_view, draft_with, entry_made};
-ghost use Rattle.haya_bibtex_entries.specs.Drafts.{new_draft, parent_with, row_view, so_far};
-ghost use Rattle.haya_bibtex_entries.specs.Drafts.{with_any_row, with_row};
+ghost use Rattle.haya_bibtex_entries.specs.Drafts.{new_draft, parent_with, so_far, with_row};
+ghost use Rattle.haya_bibtex_entries.specs.Rows.{commands, row};
 ghost use Rattle.haya_bibtex_entries.specs.Values.{value_view};
 
+use crate::rows::commands;
 use crate::values::{Value, set_value};
 use haya_entry::{Entry, EntryType};
 use haya_text::OutOfMemory;
@@ -27,17 +28,6 @@ pub(crate) enum Level {
     Series,
     /// The work as it first appeared.
     Original,
-}
-
-/// What some fields of an entry say together.
-#[derive(Drop)]
-pub(crate) struct Row {
-    /// To which entry the value goes.
-    pub(crate) level: Level,
-    /// The value, if they say one.
-    pub(crate) value: Option<Value>,
-    /// The names under which something of them is passed over.
-    pub(crate) passed_over: Vec<String>,
 }
 
 /// The entry's own, each parent that a field went to, none or one, and what is passed over.
@@ -83,37 +73,41 @@ impl Draft {
         }
     }
 
-    /// Puts the value of a row, if there is one, where it goes.
+    /// Puts a value, if there is one, where it goes, and names behind those that are passed over.
     pub(crate) fn add(
         &mut self,
         alloc: Global,
         key: &str,
-        row: Option<Row>,
+        level: Level,
+        value: Option<Value>,
+        mut passed_over: Vec<String>,
     ) -> Result<(), OutOfMemory>
-        ensures { OnOk result
-            (so_far self.new ≡ with_any_row key.now (option_map row_view row) (so_far self.old)) }
+        ensures { OnOk result (so_far self.new
+            ≡ with_row key.now (row level (option_map value_view value)
+            (map string_bytes passed_over.items)) (so_far self.old)) }
     {
-        match row {
-            Some(row) => self.add_row(alloc, key, row),
-            None => Ok(()),
-        }
-    }
-
-    // The same of a row that is there.
-    fn add_row(&mut self, alloc: Global, key: &str, row: Row) -> Result<(), OutOfMemory>
-        ensures { OnOk result
-            (so_far self.new ≡ with_row key.now (row_view row) (so_far self.old)) }
-    {
-        let Row {
-            level,
-            value,
-            mut passed_over,
-        } = row;
         self.passed_over.append(&mut passed_over)?;
         match value {
             Some(value) => self.put(alloc, key, level, value),
             None => Ok(()),
         }
+    }
+
+    /// The same with commands that aren't known.
+    pub(crate) fn add_read(
+        &mut self,
+        alloc: Global,
+        key: &str,
+        level: Level,
+        value: Option<Value>,
+        unknown: Vec<String>,
+    ) -> Result<(), OutOfMemory>
+        ensures { OnOk result (so_far self.new
+            ≡ with_row key.now (row level (option_map value_view value)
+            (commands (map string_bytes unknown.items))) (so_far self.old)) }
+    {
+        let passed_over = commands(alloc, unknown)?;
+        self.add(alloc, key, level, value, passed_over)
     }
 
     // Puts a value to one of the entries.

@@ -1,13 +1,14 @@
 //! The types of entries: the type of the entry that is read, what it appears in, and what its
 //! number is.
-ghost use Rattle.std.specs.Prelude.{◌≡◌};
-ghost use Rattle.haya_bibtex_entries.specs.Kinds.{alone, appears_in, article_in, book_kinds};
-ghost use Rattle.haya_bibtex_entries.specs.Kinds.{given, has_event, host_takes, in_newspaper};
-ghost use Rattle.haya_bibtex_entries.specs.Kinds.{in_periodical, is_in_journal, is_subtype};
-ghost use Rattle.haya_bibtex_entries.specs.Kinds.{kept_kinds, kind_among, kind_named, kind_of};
-ghost use Rattle.haya_bibtex_entries.specs.Kinds.{letter_in, of_institution, of_patent};
-ghost use Rattle.haya_bibtex_entries.specs.Kinds.{paper, paper_kinds, part_kinds, seen_kinds};
-ghost use Rattle.haya_bibtex_entries.specs.Kinds.{stored_kinds, takes_authors, takes_edition};
+ghost use Rattle.std.specs.Prelude.{◌≡◌, map};
+ghost use Rattle.std.specs.Map.{lookup};
+ghost use Rattle.std.specs.Str.{bytes_eq};
+ghost use Rattle.haya_bibtex_entries.specs.Kinds.{alone, appears_in, article_in, given, has_event};
+ghost use Rattle.haya_bibtex_entries.specs.Kinds.{host_takes, in_newspaper, in_periodical};
+ghost use Rattle.haya_bibtex_entries.specs.Kinds.{is_in_journal, is_subtype, kind_by, kind_named};
+ghost use Rattle.haya_bibtex_entries.specs.Kinds.{kind_of, letter_in, of_institution, of_patent};
+ghost use Rattle.haya_bibtex_entries.specs.Kinds.{paper, rule_view, rules};
+ghost use Rattle.haya_bibtex_entries.specs.Kinds.{takes_authors, takes_edition};
 ghost use Rattle.haya_bibtex_entries.specs.Kinds.{takes_editors, takes_isbn, takes_issn};
 ghost use Rattle.haya_bibtex_entries.specs.Kinds.{takes_issue, takes_location, takes_publisher};
 ghost use Rattle.haya_bibtex_entries.specs.Kinds.{takes_subtype, takes_volume, unpublished_in};
@@ -15,6 +16,7 @@ ghost use Rattle.haya_bibtex_entries.specs.Rows.{host_level};
 ghost use Rattle.haya_bibtex_inherited.specs.Views.{fields_view};
 
 use crate::draft::Level;
+use crate::rules::{RULES, Rule};
 use crate::texts::{has_field, text_of};
 use haya_bibtex_inherited::FieldRef;
 use haya_entry::EntryType;
@@ -195,109 +197,46 @@ pub(crate) fn kind_of(name: &str, fields: &[FieldRef<'_>]) -> Kind
 pub(crate) fn kind_named(name: &str, fields: &[FieldRef<'_>]) -> Option<Kind>
     ensures { result ≡ kind_named name.now (fields_view fields.now) }
 {
-    match name {
-        "article" | "suppperiodical" | "review" => Some(article_in(fields)),
-        "newspaper" | "newsarticle" => Some(in_newspaper()),
-        _ => part_kind(name, fields),
+    match rule_named(name) {
+        Some(rule) => Some(kind_by(rule, fields)),
+        None => None,
     }
 }
 
-// The same of what is a part of a book, and of what follows.
-fn part_kind(name: &str, fields: &[FieldRef<'_>]) -> Option<Kind>
-    ensures { result ≡ kind_among part_kinds name.now (fields_view fields.now) }
+// The rule of a type, if that is known.
+fn rule_named(name: &str) -> Option<Rule>
+    ensures { result ≡ lookup (bytes_eq name.now) rules }
 {
-    match name {
-        "inproceedings" | "conference" => Some(paper()),
-        "incollection" | "suppcollection" => Some(appears_in(
-            EntryType::Anthos,
-            EntryType::Anthology,
-            Takes::Book,
-            NumberRule::Series,
-        )),
-        "inbook" | "suppbook" | "bookinbook" => Some(appears_in(
-            EntryType::Chapter,
-            EntryType::Book,
-            Takes::Book,
-            NumberRule::Series,
-        )),
-        "inreference" => Some(appears_in(
-            EntryType::Entry,
-            EntryType::Reference,
-            Takes::Reference,
-            NumberRule::Series,
-        )),
-        _ => book_kind(name, fields),
-    }
+    rule_in(RULES, name)
 }
 
-// The same of what is a work of its own, and of what follows.
-fn book_kind(name: &str, fields: &[FieldRef<'_>]) -> Option<Kind>
-    ensures { result ≡ kind_among book_kinds name.now (fields_view fields.now) }
+// The rule that a table has for a type.
+fn rule_in(table: &[(&str, Rule)], name: &str) -> Option<Rule>
+    ensures { result ≡ lookup (bytes_eq name.now) (map rule_view table.now) }
 {
-    match name {
-        "book" | "mvbook" => Some(alone(EntryType::Book, NumberRule::Series)),
-        "booklet" | "commentary" => Some(alone(EntryType::Book, NumberRule::Serial)),
-        "collection" | "mvcollection" => Some(alone(EntryType::Anthology, NumberRule::Series)),
-        "reference" | "mvreference" => Some(alone(EntryType::Reference, NumberRule::Series)),
-        "proceedings" | "mvproceedings" => {
-            Some(given(alone(EntryType::Proceedings, NumberRule::Series)))
+    'rows: for (key, rule) in table {
+        if name == *key {
+            return Some(*rule);
         }
-        _ => paper_kind(name, fields),
     }
+    None
 }
 
-// The same of what an institution gives out, of what comes in issues, and of what follows.
-fn paper_kind(name: &str, fields: &[FieldRef<'_>]) -> Option<Kind>
-    ensures { result ≡ kind_among paper_kinds name.now (fields_view fields.now) }
+// The kind of an entry by a rule.
+fn kind_by(rule: Rule, fields: &[FieldRef<'_>]) -> Kind
+    ensures { result ≡ kind_by rule (fields_view fields.now) }
 {
-    match name {
-        "manual" => Some(alone(EntryType::Reference, NumberRule::Serial)),
-        "periodical" => Some(alone(EntryType::Periodical, NumberRule::Issue)),
-        "thesis" | "phdthesis" | "mastersthesis" => Some(of_institution(EntryType::Thesis)),
-        "report" | "techreport" | "standard" => Some(of_institution(EntryType::Report)),
-        _ => kept_kind(name, fields),
-    }
-}
-
-// The same of what is kept, or of no other kind, and of what follows.
-fn kept_kind(name: &str, fields: &[FieldRef<'_>]) -> Option<Kind>
-    ensures { result ≡ kind_among kept_kinds name.now (fields_view fields.now) }
-{
-    match name {
-        "unpublished" => Some(unpublished_in(fields)),
-        "letter" | "letters" => Some(letter_in(fields)),
-        "patent" => Some(of_patent()),
-        "misc" | "set" => Some(alone(EntryType::Misc, NumberRule::Serial)),
-        "artwork" | "image" => Some(alone(EntryType::Artwork, NumberRule::Serial)),
-        _ => stored_kind(name, fields),
-    }
-}
-
-// The same of what is stored, or on the web, and of what follows.
-fn stored_kind(name: &str, fields: &[FieldRef<'_>]) -> Option<Kind>
-    ensures { result ≡ kind_among stored_kinds name.now (fields_view fields.now) }
-{
-    match name {
-        "software" | "softwareversion" | "softwaremodule" | "codefragment" => {
-            Some(alone(EntryType::Repository, NumberRule::Serial))
-        }
-        "dataset" | "data" => Some(titled_by(EntryType::Repository)),
-        "online" | "electronic" | "www" => Some(titled_by(EntryType::Web)),
-        _ => seen_kind(name, fields),
-    }
-}
-
-// The same of what is seen, heard or performed, and of law.
-fn seen_kind(name: &str, fields: &[FieldRef<'_>]) -> Option<Kind>
-    ensures { result ≡ kind_among seen_kinds name.now (fields_view fields.now) }
-{
-    match name {
-        "video" | "movie" => Some(titled_by(EntryType::Video)),
-        "audio" | "music" => Some(volume_of(EntryType::Audio, EntryType::Audio)),
-        "performance" => Some(given(alone(EntryType::Performance, NumberRule::Serial))),
-        "jurisdiction" => Some(volume_of(EntryType::Case, EntryType::Reference)),
-        "legislation" | "legal" => Some(volume_of(EntryType::Legislation, EntryType::Anthology)),
-        _ => None,
+    match rule {
+        Rule::Alone(entry, number) => alone(entry, number),
+        Rule::Given(entry, number) => given(alone(entry, number)),
+        Rule::In(entry, host, takes, number) => appears_in(entry, host, takes, number),
+        Rule::Institution(entry) => of_institution(entry),
+        Rule::Patent => of_patent(),
+        Rule::Paper => paper(),
+        Rule::Newspaper => in_newspaper(),
+        Rule::Article => article_in(fields),
+        Rule::Unpublished => unpublished_in(fields),
+        Rule::Letter => letter_in(fields),
     }
 }
 
@@ -323,20 +262,6 @@ fn appears_in(entry: EntryType, host: EntryType, takes: Takes, number: NumberRul
         host,
         ..alone(entry, number)
     }
-}
-
-// One that appears in another of its type, of which the title alone is told.
-fn titled_by(entry: EntryType) -> Kind
-    ensures { result ≡ appears_in entry entry Takes.Title NumberRule.Serial }
-{
-    appears_in(entry, entry, Takes::Title, NumberRule::Serial)
-}
-
-// One that appears in a volume of another.
-fn volume_of(entry: EntryType, host: EntryType) -> Kind
-    ensures { result ≡ appears_in entry host Takes.Volume NumberRule.Serial }
-{
-    appears_in(entry, host, Takes::Volume, NumberRule::Serial)
 }
 
 // One that was given at a conference.

@@ -18,6 +18,7 @@ mod places;
 mod publishers;
 mod reading;
 mod rows;
+mod rules;
 mod serials;
 mod sources;
 mod texts;

@@ -1,16 +1,16 @@
 //! The table of numbers and pages.
-ghost use Rattle.std.specs.Prelude.{◌≡◌, IfOk, OnOk, option_map, map, string_bytes};
+ghost use Rattle.std.specs.Prelude.{◌≡◌, OnOk, option_map, map, string_bytes};
 ghost use Rattle.haya_numbers.specs.Numeric.{numeric_view};
 ghost use Rattle.haya_numbers.specs.Pages.{parts};
 ghost use Rattle.haya_values.specs.MaybeTyped.{maybe_typed_view};
 ghost use Rattle.haya_bibtex_inherited.specs.Views.{fields_view};
-ghost use Rattle.haya_bibtex_entries.specs.Drafts.{row_view, so_far, with_rows};
+ghost use Rattle.haya_bibtex_entries.specs.Drafts.{so_far, with_any_row, with_row, with_rows};
 ghost use Rattle.haya_bibtex_entries.specs.Numbers.{count_by, count_row, edition_text, issue_text};
 ghost use Rattle.haya_bibtex_entries.specs.Numbers.{number_row, number_rows, number_text};
 ghost use Rattle.haya_bibtex_entries.specs.Numbers.{own_number_rows, pages_row, series_text};
 ghost use Rattle.haya_bibtex_entries.specs.Values.{number_value, pages_value, value_view};
 
-use crate::draft::{Draft, Level, Row};
+use crate::draft::{Draft, Level};
 use crate::kinds::{Kind, NumberRule};
 use crate::rows::commands;
 use crate::texts::text_of;
@@ -65,35 +65,23 @@ fn number_value(field: NumberField, number: Option<MaybeTyped<Numeric>>) -> Opti
     }
 }
 
-fn row_of_number(
+fn add_number(
     alloc: Global,
-    level: Level,
-    field: NumberField,
-    text: &str,
-) -> Result<Row, OutOfMemory>
-    ensures { IfOk result (λ r. row_view r ≡ number_row level field text.now) }
-{
-    let Reading { value, unknown } = read_number(alloc, text)?;
-    Ok(Row {
-        level,
-        value: number_value(field, value),
-        passed_over: commands(alloc, unknown)?,
-    })
-}
-
-fn number_row(
-    alloc: Global,
+    draft: &mut Draft,
+    key: &str,
     level: Level,
     field: NumberField,
     text: Option<&str>,
-) -> Result<Option<Row>, OutOfMemory>
-    ensures { IfOk result (λ r. option_map row_view r
-        ≡ option_map (number_row level field) (option_map (λ s. s.now) text.entry)) }
+) -> Result<(), OutOfMemory>
+    ensures { OnOk result (so_far draft.new
+        ≡ with_any_row key.now (option_map (number_row level field)
+        (option_map (λ s. s.now) text.entry)) (so_far draft.old)) }
 {
-    match text {
-        Some(text) => Ok(Some(row_of_number(alloc, level, field, text)?)),
-        None => Ok(None),
-    }
+    let Some(text) = text else {
+        return Ok(());
+    };
+    let Reading { value, unknown } = read_number(alloc, text)?;
+    draft.add_read(alloc, key, level, number_value(field, value), unknown)
 }
 
 // Pages as a value.
@@ -107,77 +95,69 @@ fn pages_value(pages: Option<MaybeTyped<PageRanges>>) -> Option<Value>
     }
 }
 
-fn row_of_pages(alloc: Global, text: &str) -> Result<Row, OutOfMemory>
-    ensures { IfOk result (λ r. row_view r ≡ pages_row text.now) }
-{
-    let Reading { value, unknown } = read_pages(alloc, text)?;
-    Ok(Row {
-        level: Level::Own,
-        value: pages_value(value),
-        passed_over: commands(alloc, unknown)?,
-    })
-}
-
-fn pages_row(alloc: Global, text: Option<&str>) -> Result<Option<Row>, OutOfMemory>
-    ensures { IfOk result (λ r. option_map row_view r
-        ≡ option_map pages_row (option_map (λ s. s.now) text.entry)) }
-{
-    match text {
-        Some(text) => Ok(Some(row_of_pages(alloc, text)?)),
-        None => Ok(None),
-    }
-}
-
-// The row of a count, whose field is passed over where the text is no number.
-fn count_by(
+fn add_pages(
     alloc: Global,
+    draft: &mut Draft,
+    key: &str,
+    text: Option<&str>,
+) -> Result<(), OutOfMemory>
+    ensures { OnOk result (so_far draft.new
+        ≡ with_any_row key.now (option_map pages_row (option_map (λ s. s.now) text.entry))
+        (so_far draft.old)) }
+{
+    let Some(text) = text else {
+        return Ok(());
+    };
+    let Reading { value, unknown } = read_pages(alloc, text)?;
+    draft.add_read(alloc, key, Level::Own, pages_value(value), unknown)
+}
+
+// Puts a count, whose field is passed over where the text is no number.
+fn add_count_by(
+    alloc: Global,
+    draft: &mut Draft,
+    key: &str,
     field: CountField,
     name: &str,
     mut passed_over: Vec<String>,
     number: Option<MaybeTyped<Numeric>>,
-) -> Result<Row, OutOfMemory>
-    ensures { IfOk result (λ r. row_view r ≡ count_by field name.now
-        (map string_bytes passed_over.items)
-        (option_map (maybe_typed_view numeric_view) number)) }
+) -> Result<(), OutOfMemory>
+    ensures { OnOk result (so_far draft.new
+        ≡ with_row key.now (count_by field name.now (map string_bytes passed_over.items)
+        (option_map (maybe_typed_view numeric_view) number)) (so_far draft.old)) }
 {
     match number {
-        Some(MaybeTyped::Typed(count)) => Ok(Row {
-            level: Level::Own,
-            value: Some(Value::Count(field, count)),
-            passed_over,
-        }),
+        Some(MaybeTyped::Typed(count)) => {
+            let value = Some(Value::Count(field, count));
+            draft.add(alloc, key, Level::Own, value, passed_over)
+        }
         Some(MaybeTyped::String(text)) => {
             drop(text);
             passed_over.push(String::from_str(alloc, name)?)?;
-            Ok(Row {
-                level: Level::Own,
-                value: None,
-                passed_over,
-            })
+            draft.add(alloc, key, Level::Own, None, passed_over)
         }
-        None => Ok(Row {
-            level: Level::Own,
-            value: None,
-            passed_over,
-        }),
+        None => draft.add(alloc, key, Level::Own, None, passed_over),
     }
 }
 
-fn count_row(
+fn add_count(
     alloc: Global,
+    draft: &mut Draft,
+    key: &str,
     field: CountField,
     name: &str,
     text: Option<&str>,
-) -> Result<Option<Row>, OutOfMemory>
-    ensures { IfOk result (λ r. option_map row_view r
-        ≡ option_map (count_row field name.now) (option_map (λ s. s.now) text.entry)) }
+) -> Result<(), OutOfMemory>
+    ensures { OnOk result (so_far draft.new
+        ≡ with_any_row key.now (option_map (count_row field name.now)
+        (option_map (λ s. s.now) text.entry)) (so_far draft.old)) }
 {
     let Some(text) = text else {
-        return Ok(None);
+        return Ok(());
     };
     let Reading { value, unknown } = read_number(alloc, text)?;
     let passed_over = commands(alloc, unknown)?;
-    Ok(Some(count_by(alloc, field, name, passed_over, value)?))
+    add_count_by(alloc, draft, key, field, name, passed_over, value)
 }
 
 // Puts the numbers where they go that a host or a series may take.
@@ -192,18 +172,34 @@ fn add_placed_numbers(
         ≡ with_rows key.now (number_rows kind (fields_view fields.now)) (so_far draft.old)) }
 {
     let text = text_of(fields, "volume");
-    let row = number_row(alloc, kind.volume_level(), NumberField::Volume, text)?;
-    draft.add(alloc, key, row)?;
+    add_number(
+        alloc,
+        draft,
+        key,
+        kind.volume_level(),
+        NumberField::Volume,
+        text,
+    )?;
     let text = edition_text(fields);
-    let row = number_row(alloc, kind.edition_level(), NumberField::Edition, text)?;
-    draft.add(alloc, key, row)?;
+    add_number(
+        alloc,
+        draft,
+        key,
+        kind.edition_level(),
+        NumberField::Edition,
+        text,
+    )?;
     let text = issue_text(kind.number, fields);
-    let row = number_row(alloc, kind.issue_level(), NumberField::Issue, text)?;
-    draft.add(alloc, key, row)?;
+    add_number(
+        alloc,
+        draft,
+        key,
+        kind.issue_level(),
+        NumberField::Issue,
+        text,
+    )?;
     let text = series_text(kind.number, fields);
-    let row = number_row(alloc, Level::Series, NumberField::Volume, text)?;
-    draft.add(alloc, key, row)?;
-    Ok(())
+    add_number(alloc, draft, key, Level::Series, NumberField::Volume, text)
 }
 
 /// Puts numbers and pages where they go. The error: there was no memory for them.
@@ -219,8 +215,7 @@ pub(crate) fn add_numbers(
         (with_rows key.now (number_rows kind (fields_view fields.now)) (so_far draft.old))) }
 {
     add_placed_numbers(alloc, draft, key, kind, fields)?;
-    add_own_numbers(alloc, draft, key, fields)?;
-    Ok(())
+    add_own_numbers(alloc, draft, key, fields)
 }
 
 // Puts the other numbers, and pages, where they go.
@@ -234,20 +229,10 @@ fn add_own_numbers(
         ≡ with_rows key.now (own_number_rows (fields_view fields.now)) (so_far draft.old)) }
 {
     let text = text_of(fields, "chapter");
-    let row = number_row(alloc, Level::Own, NumberField::Chapter, text)?;
-    draft.add(alloc, key, row)?;
-    draft.add(alloc, key, pages_row(alloc, text_of(fields, "pages"))?)?;
+    add_number(alloc, draft, key, Level::Own, NumberField::Chapter, text)?;
+    add_pages(alloc, draft, key, text_of(fields, "pages"))?;
     let text = text_of(fields, "volumes");
-    draft.add(
-        alloc,
-        key,
-        count_row(alloc, CountField::Volumes, "volumes", text)?,
-    )?;
+    add_count(alloc, draft, key, CountField::Volumes, "volumes", text)?;
     let text = text_of(fields, "pagetotal");
-    draft.add(
-        alloc,
-        key,
-        count_row(alloc, CountField::Pages, "pagetotal", text)?,
-    )?;
-    Ok(())
+    add_count(alloc, draft, key, CountField::Pages, "pagetotal", text)
 }

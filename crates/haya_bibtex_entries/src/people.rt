@@ -7,7 +7,7 @@ ghost use Rattle.haya_people.specs.Person.{person_view};
 ghost use Rattle.haya_people.specs.Roles.{role_view, roles_view};
 ghost use Rattle.haya_bibtex_fields.specs.FieldTexts.{unless_empty};
 ghost use Rattle.haya_bibtex_inherited.specs.Views.{fields_view};
-ghost use Rattle.haya_bibtex_entries.specs.Drafts.{row_view, so_far, with_rows};
+ghost use Rattle.haya_bibtex_entries.specs.Drafts.{so_far, with_any_row, with_row, with_rows};
 ghost use Rattle.haya_bibtex_entries.specs.People.{affiliated_row, all_affiliated, all_editors};
 ghost use Rattle.haya_bibtex_entries.specs.People.{authors_row, editors_row, host_authors_row};
 ghost use Rattle.haya_bibtex_entries.specs.People.{later_roles, passed_in_names, people_rows};
@@ -19,9 +19,9 @@ ghost use Rattle.haya_bibtex_entries.specs.PeopleViews.{affiliated_view, editors
 ghost use Rattle.haya_bibtex_entries.specs.Values.{affiliated_value, authors_value};
 ghost use Rattle.haya_bibtex_entries.specs.Values.{editors_value, value_view};
 
-use crate::draft::{Draft, Level, Row};
+use crate::draft::{Draft, Level};
 use crate::kinds::{Host, Kind};
-use crate::rows::commands;
+use crate::rows::{commands, push_names};
 use crate::texts::text_of;
 use crate::values::Value;
 use haya_bibtex_inherited::FieldRef;
@@ -76,20 +76,6 @@ fn read_names(alloc: Global, text: &str) -> Result<Editors, OutOfMemory>
 
 // ---- authors
 
-fn row_of_authors(alloc: Global, level: Level, text: &str) -> Result<Row, OutOfMemory>
-    ensures { IfOk result (λ r. row_view r ≡ authors_row level text.now) }
-{
-    let Editors {
-        persons,
-        passed_over,
-    } = read_names(alloc, text)?;
-    Ok(Row {
-        level,
-        value: authors_value(persons),
-        passed_over,
-    })
-}
-
 // Authors as a value, if there are any.
 fn authors_value(persons: Vec<Person>) -> Option<Value>
     ensures { option_map value_view result
@@ -102,33 +88,44 @@ fn authors_value(persons: Vec<Person>) -> Option<Value>
     }
 }
 
-fn authors_row(alloc: Global, level: Level, text: Option<&str>) -> Result<Option<Row>, OutOfMemory>
-    ensures { IfOk result (λ r. option_map row_view r
-        ≡ option_map (authors_row level) (option_map (λ t. t.now) text.entry)) }
+fn add_authors(
+    alloc: Global,
+    draft: &mut Draft,
+    key: &str,
+    level: Level,
+    text: Option<&str>,
+) -> Result<(), OutOfMemory>
+    ensures { OnOk result (so_far draft.new
+        ≡ with_any_row key.now (option_map (authors_row level)
+        (option_map (λ t. t.now) text.entry)) (so_far draft.old)) }
 {
-    match text {
-        Some(text) => Ok(Some(row_of_authors(alloc, level, text)?)),
-        None => Ok(None),
-    }
+    let Some(text) = text else {
+        return Ok(());
+    };
+    let Editors {
+        persons,
+        passed_over,
+    } = read_names(alloc, text)?;
+    draft.add(alloc, key, level, authors_value(persons), passed_over)
 }
 
-fn host_authors_row(
+fn add_host_authors(
     alloc: Global,
+    draft: &mut Draft,
+    key: &str,
     host: Option<Host>,
     fields: &[FieldRef<'_>],
-) -> Result<Option<Row>, OutOfMemory>
-    ensures { IfOk result (λ r. option_map row_view r
-        ≡ host_authors_row host (fields_view fields.now)) }
+) -> Result<(), OutOfMemory>
+    ensures { OnOk result (so_far draft.new
+        ≡ with_any_row key.now (host_authors_row host (fields_view fields.now))
+        (so_far draft.old)) }
 {
     match host {
         Some(host) if host.takes.authors() => {
-            authors_row(
-                alloc,
-                Level::Host(host.entry),
-                text_of(fields, "bookauthor"),
-            )
+            let level = Level::Host(host.entry);
+            add_authors(alloc, draft, key, level, text_of(fields, "bookauthor"))
         }
-        _ => Ok(None),
+        _ => Ok(()),
     }
 }
 
@@ -194,10 +191,12 @@ impl Editors {
         if role_in(text_of(fields, kind)).is_some() {
             return Ok(());
         }
-        let mut more = read_names(alloc, text)?;
-        self.persons.append(&mut more.persons)?;
-        self.passed_over.append(&mut more.passed_over)?;
-        Ok(())
+        let Editors {
+            mut persons,
+            passed_over,
+        } = read_names(alloc, text)?;
+        self.persons.append(&mut persons)?;
+        push_names(&mut self.passed_over, passed_over)
     }
 }
 
@@ -228,18 +227,22 @@ fn editors_value(persons: Vec<Person>) -> Option<Value>
     }
 }
 
-fn editors_row(alloc: Global, kind: Kind, fields: &[FieldRef<'_>]) -> Result<Row, OutOfMemory>
-    ensures { IfOk result (λ r. row_view r ≡ editors_row kind (fields_view fields.now)) }
+fn add_editors(
+    alloc: Global,
+    draft: &mut Draft,
+    key: &str,
+    kind: Kind,
+    fields: &[FieldRef<'_>],
+) -> Result<(), OutOfMemory>
+    ensures { OnOk result (so_far draft.new
+        ≡ with_row key.now (editors_row kind (fields_view fields.now)) (so_far draft.old)) }
 {
     let Editors {
         persons,
         passed_over,
     } = all_editors(alloc, fields)?;
-    Ok(Row {
-        level: kind.editors_level(),
-        value: editors_value(persons),
-        passed_over,
-    })
+    let level = kind.editors_level();
+    draft.add(alloc, key, level, editors_value(persons), passed_over)
 }
 
 // ---- persons of other roles
@@ -259,9 +262,9 @@ impl Affiliated {
     {
         let Editors {
             persons,
-            mut passed_over,
+            passed_over,
         } = read_names(alloc, text)?;
-        self.passed_over.append(&mut passed_over)?;
+        push_names(&mut self.passed_over, passed_over)?;
         if persons.is_empty() {
             return Ok(());
         }
@@ -367,15 +370,17 @@ fn affiliated_value(lists: Vec<PersonsWithRoles>) -> Option<Value>
     }
 }
 
-fn affiliated_row(alloc: Global, fields: &[FieldRef<'_>]) -> Result<Row, OutOfMemory>
-    ensures { IfOk result (λ r. row_view r ≡ affiliated_row (fields_view fields.now)) }
+fn add_affiliated(
+    alloc: Global,
+    draft: &mut Draft,
+    key: &str,
+    fields: &[FieldRef<'_>],
+) -> Result<(), OutOfMemory>
+    ensures { OnOk result (so_far draft.new
+        ≡ with_row key.now (affiliated_row (fields_view fields.now)) (so_far draft.old)) }
 {
     let Affiliated { lists, passed_over } = all_affiliated(alloc, fields)?;
-    Ok(Row {
-        level: Level::Own,
-        value: affiliated_value(lists),
-        passed_over,
-    })
+    draft.add(alloc, key, Level::Own, affiliated_value(lists), passed_over)
 }
 
 /// Puts the persons where they go. The error: there was no memory for them.
@@ -389,10 +394,8 @@ pub(crate) fn add_people(
     ensures { OnOk result (so_far draft.new
         ≡ with_rows key.now (people_rows kind (fields_view fields.now)) (so_far draft.old)) }
 {
-    let authors = authors_row(alloc, Level::Own, text_of(fields, "author"))?;
-    draft.add(alloc, key, authors)?;
-    draft.add(alloc, key, host_authors_row(alloc, kind.host, fields)?)?;
-    draft.add(alloc, key, Some(editors_row(alloc, kind, fields)?))?;
-    draft.add(alloc, key, Some(affiliated_row(alloc, fields)?))?;
-    Ok(())
+    add_authors(alloc, draft, key, Level::Own, text_of(fields, "author"))?;
+    add_host_authors(alloc, draft, key, kind.host, fields)?;
+    add_editors(alloc, draft, key, kind, fields)?;
+    add_affiliated(alloc, draft, key, fields)
 }

@@ -1,16 +1,13 @@
 //! The fields that have a place, by their names.
-ghost use Rattle.std.specs.Prelude.{◌≡◌, IfOk, false, unwrap_or};
+ghost use Rattle.std.specs.Prelude.{◌≡◌, IfOk, false, map, unwrap_or};
 ghost use Rattle.std.specs.Map.{lookup};
 ghost use Rattle.std.specs.Str.{bytes_eq};
 ghost use Rattle.haya_bibtex_inherited.specs.Entries.{is_among};
 ghost use Rattle.haya_bibtex_inherited.specs.Views.{fields_view};
-ghost use Rattle.haya_bibtex_entries.specs.Places.{container_names, dated_names};
-ghost use Rattle.haya_bibtex_entries.specs.Places.{is_always_placed, is_of_book, is_of_journal};
-ghost use Rattle.haya_bibtex_entries.specs.Places.{is_placed, is_short_of_journal};
-ghost use Rattle.haya_bibtex_entries.specs.Places.{is_subtype_read, linked_names, named_names};
-ghost use Rattle.haya_bibtex_entries.specs.Places.{numbered_names, parent_names};
-ghost use Rattle.haya_bibtex_entries.specs.Places.{published_names, side_names};
-ghost use Rattle.haya_bibtex_entries.specs.Places.{sourced_names, titled_names};
+ghost use Rattle.haya_bibtex_entries.specs.Places.{container_names, is_always_placed, is_of_book};
+ghost use Rattle.haya_bibtex_entries.specs.Places.{is_of_journal, is_placed, is_short_of_journal};
+ghost use Rattle.haya_bibtex_entries.specs.Places.{is_subtype_read, name_view, parent_names};
+ghost use Rattle.haya_bibtex_entries.specs.Places.{side_names};
 
 use crate::containers::{Container, container_of};
 use crate::dates::address_of;
@@ -20,89 +17,102 @@ use haya_bibtex_inherited::FieldRef;
 use haya_text::OutOfMemory;
 use std::alloc::Global;
 
-// ---- fields that always have a place, though another one may be preferred
+// The fields that always have a place, though another one may be preferred.
+const PLACED: &[&str] = &[
+    // Titles.
+    "title",
+    "subtitle",
+    "titleaddon",
+    "shorttitle",
+    "maintitle",
+    "mainsubtitle",
+    "maintitleaddon",
+    "series",
+    "shortseries",
+    // Persons.
+    "author",
+    "editor",
+    "editora",
+    "editorb",
+    "editorc",
+    "translator",
+    "afterword",
+    "foreword",
+    "introduction",
+    "annotator",
+    "commentator",
+    "holder",
+    "director",
+    // Publishers and places.
+    "publisher",
+    "location",
+    "address",
+    "institution",
+    "school",
+    "organization",
+    "venue",
+    // Dates, and the original.
+    "date",
+    "year",
+    "month",
+    "day",
+    "origtitle",
+    "origdate",
+    "origyear",
+    "origpublisher",
+    "origlocation",
+    // Numbers and pages.
+    "volume",
+    "number",
+    "issue",
+    "edition",
+    "version",
+    "chapter",
+    "pages",
+    "volumes",
+    "pagetotal",
+    // Serial numbers, archives, addresses and references.
+    "doi",
+    "isbn",
+    "issn",
+    "pmid",
+    "pmcid",
+    "eid",
+    "eprint",
+    "url",
+    "howpublished",
+    "crossref",
+    "xdata",
+    // Notes, genres, call numbers and languages.
+    "note",
+    "addendum",
+    "annotation",
+    "annote",
+    "abstract",
+    "type",
+    "library",
+    "langid",
+    "hyphenation",
+    "language",
+    "langidopts",
+];
 
-fn is_titled(name: &str) -> bool
-    ensures { result ≡ is_among titled_names name.now }
+// Whether the name is one of these.
+fn is_among(names: &[&str], name: &str) -> bool
+    ensures { result ≡ is_among (map name_view names.now) name.now }
 {
-    match name {
-        "title" | "subtitle" | "titleaddon" | "shorttitle" | "maintitle" => true,
-        "mainsubtitle" | "maintitleaddon" | "series" | "shortseries" => true,
-        _ => false,
+    'names: for other in names {
+        if name == *other {
+            return true;
+        }
     }
-}
-
-fn is_named(name: &str) -> bool
-    ensures { result ≡ is_among named_names name.now }
-{
-    match name {
-        "author" | "editor" | "editora" | "editorb" | "editorc" => true,
-        "translator" | "afterword" | "foreword" | "introduction" => true,
-        "annotator" | "commentator" | "holder" | "director" => true,
-        _ => false,
-    }
-}
-
-fn is_published(name: &str) -> bool
-    ensures { result ≡ is_among published_names name.now }
-{
-    match name {
-        "publisher" | "location" | "address" | "institution" | "school" => true,
-        "organization" | "venue" => true,
-        _ => false,
-    }
-}
-
-fn is_dated(name: &str) -> bool
-    ensures { result ≡ is_among dated_names name.now }
-{
-    match name {
-        "date" | "year" | "month" | "day" => true,
-        "origtitle" | "origdate" | "origyear" | "origpublisher" | "origlocation" => true,
-        _ => false,
-    }
-}
-
-fn is_numbered(name: &str) -> bool
-    ensures { result ≡ is_among numbered_names name.now }
-{
-    match name {
-        "volume" | "number" | "issue" | "edition" | "version" => true,
-        "chapter" | "pages" | "volumes" | "pagetotal" => true,
-        _ => false,
-    }
-}
-
-fn is_linked(name: &str) -> bool
-    ensures { result ≡ is_among linked_names name.now }
-{
-    match name {
-        "doi" | "isbn" | "issn" | "pmid" | "pmcid" | "eid" => true,
-        "eprint" | "url" | "howpublished" | "crossref" | "xdata" => true,
-        _ => false,
-    }
-}
-
-fn is_sourced(name: &str) -> bool
-    ensures { result ≡ is_among sourced_names name.now }
-{
-    match name {
-        "note" | "addendum" | "annotation" | "annote" | "abstract" | "type" => true,
-        "library" | "langid" | "hyphenation" | "language" | "langidopts" => true,
-        _ => false,
-    }
+    false
 }
 
 fn is_always_placed(name: &str) -> bool
     ensures { result ≡ is_always_placed name.now }
 {
-    is_titled(name)
-        || is_named(name)
-        || is_published(name)
-        || is_dated(name)
-        || is_numbered(name)
-        || is_linked(name)
-        || is_sourced(name)
+    is_among(PLACED, name)
 }
 
 // ---- fields that have a place where another field, or the type, gives them one

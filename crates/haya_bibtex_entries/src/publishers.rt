@@ -5,7 +5,7 @@ ghost use Rattle.haya_text.specs.Chunks.{chunks};
 ghost use Rattle.haya_text.specs.Texts.{text_view, without_short};
 ghost use Rattle.haya_values.specs.Publisher.{publisher_view};
 ghost use Rattle.haya_bibtex_inherited.specs.Views.{fields_view};
-ghost use Rattle.haya_bibtex_entries.specs.Drafts.{row_view, so_far, with_rows};
+ghost use Rattle.haya_bibtex_entries.specs.Drafts.{so_far, with_any_row, with_row, with_rows};
 ghost use Rattle.haya_bibtex_entries.specs.Publishers.{address_unless, conference_venue_row};
 ghost use Rattle.haya_bibtex_entries.specs.Publishers.{host_location_row};
 ghost use Rattle.haya_bibtex_entries.specs.Publishers.{kind_publisher_row, name_by};
@@ -18,12 +18,12 @@ ghost use Rattle.haya_bibtex_entries.specs.Publishers.{publisher_row, publisher_
 ghost use Rattle.haya_bibtex_entries.specs.Publishers.{publisher_text};
 ghost use Rattle.haya_bibtex_entries.specs.Values.{publisher_value, value_view};
 
-use crate::draft::{Draft, Level, Row};
+use crate::draft::{Draft, Level};
 use crate::kinds::{Host, Kind, PublisherRule};
-use crate::rows::{commands, read_formatted_if, text_row, without_short};
+use crate::rows::{add_text, push_names, without_short};
 use crate::texts::{has_field, text_of};
 use crate::values::{TextField, Value};
-use haya_bibtex_fields::{Reading, read_address};
+use haya_bibtex_fields::{Reading, formatted_if_any, read_address};
 use haya_bibtex_inherited::FieldRef;
 use haya_text::{ChunkedString, FormatString, OutOfMemory};
 use haya_values::Publisher;
@@ -198,83 +198,112 @@ fn publisher_value(publisher: Option<Publisher>) -> Option<Value>
     }
 }
 
-fn publisher_row(
+fn add_publisher(
     alloc: Global,
+    draft: &mut Draft,
+    key: &str,
     level: Level,
     name: Option<&str>,
     place: Option<&str>,
-) -> Result<Row, OutOfMemory>
-    ensures { IfOk result (λ r. row_view r
-        ≡ publisher_row level (option_map (λ s. s.now) name.entry)
-        (option_map (λ s. s.now) place.entry)) }
+) -> Result<(), OutOfMemory>
+    ensures { OnOk result (so_far draft.new
+        ≡ with_row key.now (publisher_row level (option_map (λ s. s.now) name.entry)
+        (option_map (λ s. s.now) place.entry)) (so_far draft.old)) }
 {
     let Reading {
         value: name,
         mut unknown,
-    } = read_formatted_if(alloc, name)?;
+    } = formatted_if_any(alloc, name)?;
     let Reading {
         value: place,
-        unknown: mut more,
-    } = read_formatted_if(alloc, place)?;
-    unknown.append(&mut more)?;
-    let passed_over = commands(alloc, unknown)?;
-    Ok(Row {
-        level,
-        value: publisher_value(publisher_of(name, place)),
-        passed_over,
-    })
+        unknown: more,
+    } = formatted_if_any(alloc, place)?;
+    push_names(&mut unknown, more)?;
+    let value = publisher_value(publisher_of(name, place));
+    draft.add_read(alloc, key, level, value, unknown)
 }
 
-fn kind_publisher_row(
+fn add_kind_publisher(
     alloc: Global,
+    draft: &mut Draft,
+    key: &str,
     kind: Kind,
     fields: &[FieldRef<'_>],
-) -> Result<Row, OutOfMemory>
-    ensures { IfOk result (λ r. row_view r ≡ kind_publisher_row kind (fields_view fields.now)) }
+) -> Result<(), OutOfMemory>
+    ensures { OnOk result (so_far draft.new
+        ≡ with_row key.now (kind_publisher_row kind (fields_view fields.now))
+        (so_far draft.old)) }
 {
     let name = name_by(alloc, kind.publisher, fields)?;
     let place = publisher_place(kind.publisher, kind.locates_host(), fields);
-    publisher_row(alloc, kind.publisher_level(), name, place)
+    add_publisher(alloc, draft, key, kind.publisher_level(), name, place)
 }
 
-fn host_location_row(
+fn add_host_location(
     alloc: Global,
+    draft: &mut Draft,
+    key: &str,
     host: Option<Host>,
     fields: &[FieldRef<'_>],
-) -> Result<Option<Row>, OutOfMemory>
-    ensures { IfOk result (λ r. option_map row_view r
-        ≡ host_location_row host (fields_view fields.now)) }
+) -> Result<(), OutOfMemory>
+    ensures { OnOk result (so_far draft.new
+        ≡ with_any_row key.now (host_location_row host (fields_view fields.now))
+        (so_far draft.old)) }
 {
     match host {
         Some(host) if host.takes.location() => {
             let level = Level::Host(host.entry);
-            text_row(alloc, level, TextField::Location, place_text(fields))
+            add_text(
+                alloc,
+                draft,
+                key,
+                level,
+                TextField::Location,
+                place_text(fields),
+            )
         }
-        _ => Ok(None),
+        _ => Ok(()),
     }
 }
 
-fn conference_venue_row(
+fn add_conference_venue(
     alloc: Global,
+    draft: &mut Draft,
+    key: &str,
     is_given: bool,
     fields: &[FieldRef<'_>],
-) -> Result<Option<Row>, OutOfMemory>
-    ensures { IfOk result (λ r. option_map row_view r
-        ≡ conference_venue_row is_given (fields_view fields.now)) }
+) -> Result<(), OutOfMemory>
+    ensures { OnOk result (so_far draft.new
+        ≡ with_any_row key.now (conference_venue_row is_given (fields_view fields.now))
+        (so_far draft.old)) }
 {
     if !is_given {
-        return Ok(None);
+        return Ok(());
     }
     let venue = text_of(fields, "venue");
-    text_row(alloc, Level::Conference, TextField::Location, venue)
+    add_text(
+        alloc,
+        draft,
+        key,
+        Level::Conference,
+        TextField::Location,
+        venue,
+    )
 }
 
-fn original_publisher_row(alloc: Global, fields: &[FieldRef<'_>]) -> Result<Row, OutOfMemory>
-    ensures { IfOk result (λ r. row_view r ≡ original_publisher_row (fields_view fields.now)) }
+fn add_original_publisher(
+    alloc: Global,
+    draft: &mut Draft,
+    key: &str,
+    fields: &[FieldRef<'_>],
+) -> Result<(), OutOfMemory>
+    ensures { OnOk result (so_far draft.new
+        ≡ with_row key.now (original_publisher_row (fields_view fields.now))
+        (so_far draft.old)) }
 {
     let name = text_of(fields, "origpublisher");
     let place = text_of(fields, "origlocation");
-    publisher_row(alloc, Level::Original, name, place)
+    add_publisher(alloc, draft, key, Level::Original, name, place)
 }
 
 /// Puts publishers, organizations and places where they go. The error: there was no memory.
@@ -288,22 +317,19 @@ pub(crate) fn add_publishers(
     ensures { OnOk result (so_far draft.new
         ≡ with_rows key.now (publisher_rows kind (fields_view fields.now)) (so_far draft.old)) }
 {
-    draft.add(alloc, key, Some(kind_publisher_row(alloc, kind, fields)?))?;
-    draft.add(alloc, key, host_location_row(alloc, kind.host, fields)?)?;
+    add_kind_publisher(alloc, draft, key, kind, fields)?;
+    add_host_location(alloc, draft, key, kind.host, fields)?;
     let location = own_location(kind, fields);
-    draft.add(
-        alloc,
-        key,
-        text_row(alloc, Level::Own, TextField::Location, location)?,
-    )?;
+    add_text(alloc, draft, key, Level::Own, TextField::Location, location)?;
     let organization = organization_by(alloc, kind.publisher, fields)?;
-    let row = text_row(alloc, Level::Own, TextField::Organization, organization)?;
-    draft.add(alloc, key, row)?;
-    draft.add(
+    add_text(
         alloc,
+        draft,
         key,
-        conference_venue_row(alloc, kind.is_given, fields)?,
+        Level::Own,
+        TextField::Organization,
+        organization,
     )?;
-    draft.add(alloc, key, Some(original_publisher_row(alloc, fields)?))?;
-    Ok(())
+    add_conference_venue(alloc, draft, key, kind.is_given, fields)?;
+    add_original_publisher(alloc, draft, key, fields)
 }

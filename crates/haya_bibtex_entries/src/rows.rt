@@ -1,15 +1,14 @@
 //! Rows of the tables of fields: what a text says, and to which entry it goes.
-ghost use Rattle.std.specs.Prelude.{◌≡◌, ◌∷◌, IfOk, map, option_and_then, option_map, string_bytes};
+ghost use Rattle.std.specs.Prelude.{◌≡◌, ◌++◌, ◌∷◌, IfOk, OnOk, map, option_map, string_bytes};
 ghost use Rattle.haya_text.specs.Chunks.{chunks};
 ghost use Rattle.haya_text.specs.Texts.{text_view, without_short};
-ghost use Rattle.haya_bibtex_fields.specs.FieldTexts.{formatted_in, title_in, unknown_of};
-ghost use Rattle.haya_bibtex_entries.specs.Drafts.{row_view};
+ghost use Rattle.haya_bibtex_entries.specs.Drafts.{so_far, with_any_row};
 ghost use Rattle.haya_bibtex_entries.specs.Rows.{commands, text_row};
 ghost use Rattle.haya_bibtex_entries.specs.Values.{text_value, value_view};
 
-use crate::draft::{Level, Row};
+use crate::draft::{Draft, Level};
 use crate::values::{TextField, Value};
-use haya_bibtex_fields::{Reading, read_formatted, read_title};
+use haya_bibtex_fields::{Reading, read_formatted};
 use haya_text::{ChunkedString, FormatString, OutOfMemory};
 use std::alloc::Global;
 
@@ -43,6 +42,15 @@ fn command_names(alloc: Global, unknown: &[String]) -> Result<Vec<String>, OutOf
     Ok(names)
 }
 
+/// Puts names behind others. The error: there was no memory for them.
+pub(crate) fn push_names(names: &mut Vec<String>, mut more: Vec<String>) -> Result<(), OutOfMemory>
+    ensures { OnOk result (map string_bytes names.new.items
+        ≡ map string_bytes names.old.items ++ map string_bytes more.items) }
+{
+    names.append(&mut more)?;
+    Ok(())
+}
+
 /// A text without a short form.
 pub(crate) fn without_short(value: ChunkedString) -> FormatString
     ensures { text_view result ≡ without_short (chunks value) }
@@ -61,73 +69,23 @@ pub(crate) fn text_value(field: TextField, value: Option<ChunkedString>) -> Opti
     }
 }
 
-/// What a text says as a title, if it is there. The error: there was no memory for it.
-pub(crate) fn read_title_if(
+/// Puts a text without a short form, if it is there, where it goes. The error: there was no memory
+/// for it.
+pub(crate) fn add_text(
     alloc: Global,
-    text: Option<&str>,
-) -> Result<Reading<ChunkedString>, OutOfMemory>
-    ensures value { IfOk result (λ r. option_map chunks r.value
-        ≡ option_and_then title_in (option_map (λ t. t.now) text.entry)) }
-    ensures unknown { IfOk result (λ r. map string_bytes r.unknown.items
-        ≡ unknown_of (option_map (λ t. t.now) text.entry)) }
-{
-    match text {
-        Some(text) => read_title(alloc, text),
-        None => Ok(Reading {
-            value: None,
-            unknown: Vec::new(alloc),
-        }),
-    }
-}
-
-/// What a text says, if it is there. The error: there was no memory for it.
-pub(crate) fn read_formatted_if(
-    alloc: Global,
-    text: Option<&str>,
-) -> Result<Reading<ChunkedString>, OutOfMemory>
-    ensures value { IfOk result (λ r. option_map chunks r.value
-        ≡ option_and_then formatted_in (option_map (λ t. t.now) text.entry)) }
-    ensures unknown { IfOk result (λ r. map string_bytes r.unknown.items
-        ≡ unknown_of (option_map (λ t. t.now) text.entry)) }
-{
-    match text {
-        Some(text) => read_formatted(alloc, text),
-        None => Ok(Reading {
-            value: None,
-            unknown: Vec::new(alloc),
-        }),
-    }
-}
-
-// The row of a text without a short form.
-fn row_of_text(
-    alloc: Global,
+    draft: &mut Draft,
+    key: &str,
     level: Level,
     field: TextField,
-    text: &str,
-) -> Result<Row, OutOfMemory>
-    ensures { IfOk result (λ r. row_view r ≡ text_row level field text.now) }
+    text: Option<&str>,
+) -> Result<(), OutOfMemory>
+    ensures { OnOk result (so_far draft.new
+        ≡ with_any_row key.now (option_map (text_row level field)
+        (option_map (λ t. t.now) text.entry)) (so_far draft.old)) }
 {
+    let Some(text) = text else {
+        return Ok(());
+    };
     let Reading { value, unknown } = read_formatted(alloc, text)?;
-    Ok(Row {
-        level,
-        value: text_value(field, value),
-        passed_over: commands(alloc, unknown)?,
-    })
-}
-
-/// The row of a text without a short form, if it is there. The error: there was no memory for it.
-pub(crate) fn text_row(
-    alloc: Global,
-    level: Level,
-    field: TextField,
-    text: Option<&str>,
-) -> Result<Option<Row>, OutOfMemory>
-    ensures { IfOk result (λ r. option_map row_view r
-        ≡ option_map (text_row level field) (option_map (λ t. t.now) text.entry)) }
-{
-    match text {
-        Some(text) => Ok(Some(row_of_text(alloc, level, field, text)?)),
-        None => Ok(None),
-    }
+    draft.add_read(alloc, key, level, text_value(field, value), unknown)
 }

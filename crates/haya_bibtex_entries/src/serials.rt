@@ -3,7 +3,7 @@ ghost use Rattle.std.specs.Prelude.{◌≡◌, ◌++◌, IfOk, OnOk, option_and_
 ghost use Rattle.std.specs.Prelude.{map, string_bytes};
 ghost use Rattle.haya_bibtex_fields.specs.Serials.{eprint_view, serial_in, serial_view};
 ghost use Rattle.haya_bibtex_inherited.specs.Views.{fields_view};
-ghost use Rattle.haya_bibtex_entries.specs.Drafts.{row_view, so_far, with_rows};
+ghost use Rattle.haya_bibtex_entries.specs.Drafts.{so_far, with_any_row, with_row, with_rows};
 ghost use Rattle.haya_bibtex_entries.specs.Rows.{commands};
 ghost use Rattle.haya_bibtex_entries.specs.Serials.{archive_passed, archive_passed_by, archive_text};
 ghost use Rattle.haya_bibtex_entries.specs.Serials.{doi_row, eid_text, eprint_by};
@@ -14,7 +14,7 @@ ghost use Rattle.haya_bibtex_entries.specs.Serials.{archive_rows, plain_rows, pl
 ghost use Rattle.haya_bibtex_entries.specs.Serials.{serial_text};
 ghost use Rattle.haya_bibtex_entries.specs.Values.{serial_value, value_view};
 
-use crate::draft::{Draft, Level, Row};
+use crate::draft::{Draft, Level};
 use crate::kinds::{Kind, NumberRule};
 use crate::numbers::number_text;
 use crate::publishers::published_at;
@@ -37,50 +37,40 @@ fn serial_value(field: SerialField, number: Option<String>) -> Option<Value>
     }
 }
 
-fn row_of_plain(
+fn add_plain_serial(
     alloc: Global,
-    level: Level,
-    field: SerialField,
-    text: &str,
-) -> Result<Row, OutOfMemory>
-    ensures { IfOk result (λ r. row_view r ≡ plain_serial_row level field text.now) }
-{
-    let Reading { value, unknown } = read_plain(alloc, text)?;
-    Ok(Row {
-        level,
-        value: serial_value(field, value),
-        passed_over: commands(alloc, unknown)?,
-    })
-}
-
-fn plain_serial_row(
-    alloc: Global,
+    draft: &mut Draft,
+    key: &str,
     level: Level,
     field: SerialField,
     text: Option<&str>,
-) -> Result<Option<Row>, OutOfMemory>
-    ensures { IfOk result (λ r. option_map row_view r
-        ≡ option_map (plain_serial_row level field) (option_map (λ s. s.now) text.entry)) }
-{
-    match text {
-        Some(text) => Ok(Some(row_of_plain(alloc, level, field, text)?)),
-        None => Ok(None),
-    }
-}
-
-fn doi_row(alloc: Global, text: Option<&str>) -> Result<Option<Row>, OutOfMemory>
-    ensures { IfOk result (λ r. option_map row_view r
-        ≡ option_map doi_row (option_map (λ s. s.now) text.entry)) }
+) -> Result<(), OutOfMemory>
+    ensures { OnOk result (so_far draft.new
+        ≡ with_any_row key.now (option_map (plain_serial_row level field)
+        (option_map (λ s. s.now) text.entry)) (so_far draft.old)) }
 {
     let Some(text) = text else {
-        return Ok(None);
+        return Ok(());
     };
-    let number = read_doi(alloc, text)?;
-    Ok(Some(Row {
-        level: Level::Own,
-        value: serial_value(SerialField::Doi, number),
-        passed_over: Vec::new(alloc),
-    }))
+    let Reading { value, unknown } = read_plain(alloc, text)?;
+    draft.add_read(alloc, key, level, serial_value(field, value), unknown)
+}
+
+fn add_doi(
+    alloc: Global,
+    draft: &mut Draft,
+    key: &str,
+    text: Option<&str>,
+) -> Result<(), OutOfMemory>
+    ensures { OnOk result (so_far draft.new
+        ≡ with_any_row key.now (option_map doi_row (option_map (λ s. s.now) text.entry))
+        (so_far draft.old)) }
+{
+    let Some(text) = text else {
+        return Ok(());
+    };
+    let number = serial_value(SerialField::Doi, read_doi(alloc, text)?);
+    draft.add(alloc, key, Level::Own, number, Vec::new(alloc))
 }
 
 // ---- `number` as a serial number, and `eid` where that sets none
@@ -105,25 +95,21 @@ fn numbered(number: Option<Serial>) -> Option<Value>
     }
 }
 
-fn row_of_serial(alloc: Global, text: &str) -> Result<Row, OutOfMemory>
-    ensures { IfOk result (λ r. row_view r ≡ serial_row text.now) }
+fn add_serial(
+    alloc: Global,
+    draft: &mut Draft,
+    key: &str,
+    text: Option<&str>,
+) -> Result<(), OutOfMemory>
+    ensures { OnOk result (so_far draft.new
+        ≡ with_any_row key.now (option_map serial_row (option_map (λ s. s.now) text.entry))
+        (so_far draft.old)) }
 {
+    let Some(text) = text else {
+        return Ok(());
+    };
     let Reading { value, unknown } = read_serial(alloc, text)?;
-    Ok(Row {
-        level: Level::Own,
-        value: numbered(value),
-        passed_over: commands(alloc, unknown)?,
-    })
-}
-
-fn serial_row(alloc: Global, text: Option<&str>) -> Result<Option<Row>, OutOfMemory>
-    ensures { IfOk result (λ r. option_map row_view r
-        ≡ option_map serial_row (option_map (λ s. s.now) text.entry)) }
-{
-    match text {
-        Some(text) => Ok(Some(row_of_serial(alloc, text)?)),
-        None => Ok(None),
-    }
+    draft.add_read(alloc, key, Level::Own, numbered(value), unknown)
 }
 
 // Whether a text is a serial number that isn't one of arXiv.
@@ -252,18 +238,20 @@ fn eprint_value(eprint: Option<Eprint>) -> Option<Value>
     }
 }
 
-fn eprint_row(alloc: Global, fields: &[FieldRef<'_>]) -> Result<Row, OutOfMemory>
-    ensures { IfOk result (λ r. row_view r ≡ eprint_row (fields_view fields.now)) }
+fn add_eprint(
+    alloc: Global,
+    draft: &mut Draft,
+    key: &str,
+    fields: &[FieldRef<'_>],
+) -> Result<(), OutOfMemory>
+    ensures { OnOk result (so_far draft.new
+        ≡ with_row key.now (eprint_row (fields_view fields.now)) (so_far draft.old)) }
 {
     let Reading { value, unknown } = read_archive(alloc, fields)?;
     let mut passed_over = commands(alloc, unknown)?;
     let has = has_address(alloc, fields)?;
     push_passed(alloc, &mut passed_over, has, &value)?;
-    Ok(Row {
-        level: Level::Own,
-        value: eprint_value(value),
-        passed_over,
-    })
+    draft.add(alloc, key, Level::Own, eprint_value(value), passed_over)
 }
 
 // The number in another archive as a value.
@@ -281,15 +269,18 @@ fn kept_number(alloc: Global, eprint: Option<Eprint>) -> Result<Option<Value>, O
     }
 }
 
-fn kept_row(alloc: Global, fields: &[FieldRef<'_>]) -> Result<Row, OutOfMemory>
-    ensures { IfOk result (λ r. row_view r ≡ kept_row (fields_view fields.now)) }
+fn add_kept(
+    alloc: Global,
+    draft: &mut Draft,
+    key: &str,
+    fields: &[FieldRef<'_>],
+) -> Result<(), OutOfMemory>
+    ensures { OnOk result (so_far draft.new
+        ≡ with_row key.now (kept_row (fields_view fields.now)) (so_far draft.old)) }
 {
     let eprint = eprint_of(alloc, fields)?;
-    Ok(Row {
-        level: Level::Own,
-        value: kept_number(alloc, eprint)?,
-        passed_over: Vec::new(alloc),
-    })
+    let number = kept_number(alloc, eprint)?;
+    draft.add(alloc, key, Level::Own, number, Vec::new(alloc))
 }
 
 // Puts the numbers of `number`, `eid` and `eprint` where they go.
@@ -303,14 +294,11 @@ fn add_archive(
     ensures { OnOk result (so_far draft.new
         ≡ with_rows key.now (archive_rows kind (fields_view fields.now)) (so_far draft.old)) }
 {
-    let row = serial_row(alloc, serial_text(kind.number, fields))?;
-    draft.add(alloc, key, row)?;
+    add_serial(alloc, draft, key, serial_text(kind.number, fields))?;
     let text = eid_text(alloc, kind.number, fields)?;
-    let row = plain_serial_row(alloc, Level::Own, SerialField::Other, text)?;
-    draft.add(alloc, key, row)?;
-    draft.add(alloc, key, Some(eprint_row(alloc, fields)?))?;
-    draft.add(alloc, key, Some(kept_row(alloc, fields)?))?;
-    Ok(())
+    add_plain_serial(alloc, draft, key, Level::Own, SerialField::Other, text)?;
+    add_eprint(alloc, draft, key, fields)?;
+    add_kept(alloc, draft, key, fields)
 }
 
 // Puts the other serial numbers where they go.
@@ -324,20 +312,29 @@ fn add_plain(
     ensures { OnOk result (so_far draft.new
         ≡ with_rows key.now (plain_rows kind (fields_view fields.now)) (so_far draft.old)) }
 {
-    draft.add(alloc, key, doi_row(alloc, text_of(fields, "doi"))?)?;
+    add_doi(alloc, draft, key, text_of(fields, "doi"))?;
     let text = text_of(fields, "isbn");
-    let row = plain_serial_row(alloc, kind.isbn_level(), SerialField::Isbn, text)?;
-    draft.add(alloc, key, row)?;
+    add_plain_serial(
+        alloc,
+        draft,
+        key,
+        kind.isbn_level(),
+        SerialField::Isbn,
+        text,
+    )?;
     let text = text_of(fields, "issn");
-    let row = plain_serial_row(alloc, kind.issn_level(), SerialField::Issn, text)?;
-    draft.add(alloc, key, row)?;
+    add_plain_serial(
+        alloc,
+        draft,
+        key,
+        kind.issn_level(),
+        SerialField::Issn,
+        text,
+    )?;
     let text = text_of(fields, "pmid");
-    let row = plain_serial_row(alloc, Level::Own, SerialField::Pmid, text)?;
-    draft.add(alloc, key, row)?;
+    add_plain_serial(alloc, draft, key, Level::Own, SerialField::Pmid, text)?;
     let text = text_of(fields, "pmcid");
-    let row = plain_serial_row(alloc, Level::Own, SerialField::Pmcid, text)?;
-    draft.add(alloc, key, row)?;
-    Ok(())
+    add_plain_serial(alloc, draft, key, Level::Own, SerialField::Pmcid, text)
 }
 
 /// Puts serial numbers and archives where they go. The error: there was no memory for them.
@@ -353,6 +350,5 @@ pub(crate) fn add_serials(
         (with_rows key.now (archive_rows kind (fields_view fields.now)) (so_far draft.old))) }
 {
     add_archive(alloc, draft, key, kind, fields)?;
-    add_plain(alloc, draft, key, kind, fields)?;
-    Ok(())
+    add_plain(alloc, draft, key, kind, fields)
 }

@@ -4,15 +4,15 @@ ghost use Rattle.std.specs.Prelude.{is_some, option_and_then};
 ghost use Rattle.haya_bibtex_fields.specs.FieldTexts.{unknown_of};
 ghost use Rattle.haya_bibtex_fields.specs.Languages.{language_in, variant_in};
 ghost use Rattle.haya_bibtex_inherited.specs.Views.{fields_view};
-ghost use Rattle.haya_bibtex_entries.specs.Drafts.{row_view, so_far, with_rows};
+ghost use Rattle.haya_bibtex_entries.specs.Drafts.{so_far, with_any_row, with_row, with_rows};
 ghost use Rattle.haya_bibtex_entries.specs.Sources.{annotation_text, genre_row, genre_text};
 ghost use Rattle.haya_bibtex_entries.specs.Sources.{implied_genre, joined_note_row, language_row};
 ghost use Rattle.haya_bibtex_entries.specs.Sources.{language_by, language_text, note_row};
 ghost use Rattle.haya_bibtex_entries.specs.Sources.{options_passed, source_rows};
 ghost use Rattle.haya_bibtex_entries.specs.Values.{language_value, value_view};
 
-use crate::draft::{Draft, Level, Row};
-use crate::rows::{commands, text_row, text_value};
+use crate::draft::{Draft, Level};
+use crate::rows::{add_text, commands, push_names, text_value};
 use crate::texts::text_of;
 use crate::values::{TextField, Value};
 use haya_bibtex_fields::{Reading, read_genre, read_language, read_note, read_variant};
@@ -26,30 +26,38 @@ fn annotation_text<'a>(fields: &[FieldRef<'a>]) -> Option<&'a str>
     text_of(fields, "annotation").or(text_of(fields, "annote"))
 }
 
-// The row of a note with its addendum.
-fn joined_note_row(
+// Puts a note with its addendum.
+fn add_joined_note(
     alloc: Global,
+    draft: &mut Draft,
+    key: &str,
     note: Option<&str>,
     addendum: Option<&str>,
-) -> Result<Row, OutOfMemory>
-    ensures { IfOk result (λ r. row_view r
-        ≡ joined_note_row (option_map (λ s. s.now) note.entry)
-        (option_map (λ s. s.now) addendum.entry)) }
+) -> Result<(), OutOfMemory>
+    ensures { OnOk result (so_far draft.new
+        ≡ with_row key.now (joined_note_row (option_map (λ s. s.now) note.entry)
+        (option_map (λ s. s.now) addendum.entry)) (so_far draft.old)) }
 {
     let Reading { value, unknown } = read_note(alloc, note, addendum)?;
-    Ok(Row {
-        level: Level::Own,
-        value: text_value(TextField::Note, value),
-        passed_over: commands(alloc, unknown)?,
-    })
+    let value = text_value(TextField::Note, value);
+    draft.add_read(alloc, key, Level::Own, value, unknown)
 }
 
-fn note_row(alloc: Global, fields: &[FieldRef<'_>]) -> Result<Option<Row>, OutOfMemory>
-    ensures { IfOk result (λ r. option_map row_view r ≡ note_row (fields_view fields.now)) }
+fn add_note(
+    alloc: Global,
+    draft: &mut Draft,
+    key: &str,
+    fields: &[FieldRef<'_>],
+) -> Result<(), OutOfMemory>
+    ensures { OnOk result (so_far draft.new
+        ≡ with_any_row key.now (note_row (fields_view fields.now)) (so_far draft.old)) }
 {
     match (text_of(fields, "note"), text_of(fields, "addendum")) {
-        (None, None) => text_row(alloc, Level::Own, TextField::Note, annotation_text(fields)),
-        (note, addendum) => Ok(Some(joined_note_row(alloc, note, addendum)?)),
+        (None, None) => {
+            let text = annotation_text(fields);
+            add_text(alloc, draft, key, Level::Own, TextField::Note, text)
+        }
+        (note, addendum) => add_joined_note(alloc, draft, key, note, addendum),
     }
 }
 
@@ -69,25 +77,22 @@ fn genre_text<'a>(kind: &'a str, fields: &[FieldRef<'a>]) -> Option<&'a str>
     text_of(fields, "type").or(implied_genre(kind))
 }
 
-fn row_of_genre(alloc: Global, text: &str) -> Result<Row, OutOfMemory>
-    ensures { IfOk result (λ r. row_view r ≡ genre_row text.now) }
+fn add_genre(
+    alloc: Global,
+    draft: &mut Draft,
+    key: &str,
+    text: Option<&str>,
+) -> Result<(), OutOfMemory>
+    ensures { OnOk result (so_far draft.new
+        ≡ with_any_row key.now (option_map genre_row (option_map (λ s. s.now) text.entry))
+        (so_far draft.old)) }
 {
+    let Some(text) = text else {
+        return Ok(());
+    };
     let Reading { value, unknown } = read_genre(alloc, text)?;
-    Ok(Row {
-        level: Level::Own,
-        value: text_value(TextField::Genre, value),
-        passed_over: commands(alloc, unknown)?,
-    })
-}
-
-fn genre_row(alloc: Global, text: Option<&str>) -> Result<Option<Row>, OutOfMemory>
-    ensures { IfOk result (λ r. option_map row_view r
-        ≡ option_map genre_row (option_map (λ s. s.now) text.entry)) }
-{
-    match text {
-        Some(text) => Ok(Some(row_of_genre(alloc, text)?)),
-        None => Ok(None),
-    }
+    let value = text_value(TextField::Genre, value);
+    draft.add_read(alloc, key, Level::Own, value, unknown)
 }
 
 fn language_text<'a>(fields: &[FieldRef<'a>]) -> Option<&'a str>
@@ -157,10 +162,16 @@ fn push_options(
     Ok(())
 }
 
-fn language_by(alloc: Global, text: Option<&str>, options: Option<&str>) -> Result<Row, OutOfMemory>
-    ensures { IfOk result (λ r. row_view r
-        ≡ language_by (option_map (λ s. s.now) text.entry)
-        (option_map (λ s. s.now) options.entry)) }
+fn add_language_by(
+    alloc: Global,
+    draft: &mut Draft,
+    key: &str,
+    text: Option<&str>,
+    options: Option<&str>,
+) -> Result<(), OutOfMemory>
+    ensures { OnOk result (so_far draft.new
+        ≡ with_row key.now (language_by (option_map (λ s. s.now) text.entry)
+        (option_map (λ s. s.now) options.entry)) (so_far draft.old)) }
 {
     let Reading {
         value: language,
@@ -168,22 +179,26 @@ fn language_by(alloc: Global, text: Option<&str>, options: Option<&str>) -> Resu
     } = read_language_if(alloc, text)?;
     let Reading {
         value: variant,
-        unknown: mut more,
+        unknown: more,
     } = read_variant_if(alloc, options)?;
-    unknown.append(&mut more)?;
+    push_names(&mut unknown, more)?;
     let mut passed_over = commands(alloc, unknown)?;
     push_options(alloc, &mut passed_over, options, variant.is_some())?;
-    Ok(Row {
-        level: Level::Own,
-        value: language_value(variant.or(language)),
-        passed_over,
-    })
+    let value = language_value(variant.or(language));
+    draft.add(alloc, key, Level::Own, value, passed_over)
 }
 
-fn language_row(alloc: Global, fields: &[FieldRef<'_>]) -> Result<Row, OutOfMemory>
-    ensures { IfOk result (λ r. row_view r ≡ language_row (fields_view fields.now)) }
+fn add_language(
+    alloc: Global,
+    draft: &mut Draft,
+    key: &str,
+    fields: &[FieldRef<'_>],
+) -> Result<(), OutOfMemory>
+    ensures { OnOk result (so_far draft.new
+        ≡ with_row key.now (language_row (fields_view fields.now)) (so_far draft.old)) }
 {
-    language_by(alloc, language_text(fields), text_of(fields, "langidopts"))
+    let text = language_text(fields);
+    add_language_by(alloc, draft, key, text, text_of(fields, "langidopts"))
 }
 
 /// Puts notes, genres, call numbers and languages where they go, of an entry of this type. The
@@ -198,20 +213,11 @@ pub(crate) fn add_sources(
     ensures { OnOk result (so_far draft.new
         ≡ with_rows key.now (source_rows kind.now (fields_view fields.now)) (so_far draft.old)) }
 {
-    draft.add(alloc, key, note_row(alloc, fields)?)?;
+    add_note(alloc, draft, key, fields)?;
     let text = text_of(fields, "abstract");
-    draft.add(
-        alloc,
-        key,
-        text_row(alloc, Level::Own, TextField::Abstract, text)?,
-    )?;
-    draft.add(alloc, key, genre_row(alloc, genre_text(kind, fields))?)?;
+    add_text(alloc, draft, key, Level::Own, TextField::Abstract, text)?;
+    add_genre(alloc, draft, key, genre_text(kind, fields))?;
     let text = text_of(fields, "library");
-    draft.add(
-        alloc,
-        key,
-        text_row(alloc, Level::Own, TextField::CallNumber, text)?,
-    )?;
-    draft.add(alloc, key, Some(language_row(alloc, fields)?))?;
-    Ok(())
+    add_text(alloc, draft, key, Level::Own, TextField::CallNumber, text)?;
+    add_language(alloc, draft, key, fields)
 }

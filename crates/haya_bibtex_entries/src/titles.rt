@@ -6,9 +6,8 @@ ghost use Rattle.haya_text.specs.Texts.{text_view};
 ghost use Rattle.haya_bibtex_fields.specs.FieldTexts.{unknown_of};
 ghost use Rattle.haya_bibtex_fields.specs.Genres.{series_in};
 ghost use Rattle.haya_bibtex_fields.specs.Titles.{title_bytes};
-ghost use Rattle.haya_bibtex_entries.specs.Rows.{commands, row};
 ghost use Rattle.haya_bibtex_inherited.specs.Views.{fields_view};
-ghost use Rattle.haya_bibtex_entries.specs.Drafts.{row_view, so_far, with_rows};
+ghost use Rattle.haya_bibtex_entries.specs.Drafts.{so_far, with_any_row, with_row, with_rows};
 ghost use Rattle.haya_bibtex_entries.specs.Titles.{book_texts, conference_title_row, event_texts};
 ghost use Rattle.haya_bibtex_entries.specs.Titles.{host_title_row, journal_texts, main_texts};
 ghost use Rattle.haya_bibtex_entries.specs.Titles.{main_title_row, original_texts};
@@ -19,13 +18,13 @@ ghost use Rattle.haya_bibtex_entries.specs.Titles.{whole_title_row};
 ghost use Rattle.haya_bibtex_entries.specs.Values.{title_value, value_view};
 
 use crate::containers::{Container, container_of};
-use crate::draft::{Draft, Level, Row};
+use crate::draft::{Draft, Level};
 use crate::kinds::{Host, Kind};
-use crate::rows::{commands, read_title_if};
+use crate::rows::push_names;
 use crate::texts::text_of;
 use crate::values::Value;
 use haya_bibtex_fields::{
-    Reading, TitleTexts, read_series, read_short_title, read_whole_title, with_short,
+    Reading, TitleTexts, read_series, read_short_title, read_whole_title, title_if_any, with_short,
 };
 use haya_bibtex_inherited::FieldRef;
 use haya_text::{ChunkedString, FormatString, OutOfMemory};
@@ -108,92 +107,96 @@ fn title_value(title: Option<FormatString>) -> Option<Value>
     }
 }
 
-// The row of a title and its short form, with the commands that aren't known.
-fn row_of_title(
+// Puts texts joined as a title, with the short form that is written.
+fn add_title(
     alloc: Global,
-    level: Level,
-    title: Option<FormatString>,
-    unknown: Vec<String>,
-) -> Result<Row, OutOfMemory>
-    ensures { IfOk result (λ r. row_view r
-        ≡ row level (option_map (λ t. title_value t) (option_map text_view title))
-        (commands (map string_bytes unknown.items))) }
-{
-    Ok(Row {
-        level,
-        value: title_value(title),
-        passed_over: commands(alloc, unknown)?,
-    })
-}
-
-// The row of texts joined as a title, with the short form that is written.
-fn title_row(
-    alloc: Global,
+    draft: &mut Draft,
+    key: &str,
     level: Level,
     texts: TitleTexts<'_>,
     short: Option<&str>,
-) -> Result<Row, OutOfMemory>
-    ensures { IfOk result (λ r. row_view r ≡ title_row level (title_bytes texts.entry)
-        (option_map (λ t. t.now) short.entry)) }
+) -> Result<(), OutOfMemory>
+    ensures { OnOk result (so_far draft.new
+        ≡ with_row key.now (title_row level (title_bytes texts.entry)
+        (option_map (λ t. t.now) short.entry)) (so_far draft.old)) }
 {
     let Reading { value, unknown } = read_short_title(alloc, texts, short)?;
-    row_of_title(alloc, level, value, unknown)
+    draft.add_read(alloc, key, level, title_value(value), unknown)
 }
 
-// The row of a title that may be its own short form.
-fn whole_title_row(
+// Puts a title that may be its own short form.
+fn add_whole_title(
     alloc: Global,
+    draft: &mut Draft,
+    key: &str,
     texts: TitleTexts<'_>,
     short: Option<&str>,
-) -> Result<Row, OutOfMemory>
-    ensures { IfOk result (λ r. row_view r ≡ whole_title_row (title_bytes texts.entry)
-        (option_map (λ t. t.now) short.entry)) }
+) -> Result<(), OutOfMemory>
+    ensures { OnOk result (so_far draft.new
+        ≡ with_row key.now (whole_title_row (title_bytes texts.entry)
+        (option_map (λ t. t.now) short.entry)) (so_far draft.old)) }
 {
     let Reading { value, unknown } = read_whole_title(alloc, texts, short)?;
-    row_of_title(alloc, Level::Own, value, unknown)
+    draft.add_read(alloc, key, Level::Own, title_value(value), unknown)
 }
 
-fn own_title_row(
+fn add_own_title(
     alloc: Global,
+    draft: &mut Draft,
+    key: &str,
     container: Container,
     fields: &[FieldRef<'_>],
-) -> Result<Row, OutOfMemory>
-    ensures { IfOk result (λ r. row_view r ≡ own_title_row container (fields_view fields.now)) }
+) -> Result<(), OutOfMemory>
+    ensures { OnOk result (so_far draft.new
+        ≡ with_row key.now (own_title_row container (fields_view fields.now))
+        (so_far draft.old)) }
 {
     let short = text_of(fields, "shorttitle");
     match container {
-        Container::Own => title_row(alloc, Level::Own, journal_texts(fields), short),
-        _ => whole_title_row(alloc, own_texts(fields), short),
+        Container::Own => {
+            let texts = journal_texts(fields);
+            add_title(alloc, draft, key, Level::Own, texts, short)
+        }
+        _ => add_whole_title(alloc, draft, key, own_texts(fields), short),
     }
 }
 
-fn host_title_row(
+fn add_host_title(
     alloc: Global,
+    draft: &mut Draft,
+    key: &str,
     host: Option<Host>,
     container: Container,
     fields: &[FieldRef<'_>],
-) -> Result<Option<Row>, OutOfMemory>
-    ensures { IfOk result (λ r. option_map row_view r
-        ≡ host_title_row host container (fields_view fields.now)) }
+) -> Result<(), OutOfMemory>
+    ensures { OnOk result (so_far draft.new
+        ≡ with_any_row key.now (host_title_row host container (fields_view fields.now))
+        (so_far draft.old)) }
 {
     let Some(host) = host else {
-        return Ok(None);
+        return Ok(());
     };
     let level = Level::Host(host.entry);
     match container {
         Container::Journal => {
             let short = text_of(fields, "shortjournal");
-            Ok(Some(title_row(alloc, level, journal_texts(fields), short)?))
+            add_title(alloc, draft, key, level, journal_texts(fields), short)
         }
-        Container::Book => Ok(Some(title_row(alloc, level, book_texts(fields), None)?)),
-        _ => Ok(None),
+        Container::Book => add_title(alloc, draft, key, level, book_texts(fields), None),
+        _ => Ok(()),
     }
 }
 
-fn main_title_row(alloc: Global, fields: &[FieldRef<'_>]) -> Result<Row, OutOfMemory>
-    ensures { IfOk result (λ r. row_view r ≡ main_title_row (fields_view fields.now)) }
+fn add_main_title(
+    alloc: Global,
+    draft: &mut Draft,
+    key: &str,
+    fields: &[FieldRef<'_>],
+) -> Result<(), OutOfMemory>
+    ensures { OnOk result (so_far draft.new
+        ≡ with_row key.now (main_title_row (fields_view fields.now)) (so_far draft.old)) }
 {
-    title_row(alloc, Level::Main, main_texts(fields), None)
+    add_title(alloc, draft, key, Level::Main, main_texts(fields), None)
 }
 
 // What the name of a series says, if it is there.
@@ -212,47 +215,83 @@ fn read_series_if(alloc: Global, text: Option<&str>) -> Result<Reading<ChunkedSt
     }
 }
 
-fn series_title_row(alloc: Global, fields: &[FieldRef<'_>]) -> Result<Row, OutOfMemory>
-    ensures { IfOk result (λ r. row_view r ≡ series_title_row (fields_view fields.now)) }
+fn add_series_title(
+    alloc: Global,
+    draft: &mut Draft,
+    key: &str,
+    fields: &[FieldRef<'_>],
+) -> Result<(), OutOfMemory>
+    ensures { OnOk result (so_far draft.new
+        ≡ with_row key.now (series_title_row (fields_view fields.now)) (so_far draft.old)) }
 {
     let series = text_of(fields, "series");
     let short = text_of(fields, "shortseries");
-    series_row(alloc, series, short)
+    add_series(alloc, draft, key, series, short)
 }
 
-// The row of a series and its short form.
-fn series_row(alloc: Global, series: Option<&str>, short: Option<&str>) -> Result<Row, OutOfMemory>
-    ensures { IfOk result (λ r. row_view r ≡ series_row (option_map (λ t. t.now) series.entry)
-        (option_map (λ t. t.now) short.entry)) }
+// Puts a series with its short form.
+fn add_series(
+    alloc: Global,
+    draft: &mut Draft,
+    key: &str,
+    series: Option<&str>,
+    short: Option<&str>,
+) -> Result<(), OutOfMemory>
+    ensures { OnOk result (so_far draft.new
+        ≡ with_row key.now (series_row (option_map (λ t. t.now) series.entry)
+        (option_map (λ t. t.now) short.entry)) (so_far draft.old)) }
 {
     let Reading { value, mut unknown } = read_series_if(alloc, series)?;
     let Reading {
         value: short,
-        unknown: mut more,
-    } = read_title_if(alloc, short)?;
-    unknown.append(&mut more)?;
+        unknown: more,
+    } = title_if_any(alloc, short)?;
+    push_names(&mut unknown, more)?;
     let title = with_short(alloc, value, short)?;
-    row_of_title(alloc, Level::Series, title, unknown)
+    draft.add_read(alloc, key, Level::Series, title_value(title), unknown)
 }
 
-fn conference_title_row(
+fn add_conference_title(
     alloc: Global,
+    draft: &mut Draft,
+    key: &str,
     is_given: bool,
     fields: &[FieldRef<'_>],
-) -> Result<Option<Row>, OutOfMemory>
-    ensures { IfOk result (λ r. option_map row_view r
-        ≡ conference_title_row is_given (fields_view fields.now)) }
+) -> Result<(), OutOfMemory>
+    ensures { OnOk result (so_far draft.new
+        ≡ with_any_row key.now (conference_title_row is_given (fields_view fields.now))
+        (so_far draft.old)) }
 {
     if !is_given {
-        return Ok(None);
+        return Ok(());
     }
-    Ok(Some(title_row(alloc, Level::Conference, event_texts(fields), None)?))
+    add_title(
+        alloc,
+        draft,
+        key,
+        Level::Conference,
+        event_texts(fields),
+        None,
+    )
 }
 
-fn original_title_row(alloc: Global, fields: &[FieldRef<'_>]) -> Result<Row, OutOfMemory>
-    ensures { IfOk result (λ r. row_view r ≡ original_title_row (fields_view fields.now)) }
+fn add_original_title(
+    alloc: Global,
+    draft: &mut Draft,
+    key: &str,
+    fields: &[FieldRef<'_>],
+) -> Result<(), OutOfMemory>
+    ensures { OnOk result (so_far draft.new
+        ≡ with_row key.now (original_title_row (fields_view fields.now)) (so_far draft.old)) }
 {
-    title_row(alloc, Level::Original, original_texts(fields), None)
+    add_title(
+        alloc,
+        draft,
+        key,
+        Level::Original,
+        original_texts(fields),
+        None,
+    )
 }
 
 // Puts the titles of the entry, its host and the work in several volumes where they go.
@@ -267,14 +306,9 @@ fn add_own_titles(
         ≡ with_rows key.now (title_rows kind (fields_view fields.now)) (so_far draft.old)) }
 {
     let container = container_of(kind, fields);
-    draft.add(alloc, key, Some(own_title_row(alloc, container, fields)?))?;
-    draft.add(
-        alloc,
-        key,
-        host_title_row(alloc, kind.host, container, fields)?,
-    )?;
-    draft.add(alloc, key, Some(main_title_row(alloc, fields)?))?;
-    Ok(())
+    add_own_title(alloc, draft, key, container, fields)?;
+    add_host_title(alloc, draft, key, kind.host, container, fields)?;
+    add_main_title(alloc, draft, key, fields)
 }
 
 /// Puts the titles where they go. The error: there was no memory for them.
@@ -290,8 +324,7 @@ pub(crate) fn add_titles(
         (with_rows key.now (title_rows kind (fields_view fields.now)) (so_far draft.old))) }
 {
     add_own_titles(alloc, draft, key, kind, fields)?;
-    add_other_titles(alloc, draft, key, kind, fields)?;
-    Ok(())
+    add_other_titles(alloc, draft, key, kind, fields)
 }
 
 // Puts the titles of the series, the conference and the original where they go.
@@ -305,12 +338,7 @@ fn add_other_titles(
     ensures { OnOk result (so_far draft.new
         ≡ with_rows key.now (other_title_rows kind (fields_view fields.now)) (so_far draft.old)) }
 {
-    draft.add(alloc, key, Some(series_title_row(alloc, fields)?))?;
-    draft.add(
-        alloc,
-        key,
-        conference_title_row(alloc, kind.is_given, fields)?,
-    )?;
-    draft.add(alloc, key, Some(original_title_row(alloc, fields)?))?;
-    Ok(())
+    add_series_title(alloc, draft, key, fields)?;
+    add_conference_title(alloc, draft, key, kind.is_given, fields)?;
+    add_original_title(alloc, draft, key, fields)
 }

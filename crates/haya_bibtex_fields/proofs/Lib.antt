@@ -1,3 +1,2 @@
 pub mod Chunks
-pub mod Tables
 pub mod Marks

@@ -4,9 +4,9 @@ use Rattle.haya_text.specs.Chunks.{Chunk}
 use Rattle.haya_bibtex_fields.specs.FieldTexts.{formatted_in, plain_in, title_in}
 use Rattle.haya_bibtex_fields.specs.Tables.{Table, named_or}
 
--- theses, reports and other works
-unfoldable pub work_genres : Table
-work_genres =
+-- theses, reports and other works, then patents, and requests for them
+unfoldable pub genres : Table
+genres =
     (codes "mathesis", codes "Master" ++ (226 ∷ 128 ∷ 153 ∷ codes "s thesis"))
     ∷ (codes "mastersthesis", codes "Master" ++ (226 ∷ 128 ∷ 153 ∷ codes "s thesis"))
     ∷ (codes "phdthesis", codes "PhD thesis")
@@ -16,12 +16,8 @@ work_genres =
     ∷ (codes "resreport", codes "research report")
     ∷ (codes "software", codes "computer software")
     ∷ (codes "datacd", codes "data CD")
-    ∷ (codes "audiocd", codes "audio CD") ∷ []
-
--- patents, and requests for them
-unfoldable pub patent_genres : Table
-patent_genres =
-    (codes "patent", codes "patent")
+    ∷ (codes "audiocd", codes "audio CD")
+    ∷ (codes "patent", codes "patent")
     ∷ (codes "patentde", codes "German patent")
     ∷ (codes "patenteu", codes "European patent")
     ∷ (codes "patentfr", codes "French patent")
@@ -33,9 +29,6 @@ patent_genres =
     ∷ (codes "patreqfr", codes "French patent request")
     ∷ (codes "patrequk", codes "British patent request")
     ∷ (codes "patrequs", codes "U.S. patent request") ∷ []
-
-unfoldable pub genres : Table
-genres = work_genres ++ patent_genres
 
 abbrev pub series_names : Table
 series_names = (codes "newseries", codes "New series") ∷ (codes "oldseries", codes "Old series") ∷ []

@@ -1,5 +1,5 @@
 -- The languages of entries, by the names that LaTeX has for them.
-use Rattle.std.specs.Prelude.{ℕ, ◌==◌, List, [], ◌∷◌, ◌++◌, map, codes, Option, None, option_and_then, option_map, unwrap_or, if◌then◌else◌}
+use Rattle.std.specs.Prelude.{ℕ, ◌==◌, List, [], ◌∷◌, map, codes, Option, None, option_and_then, option_map, unwrap_or, if◌then◌else◌}
 use Rattle.std.specs.Char.{to_ascii_lowercase}
 use Rattle.std.specs.List.{slice_split}
 use Rattle.std.specs.Option.{option_or}
@@ -7,9 +7,11 @@ use Rattle.std.specs.Str.{bytes_eq, trim}
 use Rattle.haya_bibtex_fields.specs.FieldTexts.{plain_in}
 use Rattle.haya_bibtex_fields.specs.Tables.{Table, text_under}
 
--- English
-unfoldable pub english_tags : Table
-english_tags =
+-- the names of languages and their tags: English; German, Dutch and their like; French, Italian and
+-- their like; the languages of Spain and Portugal, and of America; those of the north; Slavic
+-- languages; other languages of Europe and the Near East; languages of Asia
+unfoldable pub language_tags : Table
+language_tags =
     (codes "english", codes "en-US")
     ∷ (codes "american", codes "en-US")
     ∷ (codes "usenglish", codes "en-US")
@@ -17,36 +19,24 @@ english_tags =
     ∷ (codes "ukenglish", codes "en-GB")
     ∷ (codes "canadian", codes "en-CA")
     ∷ (codes "australian", codes "en-AU")
-    ∷ (codes "newzealand", codes "en-NZ") ∷ []
-
--- German, Dutch and their like
-unfoldable pub german_tags : Table
-german_tags =
-    (codes "german", codes "de-DE")
+    ∷ (codes "newzealand", codes "en-NZ")
+    ∷ (codes "german", codes "de-DE")
     ∷ (codes "ngerman", codes "de-DE")
     ∷ (codes "austrian", codes "de-AT")
     ∷ (codes "naustrian", codes "de-AT")
     ∷ (codes "swissgerman", codes "de-CH")
     ∷ (codes "nswissgerman", codes "de-CH")
     ∷ (codes "dutch", codes "nl-NL")
-    ∷ (codes "afrikaans", codes "af-ZA") ∷ []
-
--- French, Italian and their like
-unfoldable pub french_tags : Table
-french_tags =
-    (codes "french", codes "fr-FR")
+    ∷ (codes "afrikaans", codes "af-ZA")
+    ∷ (codes "french", codes "fr-FR")
     ∷ (codes "francais", codes "fr-FR")
     ∷ (codes "frenchb", codes "fr-FR")
     ∷ (codes "acadian", codes "fr-CA")
     ∷ (codes "canadien", codes "fr-CA")
     ∷ (codes "italian", codes "it-IT")
     ∷ (codes "romanian", codes "ro-RO")
-    ∷ (codes "latin", codes "la") ∷ []
-
--- the languages of Spain and Portugal, and of America
-unfoldable pub iberian_tags : Table
-iberian_tags =
-    (codes "spanish", codes "es-ES")
+    ∷ (codes "latin", codes "la")
+    ∷ (codes "spanish", codes "es-ES")
     ∷ (codes "mexican", codes "es-MX")
     ∷ (codes "catalan", codes "ca-ES")
     ∷ (codes "galician", codes "gl-ES")
@@ -54,12 +44,8 @@ iberian_tags =
     ∷ (codes "portuguese", codes "pt-PT")
     ∷ (codes "portuges", codes "pt-PT")
     ∷ (codes "brazil", codes "pt-BR")
-    ∷ (codes "brazilian", codes "pt-BR") ∷ []
-
--- the languages of the north
-unfoldable pub northern_tags : Table
-northern_tags =
-    (codes "danish", codes "da-DK")
+    ∷ (codes "brazilian", codes "pt-BR")
+    ∷ (codes "danish", codes "da-DK")
     ∷ (codes "swedish", codes "sv-SE")
     ∷ (codes "norsk", codes "nb-NO")
     ∷ (codes "norwegian", codes "nb-NO")
@@ -68,12 +54,8 @@ northern_tags =
     ∷ (codes "finnish", codes "fi-FI")
     ∷ (codes "estonian", codes "et-EE")
     ∷ (codes "latvian", codes "lv-LV")
-    ∷ (codes "lithuanian", codes "lt-LT") ∷ []
-
--- Slavic languages
-unfoldable pub slavic_tags : Table
-slavic_tags =
-    (codes "polish", codes "pl-PL")
+    ∷ (codes "lithuanian", codes "lt-LT")
+    ∷ (codes "polish", codes "pl-PL")
     ∷ (codes "czech", codes "cs-CZ")
     ∷ (codes "slovak", codes "sk-SK")
     ∷ (codes "slovene", codes "sl-SI")
@@ -82,12 +64,8 @@ slavic_tags =
     ∷ (codes "serbian", codes "sr-RS")
     ∷ (codes "bulgarian", codes "bg-BG")
     ∷ (codes "russian", codes "ru-RU")
-    ∷ (codes "ukrainian", codes "uk-UA") ∷ []
-
--- other languages of Europe and the Near East
-unfoldable pub other_tags : Table
-other_tags =
-    (codes "hungarian", codes "hu-HU")
+    ∷ (codes "ukrainian", codes "uk-UA")
+    ∷ (codes "hungarian", codes "hu-HU")
     ∷ (codes "magyar", codes "hu-HU")
     ∷ (codes "greek", codes "el-GR")
     ∷ (codes "polutonikogreek", codes "el-GR")
@@ -96,12 +74,8 @@ other_tags =
     ∷ (codes "welsh", codes "cy-GB")
     ∷ (codes "esperanto", codes "eo")
     ∷ (codes "hebrew", codes "he-IL")
-    ∷ (codes "arabic", codes "ar") ∷ []
-
--- languages of Asia
-unfoldable pub eastern_tags : Table
-eastern_tags =
-    (codes "persian", codes "fa-IR")
+    ∷ (codes "arabic", codes "ar")
+    ∷ (codes "persian", codes "fa-IR")
     ∷ (codes "farsi", codes "fa-IR")
     ∷ (codes "hindi", codes "hi-IN")
     ∷ (codes "sanskrit", codes "sa")
@@ -111,15 +85,6 @@ eastern_tags =
     ∷ (codes "chinese", codes "zh-CN")
     ∷ (codes "japanese", codes "ja-JP")
     ∷ (codes "korean", codes "ko-KR") ∷ []
-
-unfoldable pub western_tags : Table
-western_tags = english_tags ++ (german_tags ++ (french_tags ++ iberian_tags))
-
-unfoldable pub further_tags : Table
-further_tags = northern_tags ++ (slavic_tags ++ (other_tags ++ eastern_tags))
-
-unfoldable pub language_tags : Table
-language_tags = western_tags ++ further_tags
 
 -- the tag of a language by its name, in any case
 abbrev pub tag_of : List ℕ → Option (List ℕ)

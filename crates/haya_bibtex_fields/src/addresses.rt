@@ -11,7 +11,7 @@ use haya_values::QualifiedUrl;
 use std::alloc::Global;
 
 /// A text as it stands, unless nothing is left of it.
-pub(crate) fn read_standing(alloc: Global, text: &str) -> Result<Option<String>, OutOfMemory>
+pub fn read_standing(alloc: Global, text: &str) -> Result<Option<String>, OutOfMemory>
     ensures { IfOk result (λ t. option_map string_bytes t ≡ standing_in text.now) }
 {
     let standing = as_it_stands(alloc, text)?;

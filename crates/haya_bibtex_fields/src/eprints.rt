@@ -15,7 +15,7 @@ use haya_text::{ChunkedString, OutOfMemory};
 use std::alloc::Global;
 
 /// What the number of an archive is.
-#[derive(Debug, Drop)]
+#[derive(Drop)]
 pub enum Eprint {
     /// A number of arXiv, without `arXiv:` in front.
     Arxiv(String),

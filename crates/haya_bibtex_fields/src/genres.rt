@@ -2,74 +2,58 @@
 ghost use Rattle.std.specs.Prelude.{◌≡◌, IfOk, map, option_map, string_bytes};
 ghost use Rattle.haya_text.specs.Chunks.{chunks};
 ghost use Rattle.haya_bibtex_fields.specs.FieldTexts.{unknown_in};
-ghost use Rattle.haya_bibtex_fields.specs.Genres.{genre_in, genres, patent_genres, series_in};
-ghost use Rattle.haya_bibtex_fields.specs.Genres.{series_names, work_genres};
+ghost use Rattle.haya_bibtex_fields.specs.Genres.{genre_in, genres, series_in, series_names};
 ghost use Rattle.haya_bibtex_fields.specs.Tables.{text_or, text_under};
 
 use crate::reading::Reading;
+use crate::tables::text_under;
 use crate::texts::{read_formatted, read_plain, read_title};
 use haya_text::{ChunkedString, OutOfMemory};
 use std::alloc::Global;
 
-#[tactic(auto, unfolding(crate::specs::Genres::work_genres))]
-fn work_genre(name: &str) -> Option<&'static str>
-    ensures { option_map (λ t. t.now) result ≡ text_under work_genres name.now }
-{
-    match name {
-        "mathesis" => Some("Master’s thesis"),
-        "mastersthesis" => Some("Master’s thesis"),
-        "phdthesis" => Some("PhD thesis"),
-        "bathesis" => Some("Bachelor’s thesis"),
-        "candthesis" => Some("Candidate thesis"),
-        "techreport" => Some("technical report"),
-        "resreport" => Some("research report"),
-        "software" => Some("computer software"),
-        "datacd" => Some("data CD"),
-        "audiocd" => Some("audio CD"),
-        _ => None,
-    }
-}
-
-#[tactic(auto, unfolding(crate::specs::Genres::patent_genres))]
-fn patent_genre(name: &str) -> Option<&'static str>
-    ensures { option_map (λ t. t.now) result ≡ text_under patent_genres name.now }
-{
-    match name {
-        "patent" => Some("patent"),
-        "patentde" => Some("German patent"),
-        "patenteu" => Some("European patent"),
-        "patentfr" => Some("French patent"),
-        "patentuk" => Some("British patent"),
-        "patentus" => Some("U.S. patent"),
-        "patreq" => Some("patent request"),
-        "patreqde" => Some("German patent request"),
-        "patreqeu" => Some("European patent request"),
-        "patreqfr" => Some("French patent request"),
-        "patrequk" => Some("British patent request"),
-        "patrequs" => Some("U.S. patent request"),
-        _ => None,
-    }
-}
+// The kinds of works by the names of BibLaTeX: theses, reports and other works, then patents, and
+// requests for them.
+const GENRES: &[(&str, &str)] = &[
+    ("mathesis", "Master’s thesis"),
+    ("mastersthesis", "Master’s thesis"),
+    ("phdthesis", "PhD thesis"),
+    ("bathesis", "Bachelor’s thesis"),
+    ("candthesis", "Candidate thesis"),
+    ("techreport", "technical report"),
+    ("resreport", "research report"),
+    ("software", "computer software"),
+    ("datacd", "data CD"),
+    ("audiocd", "audio CD"),
+    ("patent", "patent"),
+    ("patentde", "German patent"),
+    ("patenteu", "European patent"),
+    ("patentfr", "French patent"),
+    ("patentuk", "British patent"),
+    ("patentus", "U.S. patent"),
+    ("patreq", "patent request"),
+    ("patreqde", "German patent request"),
+    ("patreqeu", "European patent request"),
+    ("patreqfr", "French patent request"),
+    ("patrequk", "British patent request"),
+    ("patrequs", "U.S. patent request"),
+];
 
 /// The kind of work that a name of BibLaTeX stands for, as `phdthesis`.
+#[tactic(auto, unfolding(crate::specs::Genres::genres))]
 pub fn genre_named(name: &str) -> Option<&'static str>
     ensures { option_map (λ t. t.now) result ≡ text_under genres name.now }
 {
-    match work_genre(name) {
-        Some(text) => Some(text),
-        None => patent_genre(name),
-    }
+    text_under(GENRES, name)
 }
+
+// The titles of series by their names.
+const SERIES: &[(&str, &str)] = &[("newseries", "New series"), ("oldseries", "Old series")];
 
 // The title of a series that a name stands for.
 fn series_named(name: &str) -> Option<&'static str>
     ensures { option_map (λ t. t.now) result ≡ text_under series_names name.now }
 {
-    match name {
-        "newseries" => Some("New series"),
-        "oldseries" => Some("Old series"),
-        _ => None,
-    }
+    text_under(SERIES, name)
 }
 
 // One chunk of a text, or another text where there is none.

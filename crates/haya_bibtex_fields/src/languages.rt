@@ -2,203 +2,108 @@
 ghost use Rattle.std.specs.Prelude.{◌≡◌, ◌==◌, ◌<◌, IfOk, map, option_map, string_bytes};
 ghost use Rattle.std.specs.List.{slice_split};
 ghost use Rattle.haya_bibtex_fields.specs.FieldTexts.{unknown_in};
-ghost use Rattle.haya_bibtex_fields.specs.Languages.{eastern_tags, english_tags, french_tags};
-ghost use Rattle.haya_bibtex_fields.specs.Languages.{german_tags, iberian_tags, language_in};
-ghost use Rattle.haya_bibtex_fields.specs.Languages.{language_tags, northern_tags, other_tags};
-ghost use Rattle.haya_bibtex_fields.specs.Languages.{slavic_tags, tag_of, variant_by, variant_in, western_tags};
-ghost use Rattle.haya_bibtex_fields.specs.Languages.{comma, further_tags, variant_among, variant_of};
+ghost use Rattle.haya_bibtex_fields.specs.Languages.{comma, language_in, language_tags, tag_of};
+ghost use Rattle.haya_bibtex_fields.specs.Languages.{variant_among, variant_by, variant_in};
+ghost use Rattle.haya_bibtex_fields.specs.Languages.{variant_of};
 ghost use Rattle.haya_bibtex_fields.specs.Tables.{text_under};
 
 use crate::reading::Reading;
+use crate::tables::text_under;
 use crate::texts::read_plain;
 use haya_text::OutOfMemory;
 use std::alloc::{AllocError, Global};
 
-#[tactic(auto, unfolding(crate::specs::Languages::english_tags))]
-fn english_tag(name: &str) -> Option<&'static str>
-    ensures { option_map (λ t. t.now) result ≡ text_under english_tags name.now }
-{
-    match name {
-        "english" => Some("en-US"),
-        "american" => Some("en-US"),
-        "usenglish" => Some("en-US"),
-        "british" => Some("en-GB"),
-        "ukenglish" => Some("en-GB"),
-        "canadian" => Some("en-CA"),
-        "australian" => Some("en-AU"),
-        "newzealand" => Some("en-NZ"),
-        _ => None,
-    }
-}
-
-#[tactic(auto, unfolding(crate::specs::Languages::german_tags))]
-fn german_tag(name: &str) -> Option<&'static str>
-    ensures { option_map (λ t. t.now) result ≡ text_under german_tags name.now }
-{
-    match name {
-        "german" => Some("de-DE"),
-        "ngerman" => Some("de-DE"),
-        "austrian" => Some("de-AT"),
-        "naustrian" => Some("de-AT"),
-        "swissgerman" => Some("de-CH"),
-        "nswissgerman" => Some("de-CH"),
-        "dutch" => Some("nl-NL"),
-        "afrikaans" => Some("af-ZA"),
-        _ => None,
-    }
-}
-
-#[tactic(auto, unfolding(crate::specs::Languages::french_tags))]
-fn french_tag(name: &str) -> Option<&'static str>
-    ensures { option_map (λ t. t.now) result ≡ text_under french_tags name.now }
-{
-    match name {
-        "french" => Some("fr-FR"),
-        "francais" => Some("fr-FR"),
-        "frenchb" => Some("fr-FR"),
-        "acadian" => Some("fr-CA"),
-        "canadien" => Some("fr-CA"),
-        "italian" => Some("it-IT"),
-        "romanian" => Some("ro-RO"),
-        "latin" => Some("la"),
-        _ => None,
-    }
-}
-
-#[tactic(auto, unfolding(crate::specs::Languages::iberian_tags))]
-fn iberian_tag(name: &str) -> Option<&'static str>
-    ensures { option_map (λ t. t.now) result ≡ text_under iberian_tags name.now }
-{
-    match name {
-        "spanish" => Some("es-ES"),
-        "mexican" => Some("es-MX"),
-        "catalan" => Some("ca-ES"),
-        "galician" => Some("gl-ES"),
-        "basque" => Some("eu-ES"),
-        "portuguese" => Some("pt-PT"),
-        "portuges" => Some("pt-PT"),
-        "brazil" => Some("pt-BR"),
-        "brazilian" => Some("pt-BR"),
-        _ => None,
-    }
-}
-
-#[tactic(auto, unfolding(crate::specs::Languages::northern_tags))]
-fn northern_tag(name: &str) -> Option<&'static str>
-    ensures { option_map (λ t. t.now) result ≡ text_under northern_tags name.now }
-{
-    match name {
-        "danish" => Some("da-DK"),
-        "swedish" => Some("sv-SE"),
-        "norsk" => Some("nb-NO"),
-        "norwegian" => Some("nb-NO"),
-        "nynorsk" => Some("nn-NO"),
-        "icelandic" => Some("is-IS"),
-        "finnish" => Some("fi-FI"),
-        "estonian" => Some("et-EE"),
-        "latvian" => Some("lv-LV"),
-        "lithuanian" => Some("lt-LT"),
-        _ => None,
-    }
-}
-
-#[tactic(auto, unfolding(crate::specs::Languages::slavic_tags))]
-fn slavic_tag(name: &str) -> Option<&'static str>
-    ensures { option_map (λ t. t.now) result ≡ text_under slavic_tags name.now }
-{
-    match name {
-        "polish" => Some("pl-PL"),
-        "czech" => Some("cs-CZ"),
-        "slovak" => Some("sk-SK"),
-        "slovene" => Some("sl-SI"),
-        "slovenian" => Some("sl-SI"),
-        "croatian" => Some("hr-HR"),
-        "serbian" => Some("sr-RS"),
-        "bulgarian" => Some("bg-BG"),
-        "russian" => Some("ru-RU"),
-        "ukrainian" => Some("uk-UA"),
-        _ => None,
-    }
-}
-
-#[tactic(auto, unfolding(crate::specs::Languages::other_tags))]
-fn other_tag(name: &str) -> Option<&'static str>
-    ensures { option_map (λ t. t.now) result ≡ text_under other_tags name.now }
-{
-    match name {
-        "hungarian" => Some("hu-HU"),
-        "magyar" => Some("hu-HU"),
-        "greek" => Some("el-GR"),
-        "polutonikogreek" => Some("el-GR"),
-        "turkish" => Some("tr-TR"),
-        "irish" => Some("ga-IE"),
-        "welsh" => Some("cy-GB"),
-        "esperanto" => Some("eo"),
-        "hebrew" => Some("he-IL"),
-        "arabic" => Some("ar"),
-        _ => None,
-    }
-}
-
-#[tactic(auto, unfolding(crate::specs::Languages::eastern_tags))]
-fn eastern_tag(name: &str) -> Option<&'static str>
-    ensures { option_map (λ t. t.now) result ≡ text_under eastern_tags name.now }
-{
-    match name {
-        "persian" => Some("fa-IR"),
-        "farsi" => Some("fa-IR"),
-        "hindi" => Some("hi-IN"),
-        "sanskrit" => Some("sa"),
-        "thai" => Some("th-TH"),
-        "vietnamese" => Some("vi-VN"),
-        "indonesian" => Some("id-ID"),
-        "chinese" => Some("zh-CN"),
-        "japanese" => Some("ja-JP"),
-        "korean" => Some("ko-KR"),
-        _ => None,
-    }
-}
-
-// The tag of a language that is of the west or the south of Europe.
-fn western_tag(name: &str) -> Option<&'static str>
-    ensures { option_map (λ t. t.now) result ≡ text_under western_tags name.now }
-{
-    match english_tag(name) {
-        Some(tag) => Some(tag),
-        None => match german_tag(name) {
-            Some(tag) => Some(tag),
-            None => match french_tag(name) {
-                Some(tag) => Some(tag),
-                None => iberian_tag(name),
-            },
-        },
-    }
-}
-
-// The tag of any other language.
-fn further_tag(name: &str) -> Option<&'static str>
-    ensures { option_map (λ t. t.now) result ≡ text_under further_tags name.now }
-{
-    match northern_tag(name) {
-        Some(tag) => Some(tag),
-        None => match slavic_tag(name) {
-            Some(tag) => Some(tag),
-            None => match other_tag(name) {
-                Some(tag) => Some(tag),
-                None => eastern_tag(name),
-            },
-        },
-    }
-}
+// The names of languages and their tags.
+const LANGUAGES: &[(&str, &str)] = &[
+    // English.
+    ("english", "en-US"),
+    ("american", "en-US"),
+    ("usenglish", "en-US"),
+    ("british", "en-GB"),
+    ("ukenglish", "en-GB"),
+    ("canadian", "en-CA"),
+    ("australian", "en-AU"),
+    ("newzealand", "en-NZ"),
+    // German, Dutch and their like.
+    ("german", "de-DE"),
+    ("ngerman", "de-DE"),
+    ("austrian", "de-AT"),
+    ("naustrian", "de-AT"),
+    ("swissgerman", "de-CH"),
+    ("nswissgerman", "de-CH"),
+    ("dutch", "nl-NL"),
+    ("afrikaans", "af-ZA"),
+    // French, Italian and their like.
+    ("french", "fr-FR"),
+    ("francais", "fr-FR"),
+    ("frenchb", "fr-FR"),
+    ("acadian", "fr-CA"),
+    ("canadien", "fr-CA"),
+    ("italian", "it-IT"),
+    ("romanian", "ro-RO"),
+    ("latin", "la"),
+    // The languages of Spain and Portugal, and of America.
+    ("spanish", "es-ES"),
+    ("mexican", "es-MX"),
+    ("catalan", "ca-ES"),
+    ("galician", "gl-ES"),
+    ("basque", "eu-ES"),
+    ("portuguese", "pt-PT"),
+    ("portuges", "pt-PT"),
+    ("brazil", "pt-BR"),
+    ("brazilian", "pt-BR"),
+    // The languages of the north.
+    ("danish", "da-DK"),
+    ("swedish", "sv-SE"),
+    ("norsk", "nb-NO"),
+    ("norwegian", "nb-NO"),
+    ("nynorsk", "nn-NO"),
+    ("icelandic", "is-IS"),
+    ("finnish", "fi-FI"),
+    ("estonian", "et-EE"),
+    ("latvian", "lv-LV"),
+    ("lithuanian", "lt-LT"),
+    // Slavic languages.
+    ("polish", "pl-PL"),
+    ("czech", "cs-CZ"),
+    ("slovak", "sk-SK"),
+    ("slovene", "sl-SI"),
+    ("slovenian", "sl-SI"),
+    ("croatian", "hr-HR"),
+    ("serbian", "sr-RS"),
+    ("bulgarian", "bg-BG"),
+    ("russian", "ru-RU"),
+    ("ukrainian", "uk-UA"),
+    // Other languages of Europe and the Near East.
+    ("hungarian", "hu-HU"),
+    ("magyar", "hu-HU"),
+    ("greek", "el-GR"),
+    ("polutonikogreek", "el-GR"),
+    ("turkish", "tr-TR"),
+    ("irish", "ga-IE"),
+    ("welsh", "cy-GB"),
+    ("esperanto", "eo"),
+    ("hebrew", "he-IL"),
+    ("arabic", "ar"),
+    // Languages of Asia.
+    ("persian", "fa-IR"),
+    ("farsi", "fa-IR"),
+    ("hindi", "hi-IN"),
+    ("sanskrit", "sa"),
+    ("thai", "th-TH"),
+    ("vietnamese", "vi-VN"),
+    ("indonesian", "id-ID"),
+    ("chinese", "zh-CN"),
+    ("japanese", "ja-JP"),
+    ("korean", "ko-KR"),
+];
 
 // The tag of a language by its name in lower case.
+#[tactic(auto, unfolding(crate::specs::Languages::language_tags))]
 fn lower_tag(name: &str) -> Option<&'static str>
     ensures { option_map (λ t. t.now) result ≡ text_under language_tags name.now }
 {
-    match western_tag(name) {
-        Some(tag) => Some(tag),
-        None => further_tag(name),
-    }
+    text_under(LANGUAGES, name)
 }
 
 // The tag of a language by its name, in any case.

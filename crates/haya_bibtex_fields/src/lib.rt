@@ -15,17 +15,18 @@ mod languages;
 mod numbers;
 mod reading;
 mod serials;
+mod tables;
 mod texts;
 mod titles;
 
-pub use addresses::{read_address, read_doi, read_url};
+pub use addresses::{read_address, read_doi, read_standing, read_url};
 pub use eprints::{Eprint, read_eprint};
 pub use genres::{genre_named, read_genre, read_series};
 pub use languages::{read_language, read_variant};
 pub use numbers::{read_number, read_pages};
 pub use reading::Reading;
 pub use serials::{Serial, read_serial};
-pub use texts::{read_formatted, read_plain, read_title};
+pub use texts::{formatted_if_any, read_formatted, read_plain, read_title, title_if_any};
 pub use titles::{
     TitleTexts, join, read_joined, read_note, read_short_title, read_whole_title, with_short,
 };

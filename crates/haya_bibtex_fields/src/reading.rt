@@ -1,7 +1,7 @@
 //! What the text of a field says.
 
 /// What the text of a field says.
-#[derive(Debug, Drop)]
+#[derive(Drop)]
 pub struct Reading<T> {
     /// The value. There is none where nothing is left of the text.
     pub value: Option<T>,

@@ -10,7 +10,7 @@ use haya_text::OutOfMemory;
 use std::alloc::Global;
 
 /// The number of a report, or of another work that isn't part of a series.
-#[derive(Debug, Drop)]
+#[derive(Drop)]
 pub enum Serial {
     /// A number of arXiv, without `arXiv:` in front.
     Arxiv(String),

@@ -134,7 +134,7 @@ pub fn read_plain(alloc: Global, text: &str) -> Result<Reading<String>, OutOfMem
 }
 
 /// What the text of a title says, if it is there.
-pub(crate) fn title_if_any(
+pub fn title_if_any(
     alloc: Global,
     text: Option<&str>,
 ) -> Result<Reading<ChunkedString>, OutOfMemory>
@@ -149,8 +149,8 @@ pub(crate) fn title_if_any(
     }
 }
 
-/// What another text says, if it is there.
-pub(crate) fn formatted_if_any(
+/// What another text that is formatted says, if it is there.
+pub fn formatted_if_any(
     alloc: Global,
     text: Option<&str>,
 ) -> Result<Reading<ChunkedString>, OutOfMemory>

@@ -17,7 +17,7 @@ use haya_text::{ChunkKind, ChunkedString, FormatString, OutOfMemory, StringChunk
 use std::alloc::{AllocError, Global};
 
 /// The texts of fields that make a title, each if it is there.
-#[derive(Clone, Copy, Debug)]
+#[derive(Clone, Copy)]
 pub struct TitleTexts<'a> {
     /// The title.
     pub title: Option<&'a str>,

@@ -1,5 +1,6 @@
 -- Entries by value. Their texts are lists of bytes.
 use Rattle.std.specs.Prelude.{ℕ, Bool, List, [], ◌∷◌, Option, Some, None, if◌then◌else◌}
+use Rattle.std.specs.Borrow.{Bor}
 use Rattle.std.specs.List.{list_any}
 use Rattle.std.specs.Str.{bytes_eq}
 
@@ -24,3 +25,7 @@ text_of (f ∷ fs) n = if bytes_eq f.name n then Some f.text else text_of fs n
 -- the name is one of these
 abbrev pub is_among : List (List ℕ) → List ℕ → Bool
 is_among ns n = list_any (bytes_eq n) ns
+
+-- the names of the code's tables by value
+abbrev pub name_view : Bor (List ℕ) → List ℕ
+name_view n = n.now

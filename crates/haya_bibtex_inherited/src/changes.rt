@@ -11,6 +11,7 @@ ghost use Rattle.haya_bibtex_inherited.specs.Entries.{is_among};
 ghost use Rattle.haya_bibtex_inherited.specs.declared.changes.Titles.TheVariants.{Book, Journal};
 ghost use Rattle.haya_bibtex_inherited.specs.declared.changes.Titles.TheVariants.{Main};
 
+use crate::names::is_among;
 use crate::reference::Link;
 
 /// What becomes of a title, a subtitle and an addition.
@@ -62,14 +63,22 @@ fn is_part_of_book(kind: &str) -> bool
     }
 }
 
+// Types of which a book or another volume is the whole.
+const PARTS_OF_VOLUMES: &[&str] = &[
+    "inbook",
+    "bookinbook",
+    "suppbook",
+    "incollection",
+    "suppcollection",
+    "inreference",
+    "inproceedings",
+    "conference",
+];
+
 fn is_part_of_volume(kind: &str) -> bool
     ensures { result ≡ is_among parts_of_volumes kind.now }
 {
-    match kind {
-        "inbook" | "bookinbook" | "suppbook" | "incollection" => true,
-        "suppcollection" | "inreference" | "inproceedings" | "conference" => true,
-        _ => false,
-    }
+    is_among(PARTS_OF_VOLUMES, kind)
 }
 
 fn is_part_of_periodical(kind: &str) -> bool
@@ -181,16 +190,32 @@ pub(crate) fn new_name(changes: Changes, name: &str) -> Option<&'static str>
     }
 }
 
+// Names that no entry inherits.
+const OWN_NAMES: &[&str] = &[
+    "crossref",
+    "xref",
+    "xdata",
+    "ids",
+    "entryset",
+    "entrysubtype",
+    "execute",
+    "label",
+    "options",
+    "presort",
+    "related",
+    "relatedoptions",
+    "relatedstring",
+    "relatedtype",
+    "shorthand",
+    "shorthandintro",
+    "sortkey",
+    "key",
+];
+
 fn is_own_name(name: &str) -> bool
     ensures { result ≡ is_among own_names name.now }
 {
-    match name {
-        "crossref" | "xref" | "xdata" | "ids" | "entryset" | "entrysubtype" => true,
-        "execute" | "label" | "options" | "presort" | "related" => true,
-        "relatedoptions" | "relatedstring" | "relatedtype" => true,
-        "shorthand" | "shorthandintro" | "sortkey" | "key" => true,
-        _ => false,
-    }
+    is_among(OWN_NAMES, name)
 }
 
 fn is_date_name(name: &str) -> bool

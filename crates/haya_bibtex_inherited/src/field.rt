@@ -13,7 +13,7 @@ use std::alloc::{AllocError, Global};
 use std::collections::BTreeMap;
 
 /// A field of an entry, its own or inherited.
-#[derive(Clone, Copy, Debug)]
+#[derive(Clone, Copy)]
 pub struct FieldRef<'a> {
     /// Its name, in lower case.
     pub name: &'a str,

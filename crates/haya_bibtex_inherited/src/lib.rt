@@ -5,6 +5,7 @@
 mod changes;
 mod field;
 mod library;
+mod names;
 mod order;
 mod reference;
 mod search;

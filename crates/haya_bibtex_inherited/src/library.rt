@@ -25,7 +25,7 @@ use haya_bibtex_text::Entry;
 use std::alloc::{AllocError, Global};
 
 /// An entry of a library, with all its fields.
-#[derive(Debug, Drop)]
+#[derive(Drop)]
 pub struct EntryRef<'a> {
     /// Its type, in lower case.
     pub kind: &'a str,
@@ -36,7 +36,7 @@ pub struct EntryRef<'a> {
 }
 
 /// The entries of a library, and what is passed over.
-#[derive(Debug, Drop)]
+#[derive(Drop)]
 pub struct LibraryEntries<'a> {
     /// The entries, in order.
     pub entries: Vec<EntryRef<'a>>,

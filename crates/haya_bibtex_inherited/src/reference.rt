@@ -13,7 +13,7 @@ use std::alloc::{AllocError, Global};
 use std::fmt;
 
 /// The field in which an entry names another.
-#[derive(Clone, Copy, Debug, PartialEq, Eq)]
+#[derive(Clone, Copy)]
 pub enum Link {
     /// The field `xdata`, which names entries that give their fields as they are.
     Xdata,
@@ -37,7 +37,7 @@ impl fmt::Display for Link {
 }
 
 /// A key by which an entry refers to another.
-#[derive(Clone, Copy, Debug)]
+#[derive(Clone, Copy)]
 pub struct Reference<'a> {
     /// The field in which it is.
     pub link: Link,

@@ -20,7 +20,7 @@ use haya_people::Person;
 use std::alloc::{AllocError, Global};
 
 /// What a list of names says.
-#[derive(Debug, Drop)]
+#[derive(Drop)]
 pub struct Persons {
     /// The persons, in order.
     pub persons: Vec<Person>,

@@ -1,5 +1,6 @@
 -- The strings that are defined from the start: the months and the journals of the standard styles.
 use Rattle.std.specs.Prelude.{ℕ, List, [], ◌∷◌, ◌++◌, Some, None, codes, if◌then◌else◌}
+use Rattle.std.specs.Borrow.{Bor}
 use Rattle.std.specs.Str.{bytes_eq}
 use Rattle.haya_bibtex_text.specs.Strings.{Strings}
 
@@ -11,6 +12,10 @@ Table = List (List ℕ × List ℕ)
 abbrev pub text_under : Table → Strings
 text_under [] n = None
 text_under (r ∷ rs) n = if bytes_eq n r.0 then Some r.1 else text_under rs n
+
+-- the rows of the code's tables by value
+abbrev pub row_view : Bor (List ℕ) × Bor (List ℕ) → List ℕ × List ℕ
+row_view r = (r.0.now, r.1.now)
 
 -- the months
 abbrev pub months : Table
@@ -28,9 +33,9 @@ months =
     ∷ (codes "nov", codes "November")
     ∷ (codes "dec", codes "December") ∷ []
 
--- the first ten journals
-abbrev pub first_journals : Table
-first_journals =
+-- the journals
+abbrev pub journals : Table
+journals =
     (codes "acmcs", codes "ACM Computing Surveys")
     ∷ (codes "acta", codes "Acta Informatica")
     ∷ (codes "cacm", codes "Communications of the ACM")
@@ -40,12 +45,8 @@ first_journals =
     ∷ (codes "ieeetc", codes "IEEE Transactions on Computers")
     ∷ (codes "ieeetcad", codes "IEEE Transactions on Computer-Aided Design of Integrated Circuits")
     ∷ (codes "ipl", codes "Information Processing Letters")
-    ∷ (codes "jacm", codes "Journal of the ACM") ∷ []
-
--- the other ten
-abbrev pub last_journals : Table
-last_journals =
-    (codes "jcss", codes "Journal of Computer and System Sciences")
+    ∷ (codes "jacm", codes "Journal of the ACM")
+    ∷ (codes "jcss", codes "Journal of Computer and System Sciences")
     ∷ (codes "scp", codes "Science of Computer Programming")
     ∷ (codes "sicomp", codes "SIAM Journal on Computing")
     ∷ (codes "tocs", codes "ACM Transactions on Computer Systems")
@@ -57,7 +58,7 @@ last_journals =
     ∷ (codes "tcs", codes "Theoretical Computer Science") ∷ []
 
 abbrev pub predefined_table : Table
-predefined_table = months ++ (first_journals ++ last_journals)
+predefined_table = months ++ journals
 
 abbrev pub predefined_strings : Strings
 predefined_strings = text_under predefined_table

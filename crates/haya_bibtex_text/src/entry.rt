@@ -2,7 +2,7 @@
 use std::fmt;
 
 /// A field of an entry.
-#[derive(Debug, Drop)]
+#[derive(Drop)]
 pub struct Field {
     /// Its name, in lower case.
     pub name: String,
@@ -11,7 +11,7 @@ pub struct Field {
 }
 
 /// An entry.
-#[derive(Debug, Drop)]
+#[derive(Drop)]
 pub struct Entry {
     /// Its type, in lower case.
     pub kind: String,
@@ -22,7 +22,7 @@ pub struct Entry {
 }
 
 /// Something that is passed over.
-#[derive(Debug, Drop)]
+#[derive(Drop)]
 pub enum PassedOver {
     /// A field whose name comes again in its entry: its name, in lower case.
     Field(String),
@@ -52,7 +52,7 @@ impl fmt::Display for PassedOver {
 }
 
 /// The entries of a text, and what is passed over in it.
-#[derive(Debug, Drop)]
+#[derive(Drop)]
 pub struct Bibliography {
     /// The entries, in order, of which no two have one key.
     pub entries: Vec<Entry>,

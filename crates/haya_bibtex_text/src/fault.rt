@@ -5,7 +5,7 @@ ghost use Rattle.haya_bibtex_text.specs.declared.fault.Stop.TheVariants as stop;
 use std::alloc::{AllocError, AllocFailed};
 
 /// What is wrong.
-#[derive(Clone, Copy, Debug, Drop, PartialEq, Eq)]
+#[derive(Clone, Copy, Debug, Drop)]
 pub enum FaultKind {
     /// An entry without a key.
     Key,
@@ -49,7 +49,7 @@ impl FaultKind {
 }
 
 /// A fault, and where it is.
-#[derive(Clone, Copy, Debug, Drop, PartialEq, Eq)]
+#[derive(Clone, Copy, Debug, Drop)]
 pub struct Fault {
     /// What is wrong.
     pub kind: FaultKind,
@@ -60,7 +60,7 @@ pub struct Fault {
 }
 
 /// Why a text isn't read.
-#[derive(Clone, Copy, Debug, Drop, PartialEq, Eq)]
+#[derive(Clone, Copy, Drop)]
 pub enum ReadError {
     /// It has a fault, and this is the first.
     Refused(Fault),

@@ -77,11 +77,7 @@ pub(crate) fn begins_letter(text: &[char]) -> bool
 pub(crate) fn chars_of(alloc: Global, text: &str) -> Result<Vec<char>, AllocError>
     ensures { IfOk result (λ v. v.items ≡ chars text.now) }
 {
-    let mut list = Vec::new(alloc);
-    'chars: for c in text.chars() {
-        list.push(c)?;
-    }
-    Ok(list)
+    text.chars().collect(alloc)
 }
 
 /// Characters as a text.

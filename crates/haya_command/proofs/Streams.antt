@@ -19,7 +19,8 @@ use Rattle.hayagriva.specs.Reading.{TextReads}
 use Rattle.hayagriva.specs.Syntax.{Syntax}
 use Rattle.hayagriva.specs.Tree.{Tree}
 use Rattle.hayagriva.specs.declared.query.Hit.{Hit}
-use Rattle.haya_asked.proofs.AskedLemmas.{nothing_in, unsorted}
+use Rattle.haya_questions.proofs.Sorts.{unsorted}
+use Rattle.haya_asked.proofs.AskedLemmas.{nothing_in}
 use Rattle.haya_asked.specs.Asked.{AreAsked, AreLeft, at_most, keeps_repeats, passes}
 use Rattle.haya_asked.specs.declared.columns.Columns.{Columns}
 use Rattle.haya_asked.specs.declared.questions.Repeats.{Repeats}

@@ -1,5 +1,6 @@
 //! Runs of characters of a kind.
-ghost use Rattle.std.specs.Prelude.{◌≡◌, ◌++◌, ◌∷◌, [], true, flat_map, map, reverse, All, IfOk, OnOk};
+ghost use Rattle.std.specs.Prelude.{◌≡◌, ◌++◌, ◌∷◌, [], true, All, IfOk, OnOk};
+ghost use Rattle.std.specs.Prelude.{flat_map, map, reverse};
 ghost use Rattle.haya_latex.specs.RunViews.{HasText, run_bytes, run_kind};
 ghost use Rattle.haya_latex.specs.Texts.{alternates, char_bytes, single_blanks, without_last_blank};
 
@@ -8,7 +9,7 @@ use std::alloc::{AllocError, Global};
 use std::mem::replace;
 
 /// Characters of a kind that follow one another.
-#[derive(Debug, Drop)]
+#[derive(Drop)]
 pub struct Run {
     /// Their kind.
     pub kind: Kind,

@@ -17,7 +17,7 @@ use crate::tokens::token_at;
 use std::alloc::{AllocError, Global};
 
 /// What the text of a value says.
-#[derive(Debug, Drop)]
+#[derive(Drop)]
 pub struct Text {
     /// Its characters, in runs of a kind: none is empty, and none is of the kind of the next one.
     pub runs: Vec<Run>,
@@ -26,7 +26,7 @@ pub struct Text {
 }
 
 /// What names say.
-#[derive(Debug, Drop)]
+#[derive(Drop)]
 pub struct Names {
     /// Their characters.
     pub chars: Vec<(char, Kind)>,

@@ -5,7 +5,7 @@ ghost use Rattle.haya_latex_words.specs.Accents.{accent_of, alone, composed, dot
 use crate::letters::letters_of;
 
 /// An accent.
-#[derive(Clone, Copy, Debug, PartialEq, Eq)]
+#[derive(Clone, Copy)]
 pub enum Accent {
     /// `` \` ``, as in À.
     Grave,

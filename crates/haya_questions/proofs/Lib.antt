@@ -4,5 +4,7 @@ mod QuoteLemmas
 mod SignPlaces
 mod SortLemmas
 mod SortWords
+pub mod Sorts
+mod Thens
 mod Totals
 mod Wholes

@@ -1,18 +1,11 @@
 //! What values are sorted by.
-ghost use Rattle.std.specs.Prelude.{◌≡◌, IfOk, map, option_map, string_bytes};
+ghost use Rattle.std.specs.Prelude.{◌≡◌, [], ◌∷◌, IfOk, IfSome, map, string_bytes};
 ghost use Rattle.std.specs.Cmp.Lexicographic.{slice_cmp};
-ghost use Rattle.std.specs.Option.{option_cmp};
-ghost use Rattle.haya_numbers.specs.Numeric.{csl_order, numeric_view};
-ghost use Rattle.haya_numbers.specs.Pages.{parts};
-ghost use Rattle.haya_numbers.specs.PagesOrder.{pages_order};
-ghost use Rattle.haya_people.specs.Person.{person_view};
 ghost use Rattle.haya_time.specs.DateOrder.{date_csl_cmp};
-ghost use Rattle.haya_questions.specs.Order.{counted_order, duration_rank, is_missing, kinds_before};
-ghost use Rattle.haya_questions.specs.Order.{named_order, of_kind, person_rank, rank_of, rank_order};
-ghost use Rattle.haya_questions.specs.Order.{ranks_order, text_rank, typed_order};
+ghost use Rattle.haya_questions.specs.Order.{is_missing, kinds_before, rank_of, rank_order};
+ghost use Rattle.haya_questions.specs.Order.{ranks_order, text_rank};
 ghost use Rattle.haya_questions.specs.Ranked.{rank_view};
 ghost use Rattle.haya_questions.specs.Value.{value_view};
-ghost use Rattle.haya_questions.specs.declared.rank.RankKind.TheVariants as Kind;
 
 use crate::case_aside::folded;
 use crate::shown::long_text;
@@ -54,193 +47,93 @@ impl RankKind {
     }
 }
 
-/// What a value is sorted by: its kind, and what it is.
+/// What a value is sorted by: what it is, and a text by its case fold and then by itself.
 #[derive(Drop)]
-pub(crate) struct ValueRank {
-    kind: RankKind,
-    date: Option<Date>,
-    number: Option<Numeric>,
-    pages: Option<PageRanges>,
-    duration: Option<Duration>,
-    person: Option<Person>,
-    fold: Option<String>,
-    text: Option<String>,
+pub(crate) enum ValueRank {
+    Date(Date),
+    Number(Numeric),
+    Pages(PageRanges),
+    Duration(Duration),
+    Person(Person),
+    Text(String, String),
+    /// A text in the place of a number, pages or a time.
+    Untyped(String),
 }
 
 impl ValueRank {
-    // The rank of a kind alone.
-    fn of_kind(kind: RankKind) -> ValueRank
-        ensures { rank_view result ≡ of_kind kind }
-    {
-        ValueRank {
-            kind,
-            date: None,
-            number: None,
-            pages: None,
-            duration: None,
-            person: None,
-            fold: None,
-            text: None,
-        }
-    }
-
-    fn of_duration(duration: Duration) -> ValueRank
-        ensures { rank_view result ≡ duration_rank duration }
-    {
-        let mut rank = ValueRank::of_kind(RankKind::Duration);
-        rank.duration = Some(duration);
-        rank
-    }
-
-    fn of_person(alloc: Global, person: &Person) -> Result<ValueRank, OutOfMemory>
-        ensures { IfOk result (λ rank. rank_view rank ≡ person_rank (person_view person.now)) }
-    {
-        let mut rank = ValueRank::of_kind(RankKind::Person);
-        rank.person = Some(person.try_clone(alloc)?);
-        Ok(rank)
-    }
-
-    fn of_text(alloc: Global, text: String) -> Result<ValueRank, OutOfMemory>
-        ensures { IfOk result (λ rank. rank_view rank ≡ text_rank (string_bytes text)) }
-    {
-        let mut rank = ValueRank::of_kind(RankKind::Text);
-        rank.fold = Some(folded(alloc, text.as_str())?);
-        rank.text = Some(text);
-        Ok(rank)
-    }
-
     /// What the value is sorted by.
-    #[tactic(auto, unfolding(crate::specs::Order::rank_of))]
+    #[tactic(auto, unfolding(crate::specs::Order::rank_of, crate::specs::Ranked::rank_view))]
     pub(crate) fn of(alloc: Global, value: Value) -> Result<ValueRank, OutOfMemory>
         ensures { IfOk result (λ rank. rank_view rank ≡ rank_of (value_view value.entry)) }
     {
         match value {
-            Value::Date(date) => Ok(date_rank(*date)),
-            Value::Number(number) => Ok(number_rank(number.try_clone(alloc)?)),
-            Value::Pages(pages) => Ok(pages_rank(pages.try_clone(alloc)?)),
-            Value::Duration(duration) => Ok(ValueRank::of_duration(*duration)),
-            Value::Range(range) => Ok(ValueRank::of_duration(range.start)),
-            Value::Person(person) | Value::InRole(_, person) => ValueRank::of_person(alloc, person),
+            Value::Date(date) => Ok(ValueRank::Date(*date)),
+            Value::Number(number) => Ok(ValueRank::Number(number.try_clone(alloc)?)),
+            Value::Pages(pages) => Ok(ValueRank::Pages(pages.try_clone(alloc)?)),
+            Value::Duration(duration) => Ok(ValueRank::Duration(*duration)),
+            Value::Range(range) => Ok(ValueRank::Duration(range.start)),
+            Value::Person(person) | Value::InRole(_, person) => {
+                Ok(ValueRank::Person(person.try_clone(alloc)?))
+            }
             Value::Key(text) | Value::Plain(text) => {
                 ValueRank::of_text(alloc, String::from_str(alloc, text)?)
             }
             Value::Text(text) => ValueRank::of_text(alloc, long_text(alloc, text)?),
-            Value::Untyped(text) => untyped_rank(alloc, text),
+            Value::Untyped(text) => Ok(ValueRank::Untyped(String::from_str(alloc, text)?)),
+        }
+    }
+
+    // What a text is sorted by.
+    #[tactic(auto, unfolding(crate::specs::Ranked::rank_view))]
+    fn of_text(alloc: Global, text: String) -> Result<ValueRank, OutOfMemory>
+        ensures { IfOk result (λ rank. rank_view rank ≡ text_rank (string_bytes text)) }
+    {
+        let fold = folded(alloc, text.as_str())?;
+        Ok(ValueRank::Text(fold, text))
+    }
+
+    // The kind of the value.
+    #[tactic(auto, unfolding(crate::specs::Ranked::rank_view))]
+    fn kind(&self) -> RankKind
+        ensures { result ≡ (rank_view self.now).kind }
+    {
+        match self {
+            ValueRank::Date(_) => RankKind::Date,
+            ValueRank::Number(_) => RankKind::Number,
+            ValueRank::Pages(_) => RankKind::Pages,
+            ValueRank::Duration(_) => RankKind::Duration,
+            ValueRank::Person(_) => RankKind::Person,
+            ValueRank::Text(_, _) => RankKind::Text,
+            ValueRank::Untyped(_) => RankKind::Untyped,
         }
     }
 
     /// By kind, and then by what the values are.
-    #[tactic(auto, unfolding(crate::specs::Order::rank_order))]
+    #[tactic(auto, unfolding(crate::specs::Order::rank_order, crate::specs::Ranked::rank_view))]
     fn cmp(&self, other: &ValueRank) -> Ordering
         ensures { result ≡ rank_order (rank_view self.now) (rank_view other.now) }
     {
-        self.cmp_typed(other).then_with(|| self.cmp_named(other))
-    }
-
-    // By kind; dates, numbers and pages as citation styles have them.
-    fn cmp_typed(&self, other: &ValueRank) -> Ordering
-        ensures { result ≡ typed_order (rank_view self.now) (rank_view other.now) }
-    {
-        let by_kind = self.kind.kinds_before().cmp(&other.kind.kinds_before());
-        by_kind.then_with(|| self.cmp_counted(other))
-    }
-
-    // Dates, numbers and pages as citation styles have them.
-    fn cmp_counted(&self, other: &ValueRank) -> Ordering
-        ensures { result ≡ counted_order (rank_view self.now) (rank_view other.now) }
-    {
-        let by_date = cmp_dates(self.date.as_ref(), other.date.as_ref());
-        if by_date.is_ne() {
-            return by_date;
+        match (self, other) {
+            (ValueRank::Date(a), ValueRank::Date(b)) => cmp_dates(a, b),
+            (ValueRank::Number(a), ValueRank::Number(b)) => a.csl_cmp(b),
+            (ValueRank::Pages(a), ValueRank::Pages(b)) => a.csl_cmp(b),
+            (ValueRank::Duration(a), ValueRank::Duration(b)) => a.cmp(b),
+            (ValueRank::Person(a), ValueRank::Person(b)) => a.cmp(b),
+            (ValueRank::Text(a_fold, a), ValueRank::Text(b_fold, b)) => {
+                a_fold.cmp(b_fold).then_with(|| a.cmp(b))
+            }
+            (ValueRank::Untyped(a), ValueRank::Untyped(b)) => a.cmp(b),
+            _ => self.kind().kinds_before().cmp(&other.kind().kinds_before()),
         }
-        let by_number = cmp_numbers(self.number.as_ref(), other.number.as_ref());
-        by_number.then(cmp_pages(self.pages.as_ref(), other.pages.as_ref()))
-    }
-
-    // Durations by length, persons by the parts of their names, texts by their bytes.
-    fn cmp_named(&self, other: &ValueRank) -> Ordering
-        ensures { result ≡ named_order (rank_view self.now) (rank_view other.now) }
-    {
-        self.duration
-            .cmp(&other.duration)
-            .then_with(|| self.person.cmp(&other.person))
-            .then_with(|| self.fold.cmp(&other.fold))
-            .then_with(|| self.text.cmp(&other.text))
     }
 }
 
-fn date_rank(date: Date) -> ValueRank
-    ensures { rank_view result ≡ record (of_kind Kind.Date) { date = Some date } }
+// Dates as citation styles have them: mostly the years decide.
+fn cmp_dates(a: &Date, b: &Date) -> Ordering
+    ensures { result ≡ date_csl_cmp a.now b.now }
 {
-    let mut rank = ValueRank::of_kind(RankKind::Date);
-    rank.date = Some(date);
-    rank
-}
-
-fn number_rank(number: Numeric) -> ValueRank
-    ensures { rank_view result
-        ≡ record (of_kind Kind.Number) { number = Some (numeric_view number) } }
-{
-    let mut rank = ValueRank::of_kind(RankKind::Number);
-    rank.number = Some(number);
-    rank
-}
-
-fn pages_rank(pages: PageRanges) -> ValueRank
-    ensures { rank_view result ≡ record (of_kind Kind.Pages) { pages = Some (parts pages) } }
-{
-    let mut rank = ValueRank::of_kind(RankKind::Pages);
-    rank.pages = Some(pages);
-    rank
-}
-
-// A text in the place of a number or a time.
-fn untyped_rank(alloc: Global, text: &str) -> Result<ValueRank, OutOfMemory>
-    ensures { IfOk result (λ rank. rank_view rank
-        ≡ record (of_kind Kind.Untyped) { text = Some text.now }) }
-{
-    let mut rank = ValueRank::of_kind(RankKind::Untyped);
-    rank.text = Some(String::from_str(alloc, text)?);
-    Ok(rank)
-}
-
-// Dates as citation styles have them; a missing one is first.
-fn cmp_dates(a: Option<&Date>, b: Option<&Date>) -> Ordering
-    ensures { result ≡ option_cmp date_csl_cmp (option_map (λ v. v.now) a.entry)
-        (option_map (λ v. v.now) b.entry) }
-{
-    match (a, b) {
-        (None, None) => Ordering::Equal,
-        (None, Some(_)) => Ordering::Less,
-        (Some(_), None) => Ordering::Greater,
-        (Some(a), Some(b)) => a.csl_cmp(b),
-    }
-}
-
-// Numbers as citation styles have them; a missing one is first.
-fn cmp_numbers(a: Option<&Numeric>, b: Option<&Numeric>) -> Ordering
-    ensures { result ≡ option_cmp csl_order (option_map (λ v. numeric_view v.now) a.entry)
-        (option_map (λ v. numeric_view v.now) b.entry) }
-{
-    match (a, b) {
-        (None, None) => Ordering::Equal,
-        (None, Some(_)) => Ordering::Less,
-        (Some(_), None) => Ordering::Greater,
-        (Some(a), Some(b)) => a.csl_cmp(b),
-    }
-}
-
-// Pages as citation styles have them; a missing one is first.
-fn cmp_pages(a: Option<&PageRanges>, b: Option<&PageRanges>) -> Ordering
-    ensures { result ≡ option_cmp pages_order (option_map (λ v. parts v.now) a.entry)
-        (option_map (λ v. parts v.now) b.entry) }
-{
-    match (a, b) {
-        (None, None) => Ordering::Equal,
-        (None, Some(_)) => Ordering::Less,
-        (Some(_), None) => Ordering::Greater,
-        (Some(a), Some(b)) => a.csl_cmp(b),
-    }
+    let by_year = a.year.cmp(&b.year);
+    by_year.then_with(|| a.csl_cmp(b))
 }
 
 /// What each value is sorted by.
@@ -256,8 +149,36 @@ pub(crate) fn ranks_of(alloc: Global, values: &[Value]) -> Result<Vec<ValueRank>
 }
 
 /// The order of two lists of values, or the other way round; whichever way, no value comes last.
-#[tactic(auto, unfolding(crate::specs::Order::ranks_order))]
 pub(crate) fn cmp_ranks(is_reversed: bool, a: &[ValueRank], b: &[ValueRank]) -> Ordering
+    ensures { result ≡ ranks_order is_reversed (map rank_view a.now) (map rank_view b.now) }
+{
+    match (only(a), only(b)) {
+        (Some(x), Some(y)) => cmp_alone(is_reversed, x, y),
+        _ => cmp_each(is_reversed, a, b),
+    }
+}
+
+// The value that is alone in the list.
+fn only(ranks: &[ValueRank]) -> Option<&ValueRank>
+    ensures { IfSome result (λ rank. map rank_view ranks.now ≡ rank_view rank.now ∷ []) }
+{
+    match ranks {
+        [rank] => Some(rank),
+        _ => None,
+    }
+}
+
+// The order of two values, each alone in its list.
+#[tactic(auto, using(crate::proofs::Thens::then_tied), unfolding(crate::specs::Order::ranks_order))]
+fn cmp_alone(is_reversed: bool, a: &ValueRank, b: &ValueRank) -> Ordering
+    ensures { result ≡ ranks_order is_reversed (rank_view a.now ∷ []) (rank_view b.now ∷ []) }
+{
+    if is_reversed { b.cmp(a) } else { a.cmp(b) }
+}
+
+// The order of any two lists.
+#[tactic(auto, unfolding(crate::specs::Order::ranks_order))]
+fn cmp_each(is_reversed: bool, a: &[ValueRank], b: &[ValueRank]) -> Ordering
     ensures { result ≡ ranks_order is_reversed (map rank_view a.now) (map rank_view b.now) }
 {
     let by_missing = is_missing(a).cmp(&is_missing(b));

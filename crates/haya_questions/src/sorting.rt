@@ -1,11 +1,12 @@
 //! Hits in the order of the values at places.
-ghost use Rattle.std.specs.Prelude.{◌≡◌, [], IfOk, IsPermutation, IsSorted, OnOk, map};
+ghost use Rattle.std.specs.Prelude.{◌≡◌, [], ◌∷◌, IfOk, IsPermutation, IsSorted, OnOk, map};
 ghost use Rattle.std.specs.List.Sorted.{IsStable};
 ghost use Rattle.std.specs.Ordering.{on};
 ghost use Rattle.haya_questions.specs.Order.{hit_order, ranks_at};
 ghost use Rattle.haya_questions.specs.Place.{place_view};
-ghost use Rattle.haya_questions.specs.Ranked.{IsSortOf, directions, first_ranks, other_ranks};
-ghost use Rattle.haya_questions.specs.Ranked.{rank_view, ranked, ranked_order, ranks_of};
+ghost use Rattle.haya_questions.specs.Ranked.{IsSortOf, boxed_ranks, directions, first_ranks};
+ghost use Rattle.haya_questions.specs.Ranked.{other_ranks, rank_view, ranked, ranked_order};
+ghost use Rattle.haya_questions.specs.Ranked.{ranks_of};
 ghost use Rattle.haya_questions.specs.SortText.{sort_key_view};
 
 use crate::at_place::values_at;
@@ -17,11 +18,12 @@ use hayagriva::Hit;
 use std::alloc::Global;
 use std::cmp::Ordering;
 
-// A hit, and what it is sorted by at each place.
+// A hit, and what it is sorted by at the place of the first key, and at those of the others.
 #[derive(Drop)]
 struct RankedHit<'s> {
     hit: Hit<'s>,
-    ranks: Vec<Vec<ValueRank>>,
+    first: Vec<ValueRank>,
+    others: Vec<Vec<ValueRank>>,
 }
 
 /// The hits in the order of the values at the places of the keys: by the first key in which they
@@ -38,8 +40,25 @@ pub fn sort_hits<'s>(
     ensures { IfOk result (λ sorted.
         IsSortOf (hit_order (map sort_key_view keys.now)) hits.entry.items sorted.items) }
 {
-    let mut kept = ranked_hits(alloc, hits, keys)?;
-    sort_ranked(&mut kept, keys)?;
+    match keys.split_first() {
+        Some((first, others)) => sorted_hits(alloc, hits, first, others),
+        None => Ok(hits),
+    }
+}
+
+// The same by one key or more.
+fn sorted_hits<'s>(
+    alloc: Global,
+    hits: Vec<Hit<'s>>,
+    first: &SortKey,
+    others: &[SortKey],
+) -> Result<Vec<Hit<'s>>, OutOfMemory>
+    ensures { IfOk result (λ sorted.
+        IsSortOf (hit_order (map sort_key_view (first.now ∷ others.now)))
+        hits.entry.items sorted.items) }
+{
+    let mut kept = ranked_hits(alloc, hits, first, others)?;
+    sort_ranked(&mut kept, first, others)?;
     Ok(hits_of(alloc, kept)?)
 }
 
@@ -47,16 +66,21 @@ pub fn sort_hits<'s>(
 fn ranked_hits<'s>(
     alloc: Global,
     hits: Vec<Hit<'s>>,
-    keys: &[SortKey],
-) -> Result<Vec<RankedHit<'s>>, OutOfMemory>
-    ensures hits { IfOk result (λ kept. map (λ k. k.hit) kept.items ≡ hits.entry.items) }
-    ensures ranks { IfOk result (λ kept. map ranks_of kept.items
-        ≡ map (ranked (map sort_key_view keys.now)) hits.entry.items) }
+    first: &SortKey,
+    others: &[SortKey],
+) -> Result<Vec<Box<RankedHit<'s>>>, OutOfMemory>
+    ensures hits { IfOk result (λ kept. map (λ k. k.value.hit) kept.items ≡ hits.entry.items) }
+    ensures ranks { IfOk result (λ kept. map boxed_ranks kept.items
+        ≡ map (ranked (map sort_key_view (first.now ∷ others.now))) hits.entry.items) }
 {
     let mut kept = Vec::with_capacity(alloc, hits.len())?;
     'hits: for hit in hits {
-        let ranks = hit_ranks(alloc, &hit, keys)?;
-        kept.push(RankedHit { hit, ranks })?;
+        let row = RankedHit {
+            first: ranks_at(alloc, &hit, &first.place)?,
+            others: hit_ranks(alloc, &hit, others)?,
+            hit,
+        };
+        kept.push(Box::new(alloc, row)?)?;
     }
     Ok(kept)
 }
@@ -83,19 +107,35 @@ fn ranks_at(alloc: Global, hit: &Hit, place: &Place) -> Result<Vec<ValueRank>, O
 }
 
 // Sorts hits by what is kept beside them.
-fn sort_ranked(kept: &mut Vec<RankedHit>, keys: &[SortKey]) -> Result<(), OutOfMemory>
+fn sort_ranked(
+    kept: &mut Vec<Box<RankedHit>>,
+    first: &SortKey,
+    others: &[SortKey],
+) -> Result<(), OutOfMemory>
     ensures same { IsPermutation kept.old.items kept.new.items }
-    ensures sorted { OnOk result
-        (IsSorted (on ranks_of (ranked_order (directions keys.now))) kept.new.items) }
-    ensures stable { IsStable (on ranks_of (ranked_order (directions keys.now)))
-        kept.old.items kept.new.items }
+    ensures sorted { let ways = directions (first.now ∷ others.now) in
+        OnOk result (IsSorted (on boxed_ranks (ranked_order ways)) kept.new.items) }
+    ensures stable { let ways = directions (first.now ∷ others.now) in
+        IsStable (on boxed_ranks (ranked_order ways)) kept.old.items kept.new.items }
 {
-    kept.sort_by(|a, b| cmp_kept(keys, a.ranks.as_slice(), b.ranks.as_slice()))?;
+    kept.sort_by(|a, b| cmp_kept(first, others, a.as_ref(), b.as_ref()))?;
     Ok(())
 }
 
+// By the first key, and then by the others.
+fn cmp_kept(first: &SortKey, others: &[SortKey], a: &RankedHit, b: &RankedHit) -> Ordering
+    ensures { result
+        ≡ on ranks_of (ranked_order (directions (first.now ∷ others.now))) a.now b.now }
+{
+    let by_first = cmp_ranks(first.is_reversed, a.first.as_slice(), b.first.as_slice());
+    if by_first.is_ne() {
+        return by_first;
+    }
+    cmp_others(others, a.others.as_slice(), b.others.as_slice())
+}
+
 // By the first key in which they differ.
-fn cmp_kept(keys: &[SortKey], a: &[Vec<ValueRank>], b: &[Vec<ValueRank>]) -> Ordering
+fn cmp_others(keys: &[SortKey], a: &[Vec<ValueRank>], b: &[Vec<ValueRank>]) -> Ordering
     ensures { result ≡ ranked_order (directions keys.now)
         (map (λ ranks. map rank_view ranks.items) a.now)
         (map (λ ranks. map rank_view ranks.items) b.now) }
@@ -135,12 +175,12 @@ fn no_ranks<'k>() -> &'k [ValueRank]
 }
 
 // The hits alone.
-fn hits_of<'s>(alloc: Global, kept: Vec<RankedHit<'s>>) -> Result<Vec<Hit<'s>>, OutOfMemory>
-    ensures { IfOk result (λ hits. hits.items ≡ map (λ k. k.hit) kept.entry.items) }
+fn hits_of<'s>(alloc: Global, kept: Vec<Box<RankedHit<'s>>>) -> Result<Vec<Hit<'s>>, OutOfMemory>
+    ensures { IfOk result (λ hits. hits.items ≡ map (λ k. k.value.hit) kept.entry.items) }
 {
     let mut hits = Vec::with_capacity(alloc, kept.len())?;
     'kept: for one in kept {
-        let RankedHit { hit, ranks: _ } = one;
+        let RankedHit { hit, .. } = Box::into_inner(one);
         hits.push(hit)?;
     }
     Ok(hits)

@@ -7,6 +7,10 @@ use Rattle.haya_yaml_text.specs.Signs.{begins_with, blanks, is_end, is_gap, skip
 abbrev pub Lines : Type 0
 Lines = List (List ℕ)
 
+-- the sign that ends a line
+abbrev pub is_feed : ℕ → Bool
+is_feed c = c == 10
+
 -- the bytes of texts
 abbrev pub texts : List (Bor (List ℕ)) → Lines
 texts = map (λ text. text.now)

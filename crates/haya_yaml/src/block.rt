@@ -13,7 +13,7 @@ ghost use Rattle.haya_yaml.specs.Block.{node, node_with, value};
 ghost use Rattle.haya_yaml.specs.Line.{begins_dash, is_dash, texts};
 ghost use Rattle.haya_yaml.specs.Saying.{said, said_items, said_members};
 
-use crate::line::{begins_dash, belongs, fault, is_dash, rest_of, skipped};
+use crate::line::{begins_dash, belongs, fault, is_dash, skipped, split_indent};
 use crate::value::write_value;
 use haya_yaml_text::fault::{FaultKind, ReadError, Refusal};
 use haya_yaml_text::key::{PlainKey, plain_key, read_key};
@@ -143,15 +143,8 @@ fn write_below(
         }
         Some((line, more)) => {
             let number = head.saturating_add(count).saturating_add(1);
-            write_node(
-                out,
-                depth,
-                edge,
-                blanks(false, line),
-                number,
-                rest_of(line),
-                more,
-            )
+            let (indent, text) = split_indent(line);
+            write_node(out, depth, edge, indent, number, text, more)
         }
     }
 }
@@ -313,8 +306,8 @@ fn write_next_item<'l, 'a>(
     ensures refused { (f : Refusal) → result ≡ Err (ReadError.Refused f)
         → items_of depth column (line.now ∷ texts lines.now) ≡ None }
 {
-    let text = rest_of(line);
-    if blanks(false, line) != column || !is_dash(text) {
+    let (indent, text) = split_indent(line);
+    if indent != column || !is_dash(text) {
         return Err(no_item(number, text));
     }
     write_one_item(out, depth, column, number, text, lines)
@@ -449,8 +442,8 @@ fn write_next_member<'l, 'a>(
     ensures refused { (f : Refusal) → result ≡ Err (ReadError.Refused f)
         → members_of depth column (line.now ∷ texts lines.now) ≡ None }
 {
-    let text = rest_of(line);
-    if blanks(false, line) != column {
+    let (indent, text) = split_indent(line);
+    if indent != column {
         return Err(no_member(false, number, text));
     }
     let mut read = String::new(out.alloc);

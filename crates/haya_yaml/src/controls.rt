@@ -8,8 +8,8 @@ ghost use Rattle.haya_yaml.specs.Documents.{is_c1, is_control, is_printable, is_
 use haya_yaml_text::white::begins_with;
 use std::simd::prelude::*;
 
-// How many bytes are looked at together.
-const LANES: usize = 32;
+/// How many bytes are looked at together.
+pub(crate) const LANES: usize = 32;
 
 fn is_two(first: u8, second: u8, bytes: &[u8]) -> bool
     ensures { result ≡ is_two first second bytes.now }
@@ -59,9 +59,9 @@ fn doubtful(bytes: &[u8]) -> u64
         | lanes.simd_eq(u8x32::splat(239))).to_bitmask()
 }
 
-// How many bits come before the first that is set, or `LANES` where none is.
+/// How many bits come before the first that is set, or `LANES` where none is.
 #[inline(always)]
-fn first_mark(marks: u64) -> usize
+pub(crate) fn first_mark(marks: u64) -> usize
     ensures { result ≡ if marks == 0 then LANES else trailing_zeros w64 marks }
 {
     if marks == 0 {

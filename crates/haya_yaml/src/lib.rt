@@ -10,6 +10,7 @@ mod block;
 mod controls;
 mod document;
 pub mod error;
+mod feeds;
 pub mod laws;
 mod line;
 pub mod literal;

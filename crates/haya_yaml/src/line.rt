@@ -1,5 +1,5 @@
 //! Lines, and what begins them.
-ghost use Rattle.std.specs.Prelude.{◌≡◌, ◌≤◌, ◌<◌, ◌++◌, length, drop};
+ghost use Rattle.std.specs.Prelude.{◌≡◌, ◌≤◌, ◌<◌, ◌+◌, ◌++◌, length, drop};
 ghost use Rattle.std.specs.Prelude.{string_bytes, IfOk, OnOk, Option, ℕ};
 ghost use Rattle.haya_yaml.specs.Block.{Node, below, from_first};
 ghost use Rattle.haya_yaml.specs.Line.{are_deeper, are_skipped, begins_dash, begins_letter};
@@ -11,11 +11,21 @@ use haya_yaml_text::fault::{FaultKind, ReadError, Refusal};
 use haya_yaml_text::white::{begins_with, blanks, is_end, is_gap, skip, split_blanks};
 use std::alloc::{AllocError, Global};
 
-/// What follows the spaces that begin a line.
-pub(crate) fn rest_of(line: &str) -> &str
+// What follows the spaces that begin a line.
+fn rest_of(line: &str) -> &str
     ensures { result.now ≡ rest_of line.now }
 {
     skip(false, line)
+}
+
+/// How many spaces begin a line, and what follows them.
+pub(crate) fn split_indent(line: &str) -> (usize, &str)
+    ensures indent { result.0 ≡ indent line.now }
+    ensures rest { result.1.now ≡ rest_of line.now }
+    ensures len { result.0 + length result.1.now ≡ length line.now }
+{
+    let (spaces, rest) = split_blanks(false, line);
+    (spaces.len(), rest)
 }
 
 /// Whether nothing stands on a line, or only a comment.

@@ -2,7 +2,6 @@
 ghost use Rattle.std.specs.Prelude.{◌≡◌, ◌⊎◌, [], Err, IfOk, MatchOption, Ok, OnOk, Some, None};
 ghost use Rattle.std.specs.Prelude.{false, true};
 ghost use Rattle.std.specs.Str.{IsUtf8};
-ghost use Rattle.std.specs.Str.Lines.{lines};
 ghost use Rattle.json.specs.Json.{Json, document};
 ghost use Rattle.json.specs.declared.error.Error.TheVariants as JsonError;
 ghost use Rattle.json.specs.Lex.{tokens};
@@ -19,6 +18,7 @@ ghost use Rattle.haya_yaml.specs.Says.{Strictness};
 use crate::controls::control_character;
 use crate::document::{find_document, write_document};
 use crate::error::{Fault, YamlError, in_lines};
+use crate::feeds::{ended, lines_of};
 use crate::names::second_key;
 use crate::value::{last, walk_to};
 use haya_yaml_text::fault::{FaultKind, ReadError, Refusal};
@@ -40,29 +40,6 @@ fn unmarked(text: &str) -> &str
         }
         None => text,
     }
-}
-
-// A text without the carriage return at its end.
-fn ended(text: &str) -> &str
-    ensures { result.now ≡ ended text.now }
-{
-    let bytes = text.as_bytes();
-    if bytes.is_empty() || bytes[bytes.len() - 1] != b'\r' {
-        return text;
-    }
-    let (front, _) = text.split_at(bytes.len() - 1);
-    front
-}
-
-// The lines of a text.
-fn lines_of(alloc: Global, text: &str) -> Result<Vec<&str>, AllocError>
-    ensures lines { IfOk result (λ found. texts found.items ≡ lines text.now) }
-{
-    let mut found = Vec::new(alloc);
-    'lines: for line in text.lines() {
-        found.push(line)?;
-    }
-    Ok(found)
 }
 
 // Whether an error says of a text that it isn't JSON in which no name comes twice: then it is

@@ -1,5 +1,6 @@
 pub mod Cuts
 pub mod FlowSteps
+pub mod Numbers
 pub mod Passes
 pub mod Places
 pub mod Plain

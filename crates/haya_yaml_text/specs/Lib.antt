@@ -4,6 +4,7 @@ pub mod Flow
 pub mod FlowTurns
 pub mod Keys
 pub mod Lanes
+pub mod Numbers
 pub mod Resolved
 pub mod Scalars
 pub mod Signs

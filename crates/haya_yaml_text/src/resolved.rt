@@ -1,5 +1,6 @@
 //! The value of a plain scalar.
 ghost use Rattle.std.specs.Prelude.{◌≡◌, ◌≢◌, OnOk, Err};
+ghost use Rattle.haya_yaml_text.specs.Numbers.{begins_number};
 ghost use Rattle.haya_yaml_text.specs.Resolved.{is_false, is_null, is_number, is_true, resolve};
 ghost use Rattle.haya_yaml_text.specs.Writing.{KeepsBefore, WritesValue};
 
@@ -24,9 +25,22 @@ fn is_false(text: &str) -> bool
     text == "false" || text == "False" || text == "FALSE"
 }
 
+// Whether a number may begin here.
+fn begins_number(bytes: &[u8]) -> bool
+    ensures { result ≡ begins_number bytes.now }
+{
+    match bytes {
+        [] => false,
+        [byte, ..] => *byte == b'-' || (b'0' <= *byte && *byte <= b'9'),
+    }
+}
+
 fn is_number(text: &str) -> bool
     ensures { result ≡ is_number text.now }
 {
+    if !begins_number(text.as_bytes()) {
+        return false;
+    }
     json::is_number(text)
 }
 

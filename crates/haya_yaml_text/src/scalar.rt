@@ -185,6 +185,9 @@ fn sure_length(bytes: &[u8]) -> usize
             return count;
         }
     }
+    'signs: while goes_on(Style::Plain, &bytes[count..]) {
+        count += 1;
+    }
     count
 }
 

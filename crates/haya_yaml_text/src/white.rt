@@ -1,11 +1,11 @@
 //! White space, and what begins behind it.
-ghost use Rattle.std.specs.Prelude.{◌≡◌, ◌+◌, ◌<◌, ◌≤◌, ◌^◌};
-ghost use Rattle.std.specs.Prelude.{drop, length, take, slice_index, false};
+ghost use Rattle.std.specs.Prelude.{◌≡◌, ◌==◌, ◌||◌, ◌+◌, ◌<◌, ◌≤◌, ◌^◌};
+ghost use Rattle.std.specs.Prelude.{drop, length, not, take, slice_index, false};
 ghost use Rattle.std.specs.Str.{IsCharBoundary};
 ghost use Rattle.haya_yaml_text.specs.Signs.{begins_plain, begins_with, blanks, ends_key, is_blank};
 ghost use Rattle.haya_yaml_text.specs.Signs.{is_bracket, is_empty, is_end, is_flow_sign, is_gap};
-ghost use Rattle.haya_yaml_text.specs.Signs.{is_hash, is_indicator, is_white, line_end};
-ghost use Rattle.haya_yaml_text.specs.Signs.{passed, passes, skip};
+ghost use Rattle.haya_yaml_text.specs.Signs.{is_half_indicator, is_hash, is_indicator, is_white};
+ghost use Rattle.haya_yaml_text.specs.Signs.{line_end, passed, passes, skip};
 
 fn is_blank(tabs: bool, byte: u8) -> bool
     ensures { result ≡ is_blank tabs byte }
@@ -146,6 +146,23 @@ fn is_indicator(byte: u8) -> bool
         )
 }
 
+// Whether the sign may begin a plain scalar, some of them only where no gap follows.
+fn begins_scalar(byte: u8) -> bool
+    ensures { result ≡ not (is_white byte || (byte == 10) || is_indicator byte) }
+{
+    if matches!(byte, b'A'..=b'Z' | b'a'..=b'z') {
+        return true;
+    }
+    !(is_white(byte) || byte == b'\n' || is_indicator(byte))
+}
+
+// Whether the sign may begin a plain scalar only where no gap follows.
+fn is_half_indicator(byte: u8) -> bool
+    ensures { result ≡ is_half_indicator byte }
+{
+    matches!(byte, b'-' | b'?' | b':')
+}
+
 /// Whether a plain scalar may begin here, in brackets or not.
 pub fn begins_plain(flow: bool, bytes: &[u8]) -> bool
     ensures { result ≡ begins_plain flow bytes.now }
@@ -153,11 +170,10 @@ pub fn begins_plain(flow: bool, bytes: &[u8]) -> bool
     match bytes {
         [] => false,
         [byte, rest @ ..] => {
-            !(is_white(*byte)
-                || *byte == b'\n'
-                || is_indicator(*byte)
-                || (matches!(*byte, b'-' | b'?' | b':')
-                    && (is_gap(rest) || is_bracket(flow, rest))))
+            if is_half_indicator(*byte) && (is_gap(rest) || is_bracket(flow, rest)) {
+                return false;
+            }
+            begins_scalar(*byte)
         }
     }
 }

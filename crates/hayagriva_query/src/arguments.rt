@@ -28,6 +28,3 @@ fn fault_of(error: &io::Error) -> RunError
         _ => RunError::Usage,
     }
 }
-
-#[cfg(test)]
-mod tests;

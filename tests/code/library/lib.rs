@@ -1,5 +1,4 @@
-//! The calls of `hayagriva` and of `haya_run` at worked rows, as a caller sees them. They have a
-//! crate of their own, so that the gate doesn't prove another crate once more with them.
+//! The calls of `hayagriva` and of `haya_run` at worked rows, as a caller sees them.
 
 mod apply;
 mod assignment;

@@ -1,5 +1,5 @@
-//! A failed allocation ends a test, and what is owned is let go by a call: so no test has a path on
-//! which it has to drop what a run leaves, and its proof stays short.
+//! What a run takes, prints and leaves, with readers and writers that fail. A failed allocation ends
+//! a test.
 mod failing;
 mod faults;
 

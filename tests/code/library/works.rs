@@ -1,6 +1,5 @@
 //! Works of literature for tests: short ways to make entries, and selectors to ask of them. An
-//! allocation that fails ends a test, and what a test owns is dropped by a call: so no test has a
-//! path on which it has to drop entries, which is expensive to prove.
+//! allocation that fails ends a test.
 use hayagriva::types::{Date, EntryType, QualifiedUrl};
 use hayagriva::{Entry, Selector};
 use std::process::Abort;

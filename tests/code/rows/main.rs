@@ -1,10 +1,13 @@
 //! Answers rows of tests: the word says of what, and each row of standard input is answered by a line
-//! or two. A row of values is a line, and any other ends before the next U+001E.
+//! or two. A row of values is a line, and any other ends before the next U+001E. `refused` makes calls
+//! whose requests for memory are refused, and `calls`, which `tests/try.sh` writes, runs tests.
 #![tactic(auto)]
 
 mod bibtex;
 mod bibtex_library;
+mod calls;
 mod questions;
+mod refused;
 mod values;
 mod yaml;
 
@@ -24,6 +27,14 @@ fn main(rt: HostRuntime) -> ExitCode {
         "bibtex" => bibtex::main(rt),
         "bibtex-library" => bibtex_library::main(rt),
         "yaml" => yaml::main(rt),
+        "refused" => {
+            let name = words.next();
+            refused::main(&rt, name.as_ref().map(|name| name.as_str()))
+        }
+        "calls" => {
+            let name = words.next();
+            calls::main(&rt, name.as_ref().map(|name| name.as_str()))
+        }
         _ => ExitCode::from(2),
     }
 }

@@ -1,5 +1,4 @@
-//! The calls of the crates below the library at worked rows, as a caller sees them. They have a
-//! crate of their own, so that the gate doesn't prove those crates once more with them.
+//! The calls of the crates below the library at worked rows, as a caller sees them.
 
 mod copies;
 mod entry;

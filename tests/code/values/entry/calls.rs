@@ -1,6 +1,4 @@
-//! What each call gives back where there is memory. An allocation that fails ends a test, and each
-//! entry is dropped by a call: so no test has a path on which it has to drop entries, which is
-//! expensive to prove.
+//! What each call gives back where there is memory. An allocation that fails ends a test.
 use super::lists::one;
 use crate::copies::has_copy;
 use haya_entry::{Entry, EntryType, SerialNumber};

@@ -1,6 +1,4 @@
-//! What each call gives back where there is memory. A failed allocation ends a test, and what is
-//! owned is let go by a call: so no test has a path on which it has to drop texts, and its proof
-//! stays short.
+//! What each call gives back where there is memory. A failed allocation ends a test.
 ghost use Rattle.std.specs.Prelude.{◌≡◌, option_map, IfOk};
 
 use crate::shown::{ends_at_a_fault, is_shown};

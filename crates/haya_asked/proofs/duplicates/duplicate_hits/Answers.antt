@@ -12,7 +12,7 @@ use Rattle.haya_questions.specs.Ranked.{IsSortOf}
 use Rattle.haya_asked.specs.Placed.{is_at, is_counted}
 use Rattle.haya_asked.proofs.CountLemmas.{IsPlaced, shared}
 use Rattle.haya_asked.proofs.ShareLemmas.{position-below}
-use Rattle.haya_asked.proofs.SortLemmas.{sort_of}
+use Rattle.haya_questions.proofs.Sorts.{sort_of}
 use Rattle.haya_asked.proofs.duplicates.duplicate_hits.Goals as goal
 
 pub counts_of-requires : goal.counts_of-requires

@@ -8,3 +8,9 @@ invariant-lanes l = (l.count ≤ length l.bytes) × (plain_length Plain l.bytes 
 
 abbrev pub decreases-lanes : goal.decreases-lanes
 decreases-lanes l = length l.bytes - l.count
+
+abbrev pub invariant-signs : goal.invariant-signs
+invariant-signs l = (l.count ≤ length l.bytes) × (plain_length Plain l.bytes ≡ l.count + plain_length Plain (drop l.count l.bytes))
+
+abbrev pub decreases-signs : goal.decreases-signs
+decreases-signs l = length l.bytes - l.count

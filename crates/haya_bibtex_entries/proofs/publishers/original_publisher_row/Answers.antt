@@ -1,5 +1,0 @@
-use Rattle.haya_bibtex_entries.proofs.publishers.original_publisher_row.Goals as goal
-
--- the texts are those of their fields
-pub returns : goal.returns
-returns c = rw (c.text_of-name.ensures, c.text_of-place.ensures) at c.publisher_row.ensures

@@ -1,5 +1,0 @@
-use Rattle.haya_bibtex_entries.proofs.titles.series_title_row.Goals as goal
-
--- the texts are those of their fields
-pub returns : goal.returns
-returns c = rw (c.text_of-series.ensures, c.text_of-short.ensures) at c.series_row.ensures
