@@ -76,7 +76,10 @@ static bool put_entry(const haya_library *library, const haya_entry *entry, cons
     do code = haya_entry_text(library, entry, name, strlen(name), text->at, text->room, &text->len);
     while (code == HAYA_OK && !has_room(text));
     if (code != HAYA_OK) return false;
-    printf("\t%zu\t", haya_entry_parents(library, entry));
+    size_t parents = haya_entry_parents(library, entry);
+    haya_entry last;
+    if (parents > 0 && haya_entry_parent(library, entry, parents - 1, &last) != HAYA_OK) return false;
+    printf("\t%zu\t", parents);
     put(text);
     return true;
 }

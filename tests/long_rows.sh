@@ -72,4 +72,13 @@ largest_rows() {
         "$(seq -s $'\t' 0 49999)"
     printf 'selector\tbook%s\t=>\t?\t-\n' "$(times ' | web' 300000)"
     printf 'apply\t%sbook\t0\\tx\\tbook\\n\t=>\t?\tyes\t\n' "$(times 'web | ' 300000)"
+    text=$(times 'sixteen letters.' 130000)
+    printf 'pushed-text\t%s\t=>\t%s%sé\n' "$text" "$text" "$text"
+    printf 'serials\t%s\t=>\tyes\tyes\tyes\tyes\tyes\tyes\n' "$text"
+    printf 'with-role\t0\\tx\\tbook%s\t=>\t80000\n' "$(times '\\taffiliated=translator:Roe' 80000)"
+    printf 'variant\t%svariant=british\t=>\ten-GB\n' "$(times 'spelling=new, ' 130000)"
+    printf 'title-in-formats\t%s\t=>\tyes\tyes\tyes\n' "$text"
+    printf 'title-in-json\t%s\t=>\t{"k":{"type":"book","title":"%s"}}\t%s%s%s\tyes\n' "$text" "$text" \
+        '{\n  "k": {\n    "type": "book",\n    "title": "' "$text" '"\n  }\n}'
+    printf 'name-twice\t%s\t=>\tduplicate key\t2\t1\n' "$text"
 }

@@ -1,6 +1,7 @@
 //! Answers rows of values: for each line of standard input, a kind and its words with a tab between
 //! two, it prints a line of columns, which `tests/values` compares with those of `tests/rows`.
 
+mod alone;
 mod entries;
 mod fields;
 mod numbers;
@@ -34,6 +35,8 @@ fn put_row(alloc: Global, row: &Row, out: &mut String) -> Result<(), RowError> {
             entries::put(alloc, row, out)
         }
         "selector" | "apply" | "query" => selectors::put(alloc, row, out),
+        "pushed-text" | "serials" | "with-role" | "variant" => alone::put(alloc, row, out),
+        "title-in-json" | "title-in-formats" | "name-twice" => alone::put(alloc, row, out),
         _ => Err(RowError::Malformed),
     }
 }
