@@ -423,15 +423,168 @@ static void written(void) {
     haya_library_free(library);
 }
 
+/* Whether the row of a number has this name and count, or, where the name is NULL, isn't there. */
+static bool is_note(const haya_library *library, size_t number, const char *name, uint64_t often) {
+    char room[32];
+    size_t len = 7;
+    uint64_t count = 77;
+    uint32_t code = haya_library_note(library, number, room, sizeof room, &len, &count);
+    return name == NULL ? code == HAYA_NO_FIELD && len == 0 && count == 77 : code == HAYA_OK && shows(room, len, name) && count == often;
+}
+
+/* What is passed over of a text in each format. */
+static void notes(void) {
+    haya_library *library = library_of(
+        "{\"a\": {\"type\": \"book\", \"titel\": 1, \"jahr\": 2}, \"b\": {\"type\": \"book\", \"titel\": 3}}", HAYA_JSON);
+    char room[4] = "....";
+    size_t len = 7;
+    uint64_t count = 7;
+    is(haya_library_notes(library) == 2 && is_note(library, 0, "titel", 2) && is_note(library, 1, "jahr", 1), "rows in their order");
+    is(is_note(library, 2, NULL, 0) && is_note(library, SIZE_MAX, NULL, 0), "no more rows");
+    is(haya_library_note(library, 0, room, 2, &len, &count) == HAYA_OK && len == 5 && count == 2 && memcmp(room, "ti..", 4) == 0, "a name is cut");
+    haya_library_free(library);
+    library = library_of("[{\"id\": \"a\", \"type\": \"book\", \"source\": \"x\"}, {\"id\": \"b\", \"type\": \"book\", \"source\": \"y\"}]", HAYA_CSL);
+    is(haya_library_notes(library) == 1 && is_note(library, 0, "source", 2), "rows of CSL-JSON");
+    haya_library_free(library);
+    library = library_of("{\"key\": \"a\", \"entry\": {\"type\": \"book\", \"titel\": 1}}\n", HAYA_JSON_LINES);
+    is(haya_library_notes(library) == 1 && is_note(library, 0, "titel", 1), "rows of lines of JSON");
+    haya_library_free(library);
+    library = library_of("a:\n  type: book\n  titel: x\n", HAYA_YAML);
+    is(haya_library_notes(library) == 1 && is_note(library, 0, "titel", 1), "rows of YAML");
+    haya_library_free(library);
+    library = library_of("@book{a, titel = {x}}", HAYA_BIBTEX);
+    is(haya_library_notes(library) == 1 && is_note(library, 0, "titel", 1), "rows of a .bib file");
+    haya_library_free(library);
+    library = library_of("0\ta\tbook\n0\ta\tbook\n", HAYA_LINES);
+    is(haya_library_notes(library) == 0 && is_note(library, 0, NULL, 0), "no rows of lines");
+    haya_library_free(library);
+    haya_selector *selector = selector_of("*");
+    is(haya_library_notes((haya_library *)selector) == 0 && is_note((haya_library *)selector, 0, NULL, 0), "nor of a selector");
+    haya_selector_free(selector);
+}
+
+/* Pushes a text that is refused; the library has the entries a, b and c still, and one row. */
+static void not_pushed(haya_library *library, const char *text, size_t len, uint32_t code, const char *pointer, const char *reason) {
+    haya_fault fault = HAYA_NO_FAULT;
+    haya_entry c = {7, 7};
+    is(haya_library_push(library, text, len, &fault) == code && fault.code == code, text);
+    is(says(fault.pointer, pointer) && says(fault.reason, reason), reason);
+    is(haya_library_len(library) == 3 && haya_library_get(library, TEXT("c"), &c) == HAYA_OK && c.place == 2 && haya_library_notes(library) == 1, text);
+    haya_fault_free(&fault);
+}
+
+/* A library that is changed. */
+static void changes(void) {
+    haya_library *library = library_of("0\ta\tbook\ttitle=A\n0\tb\tbook\ttitle=B\n1\tp\tblog\n", HAYA_LINES);
+    haya_selector *selector = selector_of("* > x:web");
+    haya_fault fault = HAYA_NO_FAULT;
+    haya_entry entry = {7, 7}, hit = {7, 7}, bound[1];
+    size_t place = 0;
+    is(haya_library_push(library, TEXT("{\"c\": {\"type\": \"article\", \"title\": \"C\", \"titel\": 1, \"parent\": {\"type\": \"web\"}}}"), &fault) == HAYA_OK
+           && fault.code == HAYA_OK, "an entry is pushed");
+    is(haya_library_len(library) == 3 && haya_library_get(library, TEXT("c"), &entry) == HAYA_OK && entry.place == 2 && entry.step == 0, "it is the last");
+    field(library, entry, "title", "C");
+    is(haya_library_notes(library) == 1 && is_note(library, 0, "titel", 1), "what was passed over of it");
+    is(haya_library_next(library, selector, &place, &hit, bound, 1) == HAYA_OK && hit.place == 2 && bound[0].step == 1, "it is a hit");
+    not_pushed(library, TEXT("{}"), HAYA_NOT_ONE_ENTRY, "", "");
+    not_pushed(library, TEXT("{\"d\": {\"type\": \"book\"}, \"e\": {\"type\": \"book\"}}"), HAYA_NOT_ONE_ENTRY, "", "");
+    not_pushed(library, TEXT("{\"d\": {\"type\": \"book\"}, \"d\": {\"type\": \"book\"}}"), HAYA_NAME_TWICE, "", "line 1, column 25: duplicate member");
+    not_pushed(library, TEXT("{\"d\": 1}"), HAYA_REFUSED_VALUE, "/d", "/d: expected an object");
+    not_pushed(library, TEXT("[]"), HAYA_REFUSED_VALUE, "", ": expected an object");
+    not_pushed(library, TEXT(""), HAYA_NOT_JSON, "", "line 1, column 1: invalid JSON");
+    not_pushed(library, TEXT("\xff"), HAYA_NOT_TEXT, "", "");
+    is(haya_library_push(library, TEXT("{\"b\": {\"type\": \"report\", \"title\": \"D\"}}"), &fault) == HAYA_OK, "an entry with a key that is there");
+    is(haya_library_len(library) == 3 && haya_library_get(library, TEXT("b"), &entry) == HAYA_OK && entry.place == 1, "takes its place");
+    field(library, entry, "title", "D");
+    is(haya_entry_parents(library, &entry) == 0 && haya_library_notes(library) == 0, "with no parent, and no row");
+    is(haya_library_remove(library, TEXT("d")) == HAYA_NO_ENTRY && haya_library_remove(library, TEXT("\xff")) == HAYA_NO_ENTRY, "no entry is removed");
+    is(haya_library_remove(library, TEXT("a")) == HAYA_OK && haya_library_len(library) == 2, "an entry is removed");
+    is(has_key(library, (haya_entry){0, 0}, "b") && has_key(library, (haya_entry){1, 0}, "c"), "the others move up");
+    is(haya_library_get(library, TEXT("a"), &entry) == HAYA_NO_ENTRY && haya_library_remove(library, TEXT("a")) == HAYA_NO_ENTRY, "it isn't there");
+    is(haya_library_remove(library, TEXT("c")) == HAYA_OK && haya_library_remove(library, TEXT("b")) == HAYA_OK && haya_library_len(library) == 0, "none are left");
+    is(haya_library_push(library, TEXT("{\"a\": {\"type\": \"book\"}}"), &fault) == HAYA_OK && haya_library_len(library) == 1, "it is filled again");
+    is(haya_library_push((haya_library *)selector, TEXT("{\"a\": {\"type\": \"book\"}}"), &fault) == HAYA_WRONG_KIND && fault.code == HAYA_WRONG_KIND
+           && fault.words == NULL && haya_selector_names(selector) == 1, "a selector has no entries");
+    is(haya_library_remove((haya_library *)selector, TEXT("a")) == HAYA_WRONG_KIND && haya_selector_names(selector) == 1, "nor are any removed");
+    haya_fault_free(&fault);
+    haya_selector_free(selector);
+    haya_library_free(library);
+}
+
+/* Whether a part of a person has these words, or, where they are NULL, the code is this. */
+static bool is_part(const haya_library *library, haya_entry entry, const char *name, size_t place, uint32_t part, const char *words, uint32_t code) {
+    char room[64];
+    size_t len = 7;
+    uint32_t got = haya_entry_person(library, &entry, TEXT(name), place, part, room, sizeof room, &len);
+    return got == code && (words == NULL ? len == 0 : shows(room, len, words));
+}
+
+static bool is_date(const haya_library *library, haya_entry entry, const char *name, haya_date wanted) {
+    haya_date date = {7, 7, 7, 7, true};
+    return haya_entry_date(library, &entry, TEXT(name), &date) == HAYA_OK && date.year == wanted.year && date.month == wanted.month
+           && date.day == wanted.day && date.season == wanted.season && date.approximate == wanted.approximate;
+}
+
+static bool is_number(const haya_library *library, haya_entry entry, const char *name, uint32_t code, int32_t wanted) {
+    int32_t number = 77;
+    return haya_entry_number(library, &entry, TEXT(name), &number) == code && number == wanted;
+}
+
+static bool are_pages(const haya_library *library, haya_entry entry, size_t place, uint32_t code, int32_t first, int32_t last) {
+    haya_pages pages = {77, 77};
+    return haya_entry_page_range(library, &entry, place, &pages) == code && pages.first == first && pages.last == last;
+}
+
+/* Persons, dates and numbers in parts. */
+static void values(void) {
+    haya_library *library = library_of(
+        "{\"a\": {\"type\": \"book\", \"author\": [\"van der Kooy, Jr., Ruben\", {\"name\": \"Lee\", \"alias\": \"L\"}], \"editor\": \"UNESCO\","
+        " \"affiliated\": [{\"role\": \"translator\", \"names\": [\"A, B\", \"C, D\"]}, {\"role\": \"illustrator\", \"names\": \"E, F\"}],"
+        " \"date\": \"~1987-07-05\", \"url\": {\"value\": \"https://a.org\", \"date\": \"2020-02\"}, \"volume\": 9, \"issue\": \"3a\","
+        " \"edition\": \"second\", \"page-total\": 120, \"page-range\": \"1-3, 7 & 10a-12\"}, \"b\": {\"type\": \"book\", \"date\": -44}}", HAYA_JSON);
+    const haya_entry a = {0, 0}, b = {1, 0}, no = {2, 0};
+    char room[4] = "....";
+    size_t len = 7;
+    is(haya_entry_persons(library, &a, TEXT("author")) == 2 && haya_entry_persons(library, &a, TEXT("editor")) == 1
+           && haya_entry_persons(library, &a, TEXT("affiliated")) == 3, "how many persons");
+    is(haya_entry_persons(library, &b, TEXT("author")) == 0 && haya_entry_persons(library, &a, TEXT("title")) == 0
+           && haya_entry_persons(library, &a, TEXT("\xff")) == 0 && haya_entry_persons(library, &no, TEXT("author")) == 0, "no persons");
+    is(is_part(library, a, "author", 0, HAYA_FAMILY, "Kooy", HAYA_OK) && is_part(library, a, "author", 0, HAYA_GIVEN, "Ruben", HAYA_OK)
+           && is_part(library, a, "author", 0, HAYA_PREFIX, "van der", HAYA_OK) && is_part(library, a, "author", 0, HAYA_SUFFIX, "Jr.", HAYA_OK), "parts");
+    is(is_part(library, a, "author", 0, HAYA_ALIAS, NULL, HAYA_NO_PART) && is_part(library, a, "author", 0, HAYA_ROLE, NULL, HAYA_NO_PART)
+           && is_part(library, a, "author", 0, 6, NULL, HAYA_NO_PART) && is_part(library, a, "author", 1, HAYA_GIVEN, NULL, HAYA_NO_PART), "no such parts");
+    is(is_part(library, a, "author", 1, HAYA_ALIAS, "L", HAYA_OK) && is_part(library, a, "editor", 0, HAYA_FAMILY, "UNESCO", HAYA_OK), "an alias");
+    is(is_part(library, a, "affiliated", 1, HAYA_FAMILY, "C", HAYA_OK) && is_part(library, a, "affiliated", 1, HAYA_ROLE, "translator", HAYA_OK)
+           && is_part(library, a, "affiliated", 2, HAYA_GIVEN, "F", HAYA_OK) && is_part(library, a, "affiliated", 2, HAYA_ROLE, "illustrator", HAYA_OK), "roles");
+    is(is_part(library, a, "author", 2, HAYA_FAMILY, NULL, HAYA_NO_FIELD) && is_part(library, a, "affiliated", 3, HAYA_FAMILY, NULL, HAYA_NO_FIELD)
+           && is_part(library, a, "title", 0, HAYA_FAMILY, NULL, HAYA_NO_FIELD) && is_part(library, a, "\xff", 0, HAYA_FAMILY, NULL, HAYA_NO_FIELD)
+           && is_part(library, no, "author", 0, HAYA_FAMILY, NULL, HAYA_NO_ENTRY), "no such persons");
+    is(haya_entry_person(library, &a, TEXT("author"), 0, HAYA_GIVEN, room, 2, &len) == HAYA_OK && len == 5 && memcmp(room, "Ru..", 4) == 0, "a part is cut");
+    is(is_date(library, a, "date", (haya_date){1987, 7, 5, 0, true}) && is_date(library, a, "url", (haya_date){2020, 2, 0, 0, false})
+           && is_date(library, b, "date", (haya_date){-44, 0, 0, 0, false}), "dates");
+    haya_date date = {77, 1, 2, 3, false};
+    is(haya_entry_date(library, &b, TEXT("url"), &date) == HAYA_NO_FIELD && haya_entry_date(library, &a, TEXT("title"), &date) == HAYA_NO_FIELD
+           && haya_entry_date(library, &a, TEXT("\xff"), &date) == HAYA_NO_FIELD && haya_entry_date(library, &no, TEXT("date"), &date) == HAYA_NO_ENTRY
+           && date.year == 77 && date.season == 3, "no dates");
+    is(is_number(library, a, "volume", HAYA_OK, 9) && is_number(library, a, "page-total", HAYA_OK, 120), "numbers");
+    is(is_number(library, a, "issue", HAYA_NOT_NUMBER, 77) && is_number(library, a, "edition", HAYA_NOT_NUMBER, 77), "what is no number alone");
+    is(is_number(library, a, "chapter", HAYA_NO_FIELD, 77) && is_number(library, a, "title", HAYA_NO_FIELD, 77)
+           && is_number(library, a, "\xff", HAYA_NO_FIELD, 77) && is_number(library, no, "volume", HAYA_NO_ENTRY, 77), "no numbers");
+    is(haya_entry_page_ranges(library, &a) == 3 && haya_entry_page_ranges(library, &b) == 0 && haya_entry_page_ranges(library, &no) == 0, "how many pages");
+    is(are_pages(library, a, 0, HAYA_OK, 1, 3) && are_pages(library, a, 1, HAYA_OK, 7, 7) && are_pages(library, a, 2, HAYA_NOT_NUMBER, 77, 77)
+           && are_pages(library, a, 3, HAYA_NO_FIELD, 77, 77) && are_pages(library, no, 0, HAYA_NO_ENTRY, 77, 77), "pages");
+    haya_library_free(library);
+}
+
 static void messages(void) {
-    static const uint32_t codes[] = {0, 1, 2, 3, 4, 5, 6, 7, 8, 101, 102, 103, 104, 105, 201, 202, 203, 204, 205, 206, 207, 208, 209, 210};
+    static const uint32_t codes[] = {0, 1, 2, 3, 4, 5, 6, 7, 8, 9, 10, 11, 101, 102, 103, 104, 105, 201, 202, 203, 204, 205, 206, 207, 208, 209, 210};
     char room[64];
     is(haya_version() == HAYA_VERSION && haya_version_least() <= HAYA_VERSION, "the version");
     for (size_t i = 0; i < sizeof codes / sizeof *codes; i++) {
         size_t len = haya_message(codes[i], room, sizeof room);
         is(len > 0 && len <= sizeof room && !shows(room, len, "no such code"), "each code has words");
     }
-    is(shows(room, haya_message(9, room, sizeof room), "no such code"), "no code");
+    is(shows(room, haya_message(100, room, sizeof room), "no such code"), "no code");
     is(shows(room, haya_message(UINT32_MAX, room, sizeof room), "no such code"), "the greatest number");
     memset(room, '.', sizeof room);
     is(haya_message(HAYA_OUT_OF_MEMORY, room, 3) == 13 && memcmp(room, "out.", 4) == 0, "words are cut to their room");
@@ -445,6 +598,9 @@ int main(void) {
     many();
     formats();
     written();
+    notes();
+    changes();
+    values();
     messages();
     printf("%d passed, %d failed\n", passed, failed);
     return failed == 0 ? 0 : 1;

@@ -52,7 +52,8 @@ void __wrap_free(void *block) {
 }
 
 int main(void) {
-    const char *text = "0\tdependence\tarticle\tdoi=10.1145/24039.24041\n1\ttoplas\tperiodical\tissn=0164-0925\n";
+    const char *text = "{\"dependence\": {\"type\": \"article\", \"serial-number\": {\"doi\": \"10.1145/24039.24041\"}, \"titel\": 1, "
+                       "\"parent\": {\"type\": \"periodical\", \"serial-number\": {\"issn\": \"0164-0925\"}}}}";
     const char *words = "article[doi] > p:periodical";
     haya_library *library = NULL;
     haya_selector *selector = NULL;
@@ -60,11 +61,12 @@ int main(void) {
     haya_written written = HAYA_NOTHING_WRITTEN;
     haya_entry hit = {7, 7}, bound[1] = {{7, 7}}, other = {7, 7};
     size_t used, len, place = 0;
+    uint64_t count = 0;
     char room[64];
     bool holds = false;
     int passed = 0;
     room_of_library = mmap(NULL, ROOM, PROT_READ | PROT_WRITE, MAP_PRIVATE | MAP_ANONYMOUS, -1, 0);
-    if (room_of_library == MAP_FAILED || haya_library_read(text, strlen(text), HAYA_LINES, 1, 2, &library, &fault) != HAYA_OK
+    if (room_of_library == MAP_FAILED || haya_library_read(text, strlen(text), HAYA_JSON, 1, 2, &library, &fault) != HAYA_OK
         || haya_selector_read(words, strlen(words), &used, &selector, &fault) != HAYA_OK || !is_ours((char *)library)
         || !is_ours((char *)selector) || mprotect(room_of_library, ROOM, PROT_READ) != 0) {
         return 1;
@@ -72,6 +74,8 @@ int main(void) {
     is_read = true;
     passed += haya_library_len(library) == 1;
     passed += haya_library_get(library, "dependence", 10, &other) == HAYA_OK;
+    passed += haya_library_notes(library) == 1;
+    passed += haya_library_note(library, 0, room, sizeof room, &len, &count) == HAYA_OK && count == 1;
     passed += haya_library_next(library, selector, &place, &hit, bound, 1) == HAYA_OK;
     passed += haya_library_next(library, selector, &place, &hit, bound, 1) == HAYA_END;
     passed += haya_library_write(library, HAYA_JSON_LINES, &written) == HAYA_OK;
@@ -87,6 +91,6 @@ int main(void) {
     passed += haya_selector_names(selector) == 1;
     passed += haya_selector_name(selector, 0, room, sizeof room, &len) == HAYA_OK;
     haya_written_free(&written);
-    printf("%d passed, %d failed\n", passed, 16 - passed);
-    return passed == 16 ? 0 : 1;
+    printf("%d passed, %d failed\n", passed, 18 - passed);
+    return passed == 18 ? 0 : 1;
 }

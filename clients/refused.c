@@ -86,16 +86,39 @@ static void look(const haya_library *library) {
     must(haya_library_len(library) == 2 && haya_entry_has(library, &entry, TEXT("doi")), "the library stays");
 }
 
+/* Changes a library of two entries, and looks whether it stays where memory is refused. */
+static void change(haya_library *library, haya_fault *fault) {
+    haya_entry entry = {7, 7};
+    size_t before = haya_library_len(library);
+    if (is_done(haya_library_push(library, TEXT("{\"new\": {\"type\": \"book\", \"titel\": 1}}"), fault), HAYA_OK, "an entry is pushed")) {
+        must(haya_library_len(library) == before + 1 && haya_library_notes(library) == 1, "it is there");
+        must(haya_library_remove(library, TEXT("new")) == HAYA_OK, "it is removed");
+    } else {
+        must(fault->code == HAYA_OUT_OF_MEMORY && haya_library_notes(library) == 0, "nothing is pushed");
+    }
+    if (is_done(haya_library_push(library, TEXT("{\"feminism\": {\"type\": \"report\"}}"), fault), HAYA_OK, "an entry with a key that is there")) {
+        must(!haya_entry_has(library, &(haya_entry){1, 0}, TEXT("language")), "it takes the place");
+    } else {
+        must(haya_entry_has(library, &(haya_entry){1, 0}, TEXT("language")), "the entry stays");
+    }
+    is_done(haya_library_push(library, TEXT("{\"new\": 1}"), fault), HAYA_REFUSED_VALUE, "no entry");
+    must(haya_library_len(library) == before && haya_library_get(library, TEXT("new"), &entry) == HAYA_NO_ENTRY, "the library stays");
+}
+
 static void run(void) {
     haya_library *library = NULL, *other = NULL;
     haya_fault fault = HAYA_NO_FAULT;
     if (is_done(haya_library_read(TEXT(lines), HAYA_LINES, 0, 0, &library, &fault), HAYA_OK, "lines")) {
         ask(library, &fault);
         look(library);
+        change(library, &fault);
     } else {
         must(library == NULL && fault.code == HAYA_OUT_OF_MEMORY && fault.line == 0, "no library");
     }
     is_done(haya_library_read(TEXT(json), HAYA_JSON, 0, 0, &other, &fault), HAYA_OK, "JSON");
+    if (is_done(haya_library_read(TEXT("{\"a\": {\"type\": \"book\", \"titel\": 1, \"jahr\": 2}}"), HAYA_JSON, 0, 0, &other, &fault), HAYA_OK, "what is passed over")) {
+        must(haya_library_notes(other) == 2, "its rows");
+    }
     if (is_done(haya_library_read(TEXT("[{\"type\": \"book\"}]"), HAYA_CSL, 0, 0, &other, &fault), HAYA_REFUSED_VALUE, "CSL-JSON")
         && fault.code == HAYA_REFUSED_VALUE) {
         must(fault.pointer.len == 5 && memcmp(fault.pointer.at, "/0/id", 5) == 0, "the place");

@@ -24,7 +24,7 @@ static void *ask(void *wrong) {
         is_right &= haya_entry_json(library, &hit, room, sizeof room, &len) == HAYA_OK;
         is_right &= haya_entry_matches(library, selector, &hit, &holds) == HAYA_OK && holds;
         is_right &= haya_entry_parent(library, &hit, 0, &parent) == HAYA_OK && haya_entry_has(library, &parent, "issn", 4);
-        is_right &= haya_selector_names(selector) == 1;
+        is_right &= haya_selector_names(selector) == 1 && haya_library_notes(library) == 0;
         *(int *)wrong += !is_right;
     }
     return NULL;

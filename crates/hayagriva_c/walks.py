@@ -1,6 +1,6 @@
 #!/usr/bin/env python3
-"""Writes proofs/lending/*: the walk of each export that lends its pointers on to one call, and hands on all else. The table L at the
-end has the exports with their parameters; rt fmt lays the files out."""
+"""Writes proofs/lending/* and proofs/changing/*: the walk of each export that lends its pointers on to one call, and hands on all else.
+The tables L and O at the end have the exports with their parameters; rt fmt lays the files out."""
 import os
 import re
 from pathlib import Path
@@ -89,7 +89,7 @@ def gen(crate, path, name, callee_mod, callee, params, result, row_use, rows):
     w(f'    let y : {" → ".join(["Ptr"] * nraw)} → W.Ghost = λ {" ".join(ps)}. ((κs, qs, bounds, {args(ps)}, {vals(ps)}), {"loan" if nraw == 1 else "loans"}) in')
     return out, dict(nl=nl, lts=lts, A=A, kap=kap, tup=tup, flat=flat, typed=typed, loans=loans, ps=ps, args=args, vals=vals, nraw=nraw, rest_vals=rest_vals)
 
-STEPS = '! Bool Bor Is List MutRef MutSlice Ptr RawPtr ShrRef ShrSlice Stays Val WpFn [] addr agg alive alloc_all and_then ap at_exit await block_ptr bool bool_Lawful bool_Tells bool_vals calls_at done drop ends_at enter fjoin fld flft frame framed free_all from fsep fsplit fst∗ ftrue get get_in group hop id⊢ in_a_block join lands_as lasts later length look_at look_in_at move mut_Tells mut_slice_Tells mut_slice_vals mut_vals named never no_more nothing owns pass_all peeks pick plain prop proved ptr_val qed raw rawptr_Tells rawptr_vals refl regoal returns sem sets shows shr_Tells shr_slice_Tells shr_slice_vals shr_vals slice_val some split stop sub suffices tables through triple_of types_at u32 u64 u8 uint_Lawful uint_Tells uint_vals use1 use2 usize vbool vint vptr w32 w64 w8 walk_of whole yes ‵ ℕ ◌$◌ ◌∵◌ ◌∷◌ ◌≡◌ ◌⊛◌'.split()
+STEPS = '! Bool Bor Is List MutRef MutSlice Ptr RawPtr ShrRef ShrSlice Stays Val WpFn [] addr agg alive alloc_all and_then ap at_exit await block_ptr bool bool_Lawful bool_Tells bool_vals calls_at done drop ends_at enter fjoin fld flft frame framed free_all from fsep fsplit fst∗ ftrue get get_in group hop id⊢ in_a_block join lands_as lasts later length look_at look_in_at move mut_Tells mut_slice_Tells mut_slice_vals mut_vals named never no_more nothing owns pass_all peeks pick plain prop proved ptr_val qed raw rawptr_Tells rawptr_vals refl regoal returns sem sets shows shr_Tells shr_slice_Tells shr_slice_vals shr_vals slice_val some split stop sub suffices tables through triple_of types_at i32 u32 u64 u8 uint_Lawful uint_Tells uint_vals use1 use2 usize vbool vint vptr w32 w64 w8 walk_of whole yes ‵ ℕ ◌$◌ ◌∵◌ ◌∷◌ ◌≡◌ ◌⊛◌'.split()
 
 def full(crate, path, name, callee_mod, callee, params, result, row_use, rows):
     out, x = gen(crate, path, name, callee_mod, callee, params, result, row_use, rows)
@@ -211,6 +211,75 @@ def full(crate, path, name, callee_mod, callee, params, result, row_use, rows):
         w('    move ! (5 ∷ 1 ∷ 0 ∷ []) $ group ! 3 $ frame ! $ move ! (1 ∷ 2 ∷ []) $ fjoin ! $ join ! $ done !' + ')' * 8)
     return '\n'.join(out) + '\n'
 
+OWN = '! Is MutBor MutRef Ptr RawPtr ShrSlice Stays WpFn [] addr alive alloc_all and_then at_exit await block_ptr calls_at done drop ends_at enter fjoin flft frame framed free_all fsep fsplit ftrue full_share get group heard id⊢ in_a_block join lands_as lasts later length look_at move mut_Tells mut_vals named no_more nothing pass_all peeks pick prop proved ptr_val qed raw rawptr_Tells rawptr_vals refl regoal returns sets shows shr_slice_Tells shr_slice_vals slice_val some split stop suffices tables through triple_of u32 u8 uint_Lawful use1 use2 use3 vptr w32 walk_of ‵ ℕ ◌$◌ ◌∵◌ ◌∷◌ ◌⊛◌'.split()
+
+def owning(crate, path, name, callee_mod, callee, params, row_use, rows, gives):
+    """The pointer comes first. `gives` is what holds at the return, of the arguments `a`, the result `u`, the last values `ws` and the
+    content {now}."""
+    out, x = gen(crate, path, name, callee_mod, callee, params, 'u32', row_use, rows)
+    tup, A, nl = x['tup'], x['A'], x['nl']
+    params = params[1:]
+    head = []
+    w = head.append
+    w('-- The content is lent for the time of the call, all else is handed on, and the content comes back as the call left it.')
+    w(f'use Rattle.{crate}.proofs.Steps.{{}}')
+    for line in ['base.Fml.{fex, flent}', 'denote.Lend.{lends_ref, ref_back}', 'denote.Memory.{mem, part_at}', 'types.Kit.{fpack}', 'types.SemTy.{Body}', 'types.Tokens.{lft_new, lft_end}',
+                 f'Rattle.{crate}.proofs.Handed.{{all_handed, all_go}}', f'Rattle.{crate}.specs.Changing.{{{gives.split()[0]}}}', f'Rattle.{crate}.specs.Owned.{{owned}}', row_use]: w(f'use {line}')
+    body = '\n'.join(out)
+    start = body.index('use Rattle.' + crate + '.specs.contracts.content')
+    body = body[body.index('\n', start) + 1:].replace(' loan are.', ' was are.').replace(', tt)), loan) in', ', tt)), was) in')
+    body = re.sub(r', loan\) in$', ', was) in', body)
+    w(body)
+    fl = ' ∷ '.join(x['flat'](i, p, 'p') for i, p in enumerate([('raw',)] + params)) + ' ∷ []'
+    vs = x['vals'](['a.0'])
+    rest = 'ftrue'
+    for i, p in reversed(list(enumerate(params, 1))):
+        T = {'shr': 'ShrRef', 'slice': 'ShrSlice', 'mut': 'MutRef', 'mslice': 'MutSlice'}[p[0]]
+        rest = f'fsep (({T} (named {x["lts"][i]}) {x["kap"](x["lts"][i])} {p[1]}).own_val {A(i)} {proj("vs", i)}) ' + (f'({rest})' if rest != 'ftrue' else rest)
+    w('    let vs = (y a.0).0.4 in')
+    w(f'    let Rest = ‵ ({rest}) in')
+    w('    qed 𝓛 ((raw (alive 𝓛 f.signature κs qs) ⊛ (‵ (RawPtr.own_val a.0 (rawptr_vals a.0)) ⊛ Rest)) ∷ ‵ (owned a.0 was) ∷ []) ∵')
+    w('    split ! $ move ! (1 ∷ []) $ split ! $ drop ! $ move ! (2 ∷ []) $')
+    w('    in_a_block ! a.0 (λ p. owned p was) (id⊢ 𝓤 _) (λ b o e.')
+    w(f'    regoal ! (λ p. prop (WpFn 𝓤 𝓛.H 𝓣.C 𝓣.Λ code.function ({fl}) (W.post (y p)))) e refl $')
+    w('    enter ! _ _ _ _ _ $')
+    w(f'    alloc_all ! (λ l. pass_all ! refl {tup([x["typed"](i, p) for i, p in enumerate([("raw",)] + params)])} $')
+    w('    -- [the content; what is handed on; the tokens; the locals]')
+    w('    lft_new ! tt (λ α. move ! (1 ∷ []) $')
+    w('    use1 𝓛 (later (some (λ (γ : ℕ). ‵ ((MutRef (named 0) (α ∷ []) R).own_val (record { ref_ptr = (b, o); ghost_name = γ; now = was }) (vptr b o ∷ [])) ⊛ ‵ (flent (α ∷ []) (Body (mem R) b o γ)))))')
+    w('    (lends_ref 𝓛 R (named 0) (α ∷ []) was b o) $ await ! tt $ pick ! (λ γ. split ! $')
+    w("    -- [the loan; the lender's part; its token; what is handed on; the tokens; the locals]")
+    for p in [('raw',)] + params:
+        if p[0] in ('raw', 'mut'): w('    sets ! (addr ! (through ! refl (stop !))) refl (tt, tt) $')
+    w('    let r : MutBor R.Denot = record { ref_ptr = (b, o); ghost_name = γ; now = was } in')
+    w('    let G = triple_of 𝓛 g.signature (g.spec 𝓛 𝓜.mem 𝓡.returns) in')
+    w('    let z : G.Ghost = (((α ∷ [], κs), (full_share, qs), tt, (r, a.1), (vptr b o ∷ [], vs.1)), tt) in')
+    w('    move ! (0 ∷ 3 ∷ []) $ join ! $ move ! (2 ∷ 3 ∷ 0 ∷ []) $ join ! $ join ! $')
+    w('    nothing ! $ move ! (1 ∷ 0 ∷ []) $ use2 𝓛 (raw (G.pre z)) (id⊢ 𝓤 _) $')
+    w(f'    calls_at ! (framed 𝓤 𝓛.H 𝓜 (tables 𝓤 𝓛.H 𝓜 𝓡 𝓡.env)) G (met 𝓤 𝓛 𝓜 𝓡 (code.calls-{crate}::{callee_mod}::{callee} 𝓡.env wired)) z')
+    ops = '(no_more !)'
+    for _ in [0] + params: ops = f'(and_then ! (get ! refl) {ops})'
+    w(f'    {ops} (λ v.')
+    lt = 'Unit {0}'
+    for p in reversed(params): lt = (f'{p[1]}.Denot' if p[0] == 'mut' else 'Unit {0}') + f' × ({lt})'
+    w('    use1 𝓛 (later (some (λ (u : ℕ). ((‵ (flft (α ∷ []) full_share) ⊛ (raw (alive 𝓛 f.signature κs qs))) ⊛ ‵ (u32.own_val u (v ∷ []))) ⊛')
+    w(f'    some (λ (ws : R.Denot × ({lt})). ‵ (lasts g.ended z.0.0 z.0.3 ws) ⊛ raw ((g.clauses 𝓛 𝓜.mem 𝓡.returns z.0.0 z.0.3).ensures tt u (at_exit g.ended z.0.0 z.0.3 ws)))))) (id⊢ 𝓤 _) $')
+    w('    await ! tt $ pick ! (λ u. split ! $ split ! $ split ! $ lft_end ! tt $')
+    w('    move ! (3 ∷ []) $ pick ! (λ ws. split ! $ move ! (1 ∷ []) $ heard ! _ (λ holds. fsplit ! $ fsplit ! $')
+    w("    -- [the content's last value; its borrow; what is left; the loan is over; the tokens; the number; the lender's part]")
+    w('    move ! (3 ∷ 6 ∷ 0 ∷ []) $ use3 𝓛 (later (‵ (part_at R full_share ws.0 b o))) (ref_back 𝓛 R (α ∷ []) γ ws.0 b o) $ await ! tt $')
+    w('    -- [the content; its borrow; what is left; the tokens; the number]')
+    w('    move ! (4 ∷ []) $')
+    w('    peeks ! u32 (Is u32) (shows 𝓛 u32) u (v ∷ []) (λ is. lands_as ! refl refl ((uint_Lawful 𝓛 w32).typed u _ is).0 $')
+    w('    returns ! (look_at ! 0 refl) $ free_all ! refl $')
+    w(f'    suffices ! _ (ends_at 𝓛 f.ended stayed c (y (block_ptr b o)) v u (tt, ws.1) {tup(["tt"] * (len(params) + 1))}) $')
+    w('    -- [the number; the content; its borrow; what is left; the tokens]')
+    w(f'    nothing ! $ fpack ! ({gives.format(now="ws.0")}) (λ _. ftrue) holds $')
+    w(f'    move ! (2 ∷ 0 ∷ []) $ fjoin ! $ fpack ! R.Denot (λ content. fsep (owned (block_ptr b o) content) (fex ({gives.format(now="content")}) (λ _. ftrue))) ws.0 $')
+    w('    -- [the content, of which this holds; the number; its borrow; what is left; the tokens]')
+    w('    move ! (2 ∷ []) $ drop ! $ nothing ! $ move ! (0 ∷ 3 ∷ []) $ fjoin ! $ move ! (3 ∷ 0 ∷ 2 ∷ []) $ group ! 3 $ done !))))))))))')
+    return '\n'.join(head) + '\n'
+
 base = str(Path(__file__).resolve().parent / 'proofs') + '/'
 names=set()
 for m in re.finditer(r'\{([^}]*)\}',open(base+'Steps.antt').read()):
@@ -218,6 +287,8 @@ for m in re.finditer(r'\{([^}]*)\}',open(base+'Steps.antt').read()):
 RAW=('raw',); ID=('shr','Id'); NAME=('slice','u8'); N=('num','w64'); ROOM=('mslice','u8'); LEN=('mut','usize'); OUT=('mut','Id')
 L=[('haya_library_len','asking','library_len',[RAW],'usize'),
 ('haya_library_get','asking','library_get',[RAW,NAME,OUT],'u32'),
+('haya_library_notes','asking','library_notes',[RAW],'usize'),
+('haya_library_note','asking','library_note',[RAW,N,ROOM,LEN,('mut','u64')],'u32'),
 ('haya_library_next','asking','library_next',[RAW,RAW,LEN,OUT,('mslice','Id')],'u32'),
 ('haya_entry_parents','asking','entry_parents',[RAW,ID],'usize'),
 ('haya_entry_parent','asking','entry_parent',[RAW,ID,N,OUT],'u32'),
@@ -225,23 +296,41 @@ L=[('haya_library_len','asking','library_len',[RAW],'usize'),
 ('haya_entry_type','asking','entry_type',[RAW,ID,ROOM,LEN],'u32'),
 ('haya_entry_has','asking','entry_has',[RAW,ID,NAME],'bool'),
 ('haya_entry_text','asking','entry_text',[RAW,ID,NAME,ROOM,LEN],'u32'),
+('haya_entry_persons','asking','entry_persons',[RAW,ID,NAME],'usize'),
+('haya_entry_person','asking','entry_person',[RAW,ID,NAME,N,('num','w32'),ROOM,LEN],'u32'),
+('haya_entry_date','asking','entry_date',[RAW,ID,NAME,('mut','Date')],'u32'),
+('haya_entry_number','asking','entry_number',[RAW,ID,NAME,('mut','i32')],'u32'),
+('haya_entry_page_ranges','asking','entry_page_ranges',[RAW,ID],'usize'),
+('haya_entry_page_range','asking','entry_page_range',[RAW,ID,N,('mut','Pages')],'u32'),
 ('haya_entry_matches','asking','entry_matches',[RAW,RAW,ID,('mut','bool')],'u32'),
 ('haya_selector_names','asking','selector_names',[RAW],'usize'),
 ('haya_selector_name','asking','selector_name',[RAW,N,ROOM,LEN],'u32'),
 ]+([
 ('haya_entry_json','asking','entry_json',[RAW,ID,ROOM,LEN],'u32'),
 ('haya_library_write','asking','library_write',[RAW,('num','w32'),('mut','Made')],'u32')])
+FAULT=('mut','Fault')
+O=[('haya_library_push','changes','library_push',[RAW,NAME,FAULT],'PushGives a.1.0.now was {now} u a.1.1.0.now ws.1.1.0'),
+('haya_library_remove','changes','library_remove',[RAW,NAME],'RemoveGives a.1.0.now was {now} u')]
+R='Rattle.hayagriva_c.specs.contracts.content.Content.{the_row as R}'
+
+def write(folder,name,t,names):
+    """Writes the proof with the names that it uses."""
+    body=t.split('\n'); i=[k for k,l in enumerate(body) if 'proofs.Steps.{' in l][0]
+    rest='\n'.join(body[i+1:])
+    toks=set(re.findall(r"[^\s(){}\[\],;.]+",rest))|set(re.findall(r"[^\s(){},;]+",rest))
+    used=[n for n in names if n in toks or n in ('◌$◌','◌∵◌','◌∷◌','◌⊛◌','!','‵','[]')]
+    body[i]='use Rattle.hayagriva_c.proofs.Steps.{'+', '.join(used)+'}'
+    os.makedirs(base+folder+name,exist_ok=True)
+    open(base+folder+name+'/Proof.antt','w').write('\n'.join(l.rstrip() for l in body))
+
 for name,mod,callee,params,res in L:
     uses=set(p[1] for p in params if len(p)>1)
     rows=[]
     if 'Id' in uses: rows.append('Rattle.haya_views.specs.contracts.entry_id.EntryId.{the_row as Id}')
+    if 'Date' in uses: rows.append('Rattle.hayagriva_c.specs.contracts.values.DateParts.{the_row as Date}')
+    if 'Pages' in uses: rows.append('Rattle.hayagriva_c.specs.contracts.values.Pages.{the_row as Pages}')
     if 'Made' in uses: rows.append('Rattle.hayagriva_c.specs.contracts.fault.Written.{the_row as Made}')
-    t=full('hayagriva_c','lending',name,mod,callee,params,res,'Rattle.hayagriva_c.specs.contracts.content.Content.{the_row as R}',rows)
-    # only the names that are used
-    body=t.split('\n'); i=[k for k,l in enumerate(body) if 'proofs.Steps.{' in l][0]
-    rest='\n'.join(body[i+1:])
-    toks=set(re.findall(r"[^\s(){}\[\],;.]+",rest))|set(re.findall(r"[^\s(){},;]+",rest))
-    used=[n for n in STEPS if n in toks or n in ('◌$◌','◌∵◌','◌∷◌','◌⊛◌','!','‵','[]')]
-    body[i]='use Rattle.hayagriva_c.proofs.Steps.{'+', '.join(used)+'}'
-    os.makedirs(base+'lending/'+name,exist_ok=True)
-    open(base+'lending/'+name+'/Proof.antt','w').write('\n'.join(l.rstrip() for l in body))
+    write('lending/',name,full('hayagriva_c','lending',name,mod,callee,params,res,R,rows),STEPS)
+for name,mod,callee,params,gives in O:
+    rows=['Rattle.hayagriva_c.specs.contracts.fault.Fault.{the_row as Fault}'] if FAULT in params else []
+    write('changing/',name,owning('hayagriva_c','changing',name,mod,callee,params,R,rows,gives),OWN)

@@ -87,6 +87,72 @@ class Reading(unittest.TestCase):
                 library.to_bytes(name)
 
 
+class Changing(unittest.TestCase):
+    def test_what_was_passed_over(self) -> None:
+        notes = Library.read(EXAMPLES / "zotero.json").notes
+        self.assertEqual((next(iter(notes)), notes["source"]), ("source", 6))
+        self.assertEqual(Library.parse("0\ta\tbook\n").notes, {})
+
+    def test_entries_are_set_and_deleted(self) -> None:
+        library = Library.read(EXAMPLES / "library.json")
+        first, last = list(library)[0], list(library)[-1]
+        library["new"] = {"type": "article", "title": "T\u00e4", "parent": {"type": "blog", "titel": "x"}}
+        self.assertEqual((len(library), list(library)[-1], library.at(31).title), (32, "new", "T\u00e4"))
+        self.assertEqual(library.notes, {"titel": 1})
+        self.assertEqual([hit.key for hit in library.query("article > x:blog")][-1:], ["new"])
+        library[first] = library[last]
+        self.assertEqual((list(library)[0], library[first].to_dict()), (first, library[last].to_dict()))
+        self.assertEqual(library.pop("new").title, "T\u00e4")
+        del library[first]
+        self.assertEqual((len(library), first in library, library.get("new")), (30, False, None))
+        self.assertEqual(list(Library.parse(library.to_bytes())), list(library))
+        for key in (first, "nobody", "\ud800"):
+            with self.assertRaises(KeyError):
+                del library[key]
+        library.clear()
+        self.assertEqual((len(library), list(library.query("*"))), (0, []))
+
+    def test_what_is_no_entry(self) -> None:
+        library = Library.parse("0\ta\tbook\n")
+        with self.assertRaises(ParseError) as at:
+            library["b"] = {"type": "book", "volume": float("nan")}
+        self.assertEqual((at.exception.line, at.exception.column), (1, 34))
+        with self.assertRaises(ParseError):
+            library["b\ud800"] = {"type": "book"}
+        self.assertEqual(list(library), ["a"])
+
+    def test_hits_from_before(self) -> None:
+        library = Library.parse("0\ta\tbook\n0\tb\tbook\n")
+        hits, entry = library.query("*"), library["a"]
+        hit = next(hits)
+        del library["a"]
+        self.assertEqual(entry.type, "book")
+        with self.assertRaises(RuntimeError):
+            hit.entry
+        with self.assertRaises(RuntimeError):
+            next(hits)
+
+    def test_one_changes_while_others_ask(self) -> None:
+        library, wrong = Library.parse("0\ta\tbook\n"), []
+
+        def ask() -> None:
+            for _ in range(200):
+                try:
+                    if not any(hit.key == "a" for hit in library.query("book")):
+                        wrong.append(1)
+                except RuntimeError:
+                    pass
+
+        threads = [threading.Thread(target=ask) for _ in range(3)]
+        for thread in threads:
+            thread.start()
+        for number in range(200):
+            library[f"k{number}"] = {"type": "book"}
+        for thread in threads:
+            thread.join()
+        self.assertEqual((wrong, len(library)), ([], 201))
+
+
 class Asking(unittest.TestCase):
     library: Library
 

@@ -2,16 +2,16 @@
 use Rattle.std.proofs.Common.{◌≡◌, ℕ, zero, suc, Bool, true, false, cond, ltb, not, ◌&&◌, ◌||◌, List, [], ◌∷◌, Option, Some, None, option_map, refl, ap, sym, ◌∙◌, arith}
 use Rattle.std.proofs.Math.Path.{fun_ext}
 use Rattle.std.proofs.lemmas.Bool.Decides.{Decides-like, same_from_decides, nat_tests}
-use Rattle.std.proofs.lemmas.Map.Text.{hash_map_updates_text, hash_set_updates_text}
+use Rattle.std.proofs.lemmas.Map.Text.{btree_map_updates_text, btree_set_updates_text}
 use Rattle.std.proofs.lemmas.Slice.Eq.{bytes_eq-Decides}
 use Rattle.std.proofs.lemmas.Str.{IsUtf8-string_bytes, chars-IsAscii, encodes-chars, encodes_same, encodes-IsAscii}
-use Rattle.std.specs.HashMap.{Updates, get_by_text}
-use Rattle.std.specs.HashSet.{contains, contains_text}
-use Rattle.std.specs.HashSet as bag
+use Rattle.std.specs.BTreeMap.{Updates, get_by_text}
+use Rattle.std.specs.BTreeSet.{contains, contains_text}
+use Rattle.std.specs.BTreeSet as bag
 use Rattle.std.specs.Borrow.{Bor}
 use Rattle.std.specs.Prelude.{String}
 use Rattle.std.specs.Str.{IsAscii, IsUtf8, bytes_eq, chars, encode_utf8_all}
-use Rattle.std.specs.String.{string_bytes, string_eq}
+use Rattle.std.specs.String.{string_bytes, string_cmp}
 use Rattle.std.specs.declared.alloc.Global.{Global}
 use Rattle.haya_bibtex_text.specs.Definitions.{strings_view, text_or}
 use Rattle.haya_bibtex_text.specs.Names.{names_view, with_name}
@@ -94,16 +94,16 @@ found true t old p = refl
 found false t old p = refl
 
 pub strings_view-define : (old new : Definitions) (name text : String Global)
-    → Updates string_eq old.texts new.texts name (Some text)
+    → Updates string_cmp old.texts new.texts name (Some text)
     → strings_view new ≡ with_string (strings_view old) (chars (string_bytes name)) (chars (string_bytes text))
 strings_view-define old new name text u =
-    fun_ext (λ m. rw (hash_map_updates_text (string_bytes name) old.texts new.texts (Some text) u (encode_utf8_all m))
+    fun_ext (λ m. rw (btree_map_updates_text (string_bytes name) old.texts new.texts (Some text) u (encode_utf8_all m))
     (rw (bytes_eq-chars (string_bytes name) m (IsUtf8-string_bytes name))
     (found (bytes_eq (chars (string_bytes name)) m) text (get_by_text old.texts (encode_utf8_all m)) (predefined_strings m))))
 
 -- whether a name is new
 pub names_view-added : (names : Names) (text : String Global) (name : List ℕ) (added : Bool) → IsUtf8 name
-    → string_bytes text ≡ name → added ≡ not (contains string_eq names.texts text)
+    → string_bytes text ≡ name → added ≡ not (contains string_cmp names.texts text)
     → added ≡ not (names_view names (chars name))
 names_view-added names text name added u e is = rw (encodes-chars name u, ← e) is
 
@@ -112,9 +112,9 @@ or-cond true b = refl
 or-cond false b = refl
 
 pub names_view-add : (old new : Names) (text : String Global) (name : List ℕ)
-    → string_bytes text ≡ name → bag.Updates string_eq old.texts new.texts text true
+    → string_bytes text ≡ name → bag.Updates string_cmp old.texts new.texts text true
     → names_view new ≡ with_name (names_view old) (chars name)
 names_view-add old new text name e u =
-    fun_ext (λ m. rw (hash_set_updates_text (string_bytes text) old.texts new.texts true u (encode_utf8_all m))
+    fun_ext (λ m. rw (btree_set_updates_text (string_bytes text) old.texts new.texts true u (encode_utf8_all m))
     (rw (bytes_eq-chars (string_bytes text) m (IsUtf8-string_bytes text), e)
     (or-cond (bytes_eq (chars name) m) (contains_text old.texts (encode_utf8_all m)))))

@@ -1,6 +1,6 @@
 -- The strings that are defined, by value.
 use Rattle.std.specs.Prelude.{ℕ, List, Option, Some, None, encode_utf8_all, option_map}
-use Rattle.std.specs.HashMap.{get_by_text}
+use Rattle.std.specs.BTreeMap.{get_by_text}
 use Rattle.std.specs.Str.{chars}
 use Rattle.std.specs.String.{string_bytes}
 use Rattle.haya_bibtex_text.specs.Predefined.{predefined_strings}

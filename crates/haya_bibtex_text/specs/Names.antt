@@ -1,6 +1,6 @@
 -- Sets of names.
 use Rattle.std.specs.Prelude.{ℕ, Bool, ◌||◌, List, encode_utf8_all}
-use Rattle.std.specs.HashSet.{contains_text}
+use Rattle.std.specs.BTreeSet.{contains_text}
 use Rattle.std.specs.Str.{bytes_eq}
 use Rattle.haya_bibtex_text.specs.declared.names.Names.{Names as NameSet}
 

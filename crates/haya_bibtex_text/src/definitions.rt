@@ -7,13 +7,14 @@ ghost use Rattle.haya_bibtex_text.specs.Strings.{with_string};
 
 use crate::predefined::predefined_text;
 use std::alloc::{AllocError, Global};
-use std::collections::HashMap;
+use std::collections::BTreeMap;
 
 /// The strings that are defined so far, by their names in lower case. Behind them come those that
 /// are defined from the start.
 #[derive(Drop)]
 pub(crate) struct Definitions {
-    texts: HashMap<String, String>,
+    // Names that are made to collide cost no more than others.
+    texts: BTreeMap<String, String>,
 }
 
 /// Those that are defined from the start.
@@ -21,7 +22,7 @@ pub(crate) fn first_definitions(alloc: Global) -> Definitions
     ensures { strings_view result ≡ predefined_strings }
 {
     Definitions {
-        texts: HashMap::new(alloc),
+        texts: BTreeMap::new(alloc),
     }
 }
 

@@ -4,12 +4,13 @@ ghost use Rattle.std.specs.Str.{chars};
 ghost use Rattle.haya_bibtex_text.specs.Names.{names_view, with_name};
 
 use std::alloc::{AllocError, Global};
-use std::collections::HashSet;
+use std::collections::BTreeSet;
 
 /// A set of names.
 #[derive(Drop)]
 pub(crate) struct Names {
-    texts: HashSet<String>,
+    // Names that are made to collide cost no more than others.
+    texts: BTreeSet<String>,
 }
 
 /// No names.
@@ -17,7 +18,7 @@ pub(crate) fn no_names(alloc: Global) -> Names
     ensures { names_view result ≡ (λ _. false) }
 {
     Names {
-        texts: HashSet::new(alloc),
+        texts: BTreeSet::new(alloc),
     }
 }
 

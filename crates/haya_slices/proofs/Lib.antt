@@ -4,7 +4,9 @@ mod Copies
 mod First
 mod Lines
 mod Listed
+mod PartsOf
 mod Pieces
 mod Same
 mod Scanned
+mod Strings
 mod Words

@@ -1,5 +1,5 @@
 -- Bytes that are looked at in turn.
-use Rattle.std.proofs.Common.{◌≡◌, ℕ, zero, suc, ◌+◌, ◌<◌, ◌==◌, true, false, List, [], ◌∷◌, ◌++◌, length, take, drop, get_or, Option, Some, None, option_and_then, inl, inr, ◌⊎◌, refl, sym, ap, ◌∙◌, subst, arith, append_assoc, append-nil}
+use Rattle.std.proofs.Common.{◌≡◌, ℕ, zero, suc, ◌+◌, ◌<◌, ◌==◌, true, false, List, [], ◌∷◌, ◌++◌, length, take, drop, get_or, Option, Some, None, option_and_then, ◌⊎◌, refl, sym, ap, ◌∙◌, subst, arith, append_assoc, append-nil}
 use Rattle.std.specs.Prelude.{IfSome}
 use Rattle.std.proofs.lemmas.Bool.{true≢false}
 use Rattle.std.proofs.lemmas.List.{take_more, drop_more}
@@ -8,7 +8,7 @@ use Rattle.json.specs.Lex.{Class, class, quote, backslash, operator, space, othe
 use Rattle.haya_elements.specs.Steps.{closing_bracket, element_step, step}
 use Rattle.haya_elements.specs.declared.place.Brackets.{Brackets}
 use Rattle.haya_elements.specs.declared.place.Mode.{Mode}
-use Rattle.haya_elements.specs.declared.place.Mode.TheVariants.{Between, Word, Text, Escape}
+use Rattle.haya_elements.specs.declared.place.Mode.TheVariants.{Between, Word}
 use Rattle.haya_elements.specs.declared.place.Place.TheVariants.{Element, Next}
 use Rattle.haya_slices.specs.Scan.{EndsAt}
 use Rattle.haya_slices.proofs.Classes.{class_tells}
@@ -119,15 +119,3 @@ ends_there b bytes at mode depth (Some n) l o h closed =
       outside = o;
       ends = h.3;
     })
-
--- in a string, and not behind a backslash
-pub is_text : (m : Mode) → is_outside_string m ≡ false → (m ≡ Escape → ⊥) → m ≡ Text
-is_text Between o h = absurd (true≢false o)
-is_text Word o h = absurd (true≢false o)
-is_text Text o h = refl
-is_text Escape o h = absurd (h refl)
-
-pub in_string : (m : Mode) → (m ≡ Between) ⊎ (is_outside_string m ≡ false) → (m ≡ Between → ⊥)
-    → is_outside_string m ≡ false
-in_string m (inl e) h = absurd (h e)
-in_string m (inr e) h = e

@@ -46,6 +46,12 @@ pub record IsElement (b : Brackets) (part : List ℕ) : Type 0 where
 
 -- ---- a text
 
+-- bytes are a part of a text, one behind the other
+pub record IsPartOf (part text : List ℕ) : Type 0 where
+  pub front : List ℕ
+  pub back : List ℕ
+  pub is : text ≡ front ++ (part ++ back)
+
 abbrev pub IsWhite : List ℕ → Type 0
 IsWhite bytes = AllByRecursion (λ x. IsTrue (is_space x)) bytes
 

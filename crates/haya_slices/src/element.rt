@@ -1,15 +1,17 @@
 //! Where an element of a text in JSON ends.
 ghost use Rattle.std.specs.Prelude.{◌≡◌, ◌⊎◌, ◌++◌, ◌<◌, ◌≤◌, ℕ, List, IfSome, IsFalse, IsTrue};
-ghost use Rattle.std.specs.Prelude.{Some, length, slice_index, take};
+ghost use Rattle.std.specs.Prelude.{◌+◌, Some, drop, length, slice_index, take};
 ghost use Rattle.json.specs.Ascii as ascii;
 ghost use Rattle.haya_elements.specs.Steps.{closing_bracket, closing_step, comma_step, opening_step, step};
 ghost use Rattle.haya_elements.specs.declared.place.Brackets.{Brackets as BracketsData};
 ghost use Rattle.haya_elements.specs.declared.place.Mode.TheVariants.{Between, Text, Word};
 ghost use Rattle.haya_elements.specs.declared.place.Place.TheVariants.{Element, Next};
-ghost use Rattle.haya_slices.specs.Layout.{inside, is_outside_string, within};
+ghost use Rattle.haya_slices.specs.Layout.{IsWhite, inside, is_outside_string, within};
 ghost use Rattle.haya_slices.specs.Scan.{EndsAt};
 
+use crate::white::white_len;
 use haya_elements::{Brackets, Mode};
+use memchr::memchr2;
 
 /// How many bytes the element at the front has, with the white space behind it: a comma or the
 /// bracket that closes is there. `None` where there is no element, or it has no end.
@@ -34,9 +36,24 @@ pub(crate) fn element_len(brackets: Brackets, bytes: &[u8]) -> Option<usize>
             mode = Mode::Between;
             continue;
         }
+        if let Mode::Between = next {
+            at += white_behind(bytes, at);
+            mode = Mode::Between;
+            continue;
+        }
         mode = next;
     }
     None
+}
+
+// How many bytes of white space are behind this place.
+fn white_behind(bytes: &[u8], at: usize) -> usize
+    requires { at ≤ length bytes.now }
+    ensures within { at + result ≤ length bytes.now }
+    ensures white { IsWhite (take result (drop at bytes.now)) }
+{
+    let (_, rest) = bytes.split_at(at);
+    white_len(rest)
 }
 
 // The place, if an element may end there at this depth.
@@ -161,27 +178,17 @@ fn string_len(bytes: &[u8]) -> Option<usize>
     ensures closed { IfSome result (λ n. (b : BracketsData) → (d : ℕ) → (ys : List ℕ) →
         inside b Text d (take n bytes.now ++ ys) ≡ inside b Between d ys) }
 {
-    let mut mode = Mode::Text;
     let mut at = 0;
     'bytes: while at < bytes.len() {
-        match behind_string(mode, bytes[at]) {
-            Mode::Between => return Some(at + 1),
-            next => mode = next,
+        let (_, rest) = bytes.split_at(at);
+        let mark = memchr2(b'"', b'\\', rest)?;
+        if rest[mark] == b'"' {
+            return Some(at + mark + 1);
         }
-        at += 1;
+        if mark + 1 == rest.len() {
+            return None;
+        }
+        at += mark + 2;
     }
     None
-}
-
-// Where a byte leads in a string, behind a backslash or not.
-fn behind_string(mode: Mode, byte: u8) -> Mode
-    requires { IsFalse (is_outside_string mode) }
-    ensures leads { (b : BracketsData) → (d : ℕ) →
-        within (step b (Element mode d) byte).0 ≡ Some (result, d) }
-    ensures in_string { (result ≡ Between) ⊎ IsFalse (is_outside_string result) }
-{
-    match mode {
-        Mode::Escape => Mode::Text,
-        _ => behind_text(byte),
-    }
 }

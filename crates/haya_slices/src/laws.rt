@@ -6,7 +6,7 @@ ghost use Rattle.json.specs.Json.{Items, Json, Members, array, document, object}
 ghost use Rattle.haya_elements.specs.Elements.{AreItems, AreMembers};
 ghost use Rattle.haya_elements.specs.declared.place.Brackets.{Brackets as BracketsData};
 ghost use Rattle.haya_elements.specs.declared.place.Brackets.TheVariants.{Curly, Square};
-ghost use Rattle.haya_slices.specs.Layout.{IsElement, IsLaidOut, list_text};
+ghost use Rattle.haya_slices.specs.Layout.{IsElement, IsLaidOut, IsPartOf, list_text};
 
 use haya_elements::laws::{documents, elements_of_documents};
 
@@ -20,6 +20,12 @@ pub fn slices_are_elements()
 {
     elements_of_documents();
 }
+
+/// Each element of a text is a part of it, byte for byte.
+pub fn slices_are_parts()
+    ensures { (b : BracketsData) (text : List ℕ) (parts : List (List ℕ)) →
+        IsLaidOut b text parts → AllByRecursion (λ part. IsPartOf part text) parts }
+{}
 
 /// A text that is laid out as an array and is JSON is an array, and one laid out as an object is an
 /// object.

@@ -1,3 +1,4 @@
+pub mod Behind
 pub mod Nested
 pub mod NextHits
 pub mod Orders

@@ -1,5 +1,5 @@
 -- The lines between line feeds.
-use Rattle.std.proofs.Common.{◌≡◌, ℕ, zero, suc, ◌+◌, ◌<◌, ◌≤◌, Bool, true, false, not, cond, eqb, ◌==◌, List, [], ◌∷◌, map, length, length-drop, take, drop, drop-drop, get_or, take_all, refl, sym, ap, ◌∙◌, arith}
+use Rattle.std.proofs.Common.{◌≡◌, ℕ, zero, suc, ◌+◌, ◌<◌, ◌≤◌, Bool, true, false, not, cond, eqb, ◌==◌, List, [], ◌∷◌, map, length, length-drop, take, drop, get_or, take_all, refl, sym, ap, ◌∙◌, arith}
 use Rattle.std.proofs.lemmas.Simd.{length-chunk, first_set_mask_l}
 use Rattle.std.proofs.lemmas.List.Splits.{slice_split_none, slice_split_first, length-slice_split}
 use Rattle.std.proofs.lemmas.List.{drop_more}

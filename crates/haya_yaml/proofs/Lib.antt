@@ -1,6 +1,7 @@
 pub mod Bodies
 pub mod Contents
 pub mod Cuts
+pub mod Depths
 pub mod Ends
 pub mod Letters
 pub mod Marks

@@ -14,7 +14,7 @@ pub guard : {A : Type 0} (b : Bool) (x : Option A) (y : A) → (if b then x else
 guard true x y e = (refl, e)
 guard false x y e = none_is y e
 
-both : (a b : Bool) → (a && b) ≡ true → (a ≡ true) × (b ≡ true)
+pub both : (a b : Bool) → (a && b) ≡ true → (a ≡ true) × (b ≡ true)
 both true b e = (refl, e)
 both false b e = grind (arith, e)
 

@@ -4,4 +4,5 @@ pub mod Line
 pub mod Literal
 pub mod Saying
 pub mod Says
+pub mod Spans
 pub mod Values

@@ -1,40 +1,27 @@
 //! Lists and maps over lines.
-ghost use Rattle.std.specs.Prelude.{◌≡◌, ◌+◌, ◌<◌, ◌^◌, ◌≤◌, ◌++◌, [], option_map, length, take};
-ghost use Rattle.std.specs.Prelude.{drop, string_bytes, OnOk, IfOk, MatchOption, Err, None, Some};
+ghost use Rattle.std.specs.Prelude.{◌≡◌, ◌+◌, ◌<◌, ◌^◌, ◌≤◌, ◌++◌, [], option_map, length};
+ghost use Rattle.std.specs.Prelude.{string_bytes, OnOk, IfOk, MatchOption, Err, None, Some};
 ghost use Rattle.std.specs.Prelude.{true, false, ◌&&◌, ◌∷◌};
 ghost use Rattle.json.specs.Json.{array, object};
 ghost use Rattle.haya_yaml_text.specs.Faults.{IsRefused};
 ghost use Rattle.haya_yaml_text.specs.Keys.{key};
 ghost use Rattle.haya_yaml_text.specs.Signs.{is_end, skip};
 ghost use Rattle.haya_yaml_text.specs.Writing.{KeepsBefore};
-ghost use Rattle.haya_yaml.specs.Block.{below, cut, entries_of, item_value, items_at, items_in};
-ghost use Rattle.haya_yaml.specs.Block.{items_of, member_value, members_at, members_in, members_of};
+ghost use Rattle.haya_yaml.specs.Block.{below, item_value, items_at, items_in, items_of};
+ghost use Rattle.haya_yaml.specs.Block.{member_value, members_at, members_in, members_of};
 ghost use Rattle.haya_yaml.specs.Block.{node, node_with, value};
 ghost use Rattle.haya_yaml.specs.Line.{begins_dash, is_dash, texts};
 ghost use Rattle.haya_yaml.specs.Saying.{said, said_items, said_members};
 
-use crate::line::{begins_dash, belongs, fault, is_dash, skipped, split_indent};
+use crate::line::{begins_dash, fault, is_dash, skipped, split_indent};
+use crate::own::{SpannedLines, own_lines};
+use crate::spans::spans_of;
 use crate::value::write_value;
 use haya_yaml_text::fault::{FaultKind, ReadError, Refusal};
 use haya_yaml_text::key::{PlainKey, plain_key, read_key};
 use haya_yaml_text::output::{Output, Place};
 use haya_yaml_text::white::{begins_with, blanks, ends_key, is_end, is_gap, skip, tail};
 use std::alloc::AllocError;
-
-// How many of the lines belong to the entry above them, which begins at this column.
-fn own_lines(map: bool, dashes: bool, column: usize, lines: &[&str]) -> usize
-    ensures bound { result ≤ length lines.now }
-    ensures cut { cut map dashes column (texts lines.now) ≡ record {
-      front = texts (take result lines.now);
-      entries = entries_of map column (texts (drop result lines.now));
-    } }
-{
-    let mut count = 0;
-    'lines: while count < lines.len() && belongs(dashes, column, lines[count]) {
-        count += 1;
-    }
-    count
-}
 
 // The line that begins a member, without its indent: its key, its text, and what stands behind the
 // colon.
@@ -126,15 +113,15 @@ fn write_below(
     depth: usize,
     edge: Option<usize>,
     head: usize,
-    lines: &[&str],
+    lines: SpannedLines<'_, '_>,
 ) -> Result<(), ReadError>
-    ensures ok { OnOk result (said out.old.writer.tokens (below (node depth) edge (texts lines.now))
-        ≡ Some out.new.writer.tokens) }
+    ensures ok { OnOk result (said out.old.writer.tokens
+        (below (node depth) edge (texts lines.entry.texts.now)) ≡ Some out.new.writer.tokens) }
     ensures before { OnOk result (KeepsBefore out.old.writer out.new.writer) }
     ensures refused { (f : Refusal) → result ≡ Err (ReadError.Refused f)
-        → below (node depth) edge (texts lines.now) ≡ None }
+        → below (node depth) edge (texts lines.entry.texts.now) ≡ None }
 {
-    let count = skipped(lines);
+    let count = skipped(lines.texts);
     let (_, rest) = lines.split_at(count);
     match rest.split_first() {
         None => {
@@ -159,14 +146,15 @@ fn write_node(
     column: usize,
     head: usize,
     text: &str,
-    lines: &[&str],
+    lines: SpannedLines<'_, '_>,
 ) -> Result<(), ReadError>
     requires fits { column + length text.now < 2 ^ 64 }
     ensures ok { OnOk result (said out.old.writer.tokens
-        (node depth edge column text.now (texts lines.now)) ≡ Some out.new.writer.tokens) }
+        (node depth edge column text.now (texts lines.entry.texts.now))
+        ≡ Some out.new.writer.tokens) }
     ensures before { OnOk result (KeepsBefore out.old.writer out.new.writer) }
     ensures refused { (f : Refusal) → result ≡ Err (ReadError.Refused f)
-        → node depth edge column text.now (texts lines.now) ≡ None }
+        → node depth edge column text.now (texts lines.entry.texts.now) ≡ None }
 {
     write_at(out, depth, edge, column, head, text, lines)
 }
@@ -180,18 +168,18 @@ fn write_at(
     column: usize,
     head: usize,
     text: &str,
-    lines: &[&str],
+    lines: SpannedLines<'_, '_>,
 ) -> Result<(), ReadError>
     requires fits { column + length text.now < 2 ^ 64 }
     ensures ok { OnOk result (said out.old.writer.tokens
-        (node_with (items_in node depth column text.now (texts lines.now))
-        (members_in node depth column text.now (texts lines.now))
-        depth edge column text.now (texts lines.now)) ≡ Some out.new.writer.tokens) }
+        (node_with (items_in node depth column text.now (texts lines.entry.texts.now))
+        (members_in node depth column text.now (texts lines.entry.texts.now))
+        depth edge column text.now (texts lines.entry.texts.now)) ≡ Some out.new.writer.tokens) }
     ensures before { OnOk result (KeepsBefore out.old.writer out.new.writer) }
     ensures refused { (f : Refusal) → result ≡ Err (ReadError.Refused f)
-        → node_with (items_in node depth column text.now (texts lines.now))
-        (members_in node depth column text.now (texts lines.now))
-        depth edge column text.now (texts lines.now) ≡ None }
+        → node_with (items_in node depth column text.now (texts lines.entry.texts.now))
+        (members_in node depth column text.now (texts lines.entry.texts.now))
+        depth edge column text.now (texts lines.entry.texts.now) ≡ None }
 {
     if is_dash(text) {
         write_list(out, depth, column, head, text, lines)?;
@@ -204,7 +192,7 @@ fn write_at(
             write_map(out, depth, column, head, first, lines)?;
             Ok(())
         }
-        None => match write_value(out, depth, edge, head, text, lines) {
+        None => match write_value(out, depth, edge, head, text, lines.texts) {
             Ok(()) => Ok(()),
             Err(error) => Err(at_entry(error, head, text)),
         },
@@ -241,16 +229,16 @@ fn write_list(
     column: usize,
     head: usize,
     text: &str,
-    lines: &[&str],
+    lines: SpannedLines<'_, '_>,
 ) -> Result<(), ReadError>
     requires fits { column + length text.now < 2 ^ 64 }
     requires dash { is_dash text.now ≡ true }
     ensures ok { OnOk result (said out.old.writer.tokens
-        (option_map array (items_in node depth column text.now (texts lines.now)))
+        (option_map array (items_in node depth column text.now (texts lines.entry.texts.now)))
         ≡ Some out.new.writer.tokens) }
     ensures before { OnOk result (KeepsBefore out.old.writer out.new.writer) }
     ensures refused { (f : Refusal) → result ≡ Err (ReadError.Refused f)
-        → items_in node depth column text.now (texts lines.now) ≡ None }
+        → items_in node depth column text.now (texts lines.entry.texts.now) ≡ None }
 {
     if depth == 0 {
         return Err(fault(FaultKind::TooDeep, head, text));
@@ -268,20 +256,21 @@ fn write_items(
     column: usize,
     head: usize,
     text: &str,
-    lines: &[&str],
+    lines: SpannedLines<'_, '_>,
 ) -> Result<(), ReadError>
     requires fits { column + length text.now < 2 ^ 64 }
     requires dash { is_dash text.now ≡ true }
     ensures ok { OnOk result (said_items out.old.writer.tokens
-        (items_at depth column text.now (texts lines.now)) ≡ Some out.new.writer.tokens) }
+        (items_at depth column text.now (texts lines.entry.texts.now))
+        ≡ Some out.new.writer.tokens) }
     ensures before { OnOk result (KeepsBefore out.old.writer out.new.writer) }
     ensures refused { (f : Refusal) → result ≡ Err (ReadError.Refused f)
-        → items_at depth column text.now (texts lines.now) ≡ None }
+        → items_at depth column text.now (texts lines.entry.texts.now) ≡ None }
 {
-    let end = head.saturating_add(lines.len());
+    let end = head.saturating_add(lines.texts.len());
     let mut rest = write_one_item(out, depth, column, head, text, lines)?;
     'items: while let Some((line, more)) = rest.split_first() {
-        let number = end.saturating_sub(more.len());
+        let number = end.saturating_sub(more.texts.len());
         rest = write_next_item(out, depth, column, number, line, more)?;
     }
     out.writer.end_array()?;
@@ -296,15 +285,15 @@ fn write_next_item<'l, 'a>(
     column: usize,
     number: usize,
     line: &'a str,
-    lines: &'l [&'a str],
-) -> Result<&'l [&'a str], ReadError>
+    lines: SpannedLines<'l, 'a>,
+) -> Result<SpannedLines<'l, 'a>, ReadError>
     ensures ok { IfOk result (λ rest. said_items out.old.writer.tokens
-        (items_of depth column (line.now ∷ texts lines.now))
-        ≡ said_items out.new.writer.tokens (items_of depth column (texts rest.now))) }
-    ensures fewer { IfOk result (λ rest. length rest.now ≤ length lines.now) }
+        (items_of depth column (line.now ∷ texts lines.entry.texts.now))
+        ≡ said_items out.new.writer.tokens (items_of depth column (texts rest.texts.now))) }
+    ensures fewer { IfOk result (λ rest. length rest.texts.now ≤ length lines.entry.texts.now) }
     ensures before { IfOk result (λ rest. KeepsBefore out.old.writer out.new.writer) }
     ensures refused { (f : Refusal) → result ≡ Err (ReadError.Refused f)
-        → items_of depth column (line.now ∷ texts lines.now) ≡ None }
+        → items_of depth column (line.now ∷ texts lines.entry.texts.now) ≡ None }
 {
     let (indent, text) = split_indent(line);
     if indent != column || !is_dash(text) {
@@ -321,17 +310,17 @@ fn write_one_item<'l, 'a>(
     column: usize,
     head: usize,
     text: &str,
-    lines: &'l [&'a str],
-) -> Result<&'l [&'a str], ReadError>
+    lines: SpannedLines<'l, 'a>,
+) -> Result<SpannedLines<'l, 'a>, ReadError>
     requires fits { column + length text.now < 2 ^ 64 }
     requires dash { is_dash text.now ≡ true }
     ensures ok { IfOk result (λ rest. said_items out.old.writer.tokens
-        (items_at depth column text.now (texts lines.now))
-        ≡ said_items out.new.writer.tokens (items_of depth column (texts rest.now))) }
-    ensures fewer { IfOk result (λ rest. length rest.now ≤ length lines.now) }
+        (items_at depth column text.now (texts lines.entry.texts.now))
+        ≡ said_items out.new.writer.tokens (items_of depth column (texts rest.texts.now))) }
+    ensures fewer { IfOk result (λ rest. length rest.texts.now ≤ length lines.entry.texts.now) }
     ensures before { IfOk result (λ rest. KeepsBefore out.old.writer out.new.writer) }
     ensures refused { (f : Refusal) → result ≡ Err (ReadError.Refused f)
-        → items_at depth column text.now (texts lines.now) ≡ None }
+        → items_at depth column text.now (texts lines.entry.texts.now) ≡ None }
 {
     let (own, rest) = lines.split_at(own_lines(false, false, column, lines));
     write_item(out, depth, column, head, tail(text), own)?;
@@ -346,15 +335,16 @@ fn write_item(
     column: usize,
     head: usize,
     text: &str,
-    lines: &[&str],
+    lines: SpannedLines<'_, '_>,
 ) -> Result<(), ReadError>
     requires fits { column + 1 + length text.now < 2 ^ 64 }
     ensures ok { OnOk result (said out.old.writer.tokens
-        (item_value (node depth) (value depth) column text.now (texts lines.now))
+        (item_value (node depth) (value depth) column text.now (texts lines.entry.texts.now))
         ≡ Some out.new.writer.tokens) }
     ensures before { OnOk result (KeepsBefore out.old.writer out.new.writer) }
     ensures refused { (f : Refusal) → result ≡ Err (ReadError.Refused f)
-        → item_value (node depth) (value depth) column text.now (texts lines.now) ≡ None }
+        → item_value (node depth) (value depth) column text.now (texts lines.entry.texts.now)
+        ≡ None }
 {
     if is_end(skip(true, text)) {
         write_below(out, depth, Some(column), head, lines)?;
@@ -362,7 +352,14 @@ fn write_item(
     }
     let next = skip(false, text);
     if begins_with(b'\t', next.as_bytes()) {
-        write_value(out, depth, Some(column), head, skip(true, text), lines)?;
+        write_value(
+            out,
+            depth,
+            Some(column),
+            head,
+            skip(true, text),
+            lines.texts,
+        )?;
         return Ok(());
     }
     let at = column + 1 + blanks(false, text);
@@ -378,15 +375,17 @@ fn write_map(
     column: usize,
     head: usize,
     first: KeyLine<'_>,
-    lines: &[&str],
+    lines: SpannedLines<'_, '_>,
 ) -> Result<(), ReadError>
     requires key { key first.text.now ≡ Some (first.name.now, first.behind.now) }
     ensures ok { OnOk result (said out.old.writer.tokens
-        (option_map object (members_in node depth column first.entry.text.now (texts lines.now)))
+        (option_map object
+        (members_in node depth column first.entry.text.now (texts lines.entry.texts.now)))
         ≡ Some out.new.writer.tokens) }
     ensures before { OnOk result (KeepsBefore out.old.writer out.new.writer) }
     ensures refused { (f : Refusal) → result ≡ Err (ReadError.Refused f)
-        → members_in node depth column first.entry.text.now (texts lines.now) ≡ None }
+        → members_in node depth column first.entry.text.now (texts lines.entry.texts.now)
+        ≡ None }
 {
     if depth == 0 {
         return Err(fault(FaultKind::TooDeep, head, first.text));
@@ -404,20 +403,20 @@ fn write_members(
     column: usize,
     head: usize,
     first: KeyLine<'_>,
-    lines: &[&str],
+    lines: SpannedLines<'_, '_>,
 ) -> Result<(), ReadError>
     requires key { key first.text.now ≡ Some (first.name.now, first.behind.now) }
     ensures ok { OnOk result (said_members out.old.writer.tokens
-        (members_at depth column first.entry.text.now (texts lines.now))
+        (members_at depth column first.entry.text.now (texts lines.entry.texts.now))
         ≡ Some out.new.writer.tokens) }
     ensures before { OnOk result (KeepsBefore out.old.writer out.new.writer) }
     ensures refused { (f : Refusal) → result ≡ Err (ReadError.Refused f)
-        → members_at depth column first.entry.text.now (texts lines.now) ≡ None }
+        → members_at depth column first.entry.text.now (texts lines.entry.texts.now) ≡ None }
 {
-    let end = head.saturating_add(lines.len());
+    let end = head.saturating_add(lines.texts.len());
     let mut rest = write_one_member(out, depth, column, head, first, lines)?;
     'members: while let Some((line, more)) = rest.split_first() {
-        let number = end.saturating_sub(more.len());
+        let number = end.saturating_sub(more.texts.len());
         rest = write_next_member(out, depth, column, number, line, more)?;
     }
     out.writer.end_object()?;
@@ -432,15 +431,15 @@ fn write_next_member<'l, 'a>(
     column: usize,
     number: usize,
     line: &'a str,
-    lines: &'l [&'a str],
-) -> Result<&'l [&'a str], ReadError>
+    lines: SpannedLines<'l, 'a>,
+) -> Result<SpannedLines<'l, 'a>, ReadError>
     ensures ok { IfOk result (λ rest. said_members out.old.writer.tokens
-        (members_of depth column (line.now ∷ texts lines.now))
-        ≡ said_members out.new.writer.tokens (members_of depth column (texts rest.now))) }
-    ensures fewer { IfOk result (λ rest. length rest.now ≤ length lines.now) }
+        (members_of depth column (line.now ∷ texts lines.entry.texts.now))
+        ≡ said_members out.new.writer.tokens (members_of depth column (texts rest.texts.now))) }
+    ensures fewer { IfOk result (λ rest. length rest.texts.now ≤ length lines.entry.texts.now) }
     ensures before { IfOk result (λ rest. KeepsBefore out.old.writer out.new.writer) }
     ensures refused { (f : Refusal) → result ≡ Err (ReadError.Refused f)
-        → members_of depth column (line.now ∷ texts lines.now) ≡ None }
+        → members_of depth column (line.now ∷ texts lines.entry.texts.now) ≡ None }
 {
     let (indent, text) = split_indent(line);
     if indent != column {
@@ -464,23 +463,23 @@ fn write_one_member<'l, 'a>(
     column: usize,
     head: usize,
     member: KeyLine<'_>,
-    lines: &'l [&'a str],
-) -> Result<&'l [&'a str], ReadError>
+    lines: SpannedLines<'l, 'a>,
+) -> Result<SpannedLines<'l, 'a>, ReadError>
     requires key { key member.text.now ≡ Some (member.name.now, member.behind.now) }
     ensures ok { IfOk result (λ rest. said_members out.old.writer.tokens
-        (members_at depth column member.entry.text.now (texts lines.now))
-        ≡ said_members out.new.writer.tokens (members_of depth column (texts rest.now))) }
-    ensures fewer { IfOk result (λ rest. length rest.now ≤ length lines.now) }
+        (members_at depth column member.entry.text.now (texts lines.entry.texts.now))
+        ≡ said_members out.new.writer.tokens (members_of depth column (texts rest.texts.now))) }
+    ensures fewer { IfOk result (λ rest. length rest.texts.now ≤ length lines.entry.texts.now) }
     ensures before { IfOk result (λ rest. KeepsBefore out.old.writer out.new.writer) }
     ensures refused { (f : Refusal) → result ≡ Err (ReadError.Refused f)
-        → members_at depth column member.entry.text.now (texts lines.now) ≡ None }
+        → members_at depth column member.entry.text.now (texts lines.entry.texts.now) ≡ None }
 {
     out.keys.push(Place {
         line: head,
         left: member.text.len(),
     })?;
     out.writer.key(member.name)?;
-    let dashes = takes_dashes(column, member.behind, lines);
+    let dashes = takes_dashes(column, member.behind, lines.texts);
     let (own, rest) = lines.split_at(own_lines(true, dashes, column, lines));
     write_member(out, depth, column, head, member.behind, own)?;
     Ok(rest)
@@ -494,21 +493,22 @@ fn write_member(
     column: usize,
     head: usize,
     text: &str,
-    lines: &[&str],
+    lines: SpannedLines<'_, '_>,
 ) -> Result<(), ReadError>
     ensures ok { OnOk result (said out.old.writer.tokens
-        (member_value (node depth) (value depth) column text.now (texts lines.now))
+        (member_value (node depth) (value depth) column text.now (texts lines.entry.texts.now))
         ≡ Some out.new.writer.tokens) }
     ensures before { OnOk result (KeepsBefore out.old.writer out.new.writer) }
     ensures refused { (f : Refusal) → result ≡ Err (ReadError.Refused f)
-        → member_value (node depth) (value depth) column text.now (texts lines.now) ≡ None }
+        → member_value (node depth) (value depth) column text.now (texts lines.entry.texts.now)
+        ≡ None }
 {
     let value = skip(true, text);
     if is_end(value) {
         write_below(out, depth, Some(column), head, lines)?;
         return Ok(());
     }
-    write_value(out, depth, Some(column), head, value, lines)?;
+    write_value(out, depth, Some(column), head, value, lines.texts)?;
     Ok(())
 }
 
@@ -522,5 +522,10 @@ pub(crate) fn write_lines(out: &mut Output, head: usize, lines: &[&str]) -> Resu
     ensures refused { (f : Refusal) → result ≡ Err (ReadError.Refused f)
         → below (node 128) None (texts lines.now) ≡ None }
 {
-    write_below(out, 128, None, head, lines)
+    let spans = spans_of(out.alloc, lines)?;
+    let all = SpannedLines {
+        texts: lines,
+        spans: spans.as_slice(),
+    };
+    write_below(out, 128, None, head, all)
 }

@@ -15,5 +15,7 @@ pub mod laws;
 mod line;
 pub mod literal;
 mod names;
+mod own;
 pub mod reader;
+pub mod spans;
 pub mod value;

@@ -3,9 +3,8 @@ ghost use Rattle.std.specs.Prelude.{◌≡◌, ◌≤◌, ◌<◌, ◌+◌, ◌+
 ghost use Rattle.std.specs.Prelude.{string_bytes, IfOk, OnOk, Option, ℕ};
 ghost use Rattle.haya_yaml.specs.Block.{Node, below, from_first};
 ghost use Rattle.haya_yaml.specs.Line.{are_deeper, are_skipped, begins_dash, begins_letter};
-ghost use Rattle.haya_yaml.specs.Line.{belongs, indent};
-ghost use Rattle.haya_yaml.specs.Line.{is_closer, is_dash, is_dash_at, is_deeper, is_skipped};
-ghost use Rattle.haya_yaml.specs.Line.{joined, rest_of, texts};
+ghost use Rattle.haya_yaml.specs.Line.{indent, is_closer, is_dash, is_dash_at, is_deeper};
+ghost use Rattle.haya_yaml.specs.Line.{is_skipped, joined, rest_of, texts};
 
 use haya_yaml_text::fault::{FaultKind, ReadError, Refusal};
 use haya_yaml_text::white::{begins_with, blanks, is_end, is_gap, skip, split_blanks};
@@ -35,8 +34,8 @@ pub(crate) fn is_skipped(line: &str) -> bool
     is_end(skip(true, line))
 }
 
-// Whether a line begins with a closing bracket.
-fn is_closer(line: &str) -> bool
+/// Whether a line begins with a closing bracket.
+pub(crate) fn is_closer(line: &str) -> bool
     ensures { result ≡ is_closer line.now }
 {
     let bytes = rest_of(line).as_bytes();
@@ -53,29 +52,15 @@ pub(crate) fn is_dash(text: &str) -> bool
     }
 }
 
-// Whether a line is an item of a list at the column.
-fn is_dash_at(column: usize, line: &str) -> bool
+/// Whether a line is an item of a list at the column.
+pub(crate) fn is_dash_at(column: usize, line: &str) -> bool
     ensures { result ≡ is_dash_at column line.now }
 {
     blanks(false, line) == column && is_dash(rest_of(line))
 }
 
-/// Whether a line belongs to the entry above it, which begins at this column.
-pub(crate) fn belongs(dashes: bool, column: usize, line: &str) -> bool
-    ensures { result ≡ belongs dashes column line.now }
-{
-    let (spaces, rest) = split_blanks(false, line);
-    if column < spaces.len() {
-        return true;
-    }
-    if begins_letter(rest.as_bytes()) {
-        return false;
-    }
-    is_skipped(line) || is_closer(line) || (dashes && is_dash_at(column, line))
-}
-
-// Whether a small letter stands here, as at the front of most keys.
-fn begins_letter(bytes: &[u8]) -> bool
+/// Whether a small letter stands here, as at the front of most keys.
+pub(crate) fn begins_letter(bytes: &[u8]) -> bool
     ensures { result ≡ begins_letter bytes.now }
 {
     match bytes {

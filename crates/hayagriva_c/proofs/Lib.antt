@@ -3,9 +3,11 @@ pub mod ContentBox
 pub mod Copied
 pub mod Handed
 pub mod NextHit
+pub mod NoMemory
 pub mod Options
 pub mod Outcomes
 pub mod Pointers
+pub mod Removed
 pub mod Slots
 pub mod Steps
 pub mod Two

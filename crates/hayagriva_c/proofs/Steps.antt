@@ -12,7 +12,7 @@ pub use types.Logic.{sem}
 pub use types.Kit.{‵, raw, ◌⊛◌, some, later, prop, at_ret, Sq, ◌$◌, ◌∵◌, !, qed, done, move, keep, drop, use1, use2, use3, split, join, fsplit, fsplit3, fjoin, feq_i, feq_l, pick, await, rewrite, regoal, suffices, frame, group}
 pub use types.Run.{enter, of_opd, lit, unit_lit, bin, addr, load, look, store, stop, fld, hop, no_more, and_then, assigns, assigns_last, first, blocks, branches, skips, exec, returns, returns_within, well_typed, from}
 pub use types.ByLocal.{alloc_all, pass_all, free_all, look_at, get, through, sets, lands_as, env, look_in_at, get_in}
-pub use denote.Builtin.{u8, usize, bool, unit, u32, u64}
+pub use denote.Builtin.{u8, usize, bool, unit, u32, u64, i32}
 pub use denote.Exit.{yes}
 pub use denote.Laws.{Is, shows}
 pub use denote.Plain.{uint_in, uint_out, uint_Makes, uint_vals, uint_Tells, uint_Lawful, bool_vals, bool_Tells, bool_Lawful}

@@ -62,6 +62,12 @@ abbrev pub NameGives : Option (List ℕ) → ℕ → ℕ → List ℕ → List �
 NameGives None code len old new = Leaves 3 code len old new
 NameGives (Some name) code len old new = IsWritten name code len old new
 
+-- the name of a row is written and its count is told, or there is no such row
+abbrev pub NoteGives : Option (List ℕ × ℕ) → ℕ → ℕ → List ℕ → List ℕ → ℕ → ℕ → Type 0
+NoteGives None code len old new before after = Leaves 3 code len old new × (after ≡ before)
+NoteGives (Some row) code len old new before after =
+    IsWritten row.0 code len old new × (after ≡ row.1)
+
 -- the text of the field with a name, which is none that isn't UTF-8, or out of memory
 abbrev pub TextGives : Option Tree → List ℕ → ℕ → ℕ → List ℕ → List ℕ → Type 0
 TextGives None name code len old new = Leaves 2 code len old new

@@ -24,6 +24,9 @@ message_of code =
     if code == 6 then codes "out of memory" else
     if code == 7 then codes "no such format" else
     if code == 8 then codes "parentheses that nest too deep" else
+    if code == 9 then codes "not one entry" else
+    if code == 10 then codes "no such part" else
+    if code == 11 then codes "not a number" else
     if code == 101 then codes "missing value" else
     if code == 102 then codes "malformed attribute" else
     if code == 103 then codes "missing comma" else

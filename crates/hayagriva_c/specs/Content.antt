@@ -3,6 +3,7 @@ use Rattle.std.specs.Prelude.{ℕ, List, [], Option, None, Some, map, option_and
 use Rattle.haya_entry.specs.Tree.{Tree}
 use Rattle.haya_views.specs.InOrder.{entry_at}
 use Rattle.haya_views.specs.declared.entry_id.EntryId.{EntryId}
+use Rattle.hayagriva_c.specs.Noted.{noted}
 use Rattle.hayagriva_c.specs.declared.content.Asked.{Asked}
 use Rattle.hayagriva_c.specs.declared.content.Content.{Content}
 use Rattle.hayagriva_c.specs.declared.content.Content.TheVariants as held
@@ -13,6 +14,13 @@ library_in (held.Library shelf) = Some shelf.library
 library_in (held.Selector asked) = None
 library_in (held.Words words) = None
 library_in (held.Text text) = None
+
+-- what was passed over of the text of a library
+abbrev pub notes_in : Content → List (List ℕ × ℕ)
+notes_in (held.Library shelf) = noted shelf.notes.items
+notes_in (held.Selector asked) = []
+notes_in (held.Words words) = []
+notes_in (held.Text text) = []
 
 -- the selector, with its names
 abbrev pub selector_in : Content → Option Asked

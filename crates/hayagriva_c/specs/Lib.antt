@@ -1,4 +1,5 @@
 pub mod Asking
+pub mod Changing
 pub mod Codes
 pub mod Content
 pub mod Faults
@@ -6,9 +7,13 @@ pub mod Held
 pub mod Hits
 pub mod Lent
 pub mod Making
+pub mod Noted
+pub mod Notes
+pub mod Owned
 pub mod Reading
 pub mod Reasons
 pub mod Room
 pub mod Texts
 pub mod Told
+pub mod Values
 pub mod Writing

@@ -2,6 +2,8 @@
 use Rattle.std.specs.Prelude.{◌≡◌, ◌⊎◌, ℕ, List, Some}
 use Rattle.haya_formats.specs.Block.{without_mark}
 use Rattle.hayagriva_c.specs.Faults.{IsMemory, Tells}
+use Rattle.hayagriva_c.specs.Noted.{noted}
+use Rattle.hayagriva_c.specs.Notes.{NotesOf}
 use Rattle.hayagriva_c.specs.Reading.{AsksAs, Says, WhyNoLibrary, WhyNoSelector}
 use Rattle.hayagriva_c.specs.declared.content.Asked.{Asked}
 use Rattle.hayagriva_c.specs.declared.content.Content.TheVariants.{Library, Selector}
@@ -25,11 +27,13 @@ pub record NoMemory (c : ℕ) (old new : Held) (after : Fault) : Type 0 where
   pub code : c ≡ 6
   pub fault : IsMemory after
 
--- the pointer leads to the library that the bytes say; the fault is as it was
+-- the pointer leads to the library that the bytes say, with what is passed over of them; the fault
+-- is as it was
 pub record MadeLibrary (format : ℕ) (bytes : List ℕ) (c : ℕ) (new : Held) (before after : Fault) : Type 0 where
   pub shelf : Shelf
   pub holds : new.content ≡ Some (Library shelf)
   pub says : Says format (without_mark bytes) shelf.library
+  pub notes : NotesOf format (without_mark bytes) (noted shelf.notes.items)
   pub code : c ≡ 0
   pub same : after ≡ before
 

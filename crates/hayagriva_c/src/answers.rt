@@ -3,13 +3,15 @@ ghost use Rattle.std.specs.Prelude.{◌≡◌, length, option_map, slice_get};
 ghost use Rattle.std.specs.Option.{option_copied};
 ghost use Rattle.haya_entry.specs.EntryType.{type_name};
 ghost use Rattle.haya_entry.specs.Tree.{fields, view};
-ghost use Rattle.hayagriva_c.specs.Asking.{HasName, KeyGives, MatchGives, NameGives};
+ghost use Rattle.hayagriva_c.specs.Asking.{HasName, KeyGives, MatchGives, NameGives, NoteGives};
 ghost use Rattle.hayagriva_c.specs.Asking.{ParentGives, TextGives, WrittenOf, count_of_parents};
 ghost use Rattle.hayagriva_c.specs.Asking.{size_of};
 ghost use Rattle.hayagriva_c.specs.Content.{names_of};
+ghost use Rattle.hayagriva_c.specs.Noted.{noted_row};
 
 use crate::codes;
 use crate::content::{Asked, Shelf};
+use crate::notes::Noted;
 use crate::room::fill;
 use haya_entry::{Entry, Steps};
 use haya_views::{EntryId, entry_of_key, field_text, parent_of, type_name};
@@ -175,6 +177,24 @@ pub fn entry_matches(
             codes::OK
         }
         Err(_) => codes::OUT_OF_MEMORY,
+    }
+}
+
+/// A name that was passed over, and how often it came.
+pub fn note(row: Option<&Noted>, room: &mut [u8], len: &mut usize, count: &mut u64) -> u32
+    ensures { NoteGives (option_map (λ r. noted_row r.now) row.entry)
+        result len.new room.old room.new count.old count.new }
+{
+    match row {
+        Some(row) => {
+            *len = fill(row.name.as_bytes(), room);
+            *count = row.count;
+            codes::OK
+        }
+        None => {
+            *len = 0;
+            codes::NO_FIELD
+        }
     }
 }
 

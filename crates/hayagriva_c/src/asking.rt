@@ -2,16 +2,20 @@
 ghost use Rattle.std.specs.Prelude.{◌≡◌, length, slice_get};
 ghost use Rattle.haya_entry.specs.EntryType.{type_name};
 ghost use Rattle.haya_entry.specs.Tree.{fields};
-ghost use Rattle.hayagriva_c.specs.Asking.{HasName, KeyGives, MatchGives, NameGives};
+ghost use Rattle.hayagriva_c.specs.Asking.{HasName, KeyGives, MatchGives, NameGives, NoteGives};
 ghost use Rattle.hayagriva_c.specs.Asking.{ParentGives, TextGives, WrittenOf, count_of_parents};
 ghost use Rattle.hayagriva_c.specs.Asking.{size_of};
-ghost use Rattle.hayagriva_c.specs.Content.{entry_in, library_in, names_of, selector_in};
+ghost use Rattle.hayagriva_c.specs.Content.{entry_in, library_in, names_of, notes_in};
+ghost use Rattle.hayagriva_c.specs.Content.{selector_in};
 ghost use Rattle.hayagriva_c.specs.Hits.{NextGives};
+ghost use Rattle.hayagriva_c.specs.Values.{DateGives, NumberGives, PagesGive, PersonGives};
+ghost use Rattle.hayagriva_c.specs.Values.{PersonsAre, count_of_ranges};
 ghost use Rattle.hayagriva_c.specs.Writing.{JsonGives, WriteGives};
 
-use crate::content::{Content, entry_in, library_in, selector_in};
+use crate::content::{Content, entry_in, library_in, notes_in, selector_in};
 use crate::fault::Written;
-use crate::{answers, hits, writing};
+use crate::values::{DateParts, Pages};
+use crate::{answers, hits, values, writing};
 use haya_views::EntryId;
 
 /// How many entries a library has: 0 of what is none.
@@ -54,6 +58,27 @@ pub fn library_write(library: &Content, format: u32, written: &mut Written) -> u
     ensures { WriteGives (library_in library.now) format result written.old written.new }
 {
     writing::write_library(library_in(library), format, written)
+}
+
+/// How many names were passed over of a library's text: 0 of what is none.
+pub fn library_notes(library: &Content) -> usize
+    ensures { result ≡ length (notes_in library.now) }
+{
+    notes_in(library).len()
+}
+
+/// A name that was passed over of a library's text, and how often it came.
+pub fn library_note(
+    library: &Content,
+    number: usize,
+    room: &mut [u8],
+    len: &mut usize,
+    count: &mut u64,
+) -> u32
+    ensures { NoteGives (slice_get (notes_in library.now) number)
+        result len.new room.old room.new count.old count.new }
+{
+    answers::note(notes_in(library).get(number), room, len, count)
 }
 
 /// How many parents an entry has: 0 where there is no entry.
@@ -105,6 +130,58 @@ pub fn entry_text(
         result len.new room.old room.new }
 {
     answers::entry_text(entry_in(library, entry), name, room, len)
+}
+
+/// How many persons the field with a name has.
+pub fn entry_persons(library: &Content, entry: &EntryId, name: &[u8]) -> usize
+    ensures { PersonsAre (entry_in library.now entry.now) name.now result }
+{
+    values::entry_persons(entry_in(library, entry), name)
+}
+
+/// A part of the person at a place of the field with a name.
+pub fn entry_person(
+    library: &Content,
+    entry: &EntryId,
+    name: &[u8],
+    place: usize,
+    part: u32,
+    room: &mut [u8],
+    len: &mut usize,
+) -> u32
+    ensures { PersonGives (entry_in library.now entry.now) name.now place part
+        result len.new room.old room.new }
+{
+    values::entry_person(entry_in(library, entry), name, place, part, room, len)
+}
+
+/// The date of the field with a name.
+pub fn entry_date(library: &Content, entry: &EntryId, name: &[u8], date: &mut DateParts) -> u32
+    ensures { DateGives (entry_in library.now entry.now) name.now result date.old date.new }
+{
+    values::entry_date(entry_in(library, entry), name, date)
+}
+
+/// The number of the field with a name.
+pub fn entry_number(library: &Content, entry: &EntryId, name: &[u8], number: &mut i32) -> u32
+    ensures { NumberGives (entry_in library.now entry.now) name.now
+        result number.old number.new }
+{
+    values::entry_number(entry_in(library, entry), name, number)
+}
+
+/// How many pages and ranges of pages an entry has: 0 where there is no entry.
+pub fn entry_page_ranges(library: &Content, entry: &EntryId) -> usize
+    ensures { result ≡ count_of_ranges (entry_in library.now entry.now) }
+{
+    values::entry_page_ranges(entry_in(library, entry))
+}
+
+/// The page or the range of pages at a place.
+pub fn entry_page_range(library: &Content, entry: &EntryId, place: usize, pages: &mut Pages) -> u32
+    ensures { PagesGive (entry_in library.now entry.now) place result pages.old pages.new }
+{
+    values::entry_page_range(entry_in(library, entry), place, pages)
 }
 
 /// An entry as a line of JSON, without its line feed.

@@ -31,6 +31,15 @@ pub const NO_FORMAT: u32 = 7;
 /// More than a thousand parentheses of a selector are open somewhere.
 pub const TOO_DEEP: u32 = 8;
 
+/// A text says no entry, or several.
+pub const NOT_ONE: u32 = 9;
+
+/// The person has no such part.
+pub const NO_PART: u32 = 10;
+
+/// A field is set, and isn't numbers alone.
+pub const NOT_NUMBER: u32 = 11;
+
 /// A selector lacks a value.
 pub const MISSING_VALUE: u32 = 101;
 
@@ -104,6 +113,9 @@ pub fn message(code: u32) -> &'static str
         OUT_OF_MEMORY => "out of memory",
         NO_FORMAT => "no such format",
         TOO_DEEP => "parentheses that nest too deep",
+        NOT_ONE => "not one entry",
+        NO_PART => "no such part",
+        NOT_NUMBER => "not a number",
         MISSING_VALUE => "missing value",
         MALFORMED_ATTRIBUTE => "malformed attribute",
         MISSING_COMMA => "missing comma",

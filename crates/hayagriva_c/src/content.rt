@@ -2,19 +2,24 @@
 ghost use Rattle.std.specs.Prelude.{◌≡◌, IfSome, option_map};
 ghost use Rattle.std.specs.Option.{option_copied};
 ghost use Rattle.haya_entry.specs.Tree.{view};
-ghost use Rattle.hayagriva_c.specs.Content.{entry_in, library_in, selector_in};
+ghost use Rattle.hayagriva_c.specs.Content.{entry_in, library_in, notes_in, selector_in};
+ghost use Rattle.hayagriva_c.specs.Noted.{noted};
 
+use crate::notes::Noted;
 use crate::told::Words;
 use haya_entry::Entry;
 use haya_selectors::CompiledSelector;
 use haya_views::{EntryId, entry_at};
-use hayagriva::Library;
+use hayagriva::{HashKeys, Library};
 use std::alloc::Global;
 
-/// A library, with the allocator that calls over it use.
+/// A library, with what was passed over of the text that was read last, and with the keys and the
+/// allocator that calls over it use.
 #[derive(Drop)]
 pub struct Shelf {
     pub library: Library,
+    pub notes: Vec<Noted>,
+    pub keys: HashKeys,
     pub alloc: Global,
 }
 
@@ -38,6 +43,18 @@ pub enum Content {
     Text(Vec<u8>),
 }
 
+impl Content {
+    /// The allocator that it is of.
+    pub fn allocator(&self) -> Global {
+        match self {
+            Content::Library(shelf) => shelf.alloc,
+            Content::Selector(asked) => *asked.names.allocator(),
+            Content::Words(words) => *words.reason.allocator(),
+            Content::Text(text) => *text.allocator(),
+        }
+    }
+}
+
 /// A box of the content, or nothing where an allocation fails.
 pub fn boxed(alloc: Global, content: Content) -> Option<Box<Content>>
     ensures { IfSome result (λ b. b.value ≡ content) }
@@ -58,6 +75,16 @@ pub fn library_in(content: &Content) -> Option<&Shelf>
     match content {
         Content::Library(shelf) => Some(shelf),
         _ => None,
+    }
+}
+
+/// What was passed over of the text of a library, if it is one.
+pub fn notes_in(content: &Content) -> &[Noted]
+    ensures { noted result.now ≡ notes_in content.now }
+{
+    match content {
+        Content::Library(shelf) => shelf.notes.as_slice(),
+        _ => &[],
     }
 }
 

@@ -3,17 +3,21 @@ ghost use Rattle.std.specs.Prelude.{◌≡◌, length, slice_get};
 ghost use Rattle.std.specs.Borrow.{sem};
 ghost use Rattle.haya_entry.specs.EntryType.{type_name};
 ghost use Rattle.haya_entry.specs.Tree.{fields};
-ghost use Rattle.hayagriva_c.specs.Asking.{HasName, KeyGives, MatchGives, NameGives};
+ghost use Rattle.hayagriva_c.specs.Asking.{HasName, KeyGives, MatchGives, NameGives, NoteGives};
 ghost use Rattle.hayagriva_c.specs.Asking.{ParentGives, TextGives, WrittenOf, count_of_parents};
 ghost use Rattle.hayagriva_c.specs.Asking.{size_of};
-ghost use Rattle.hayagriva_c.specs.Content.{entry_in, library_in, names_of, selector_in};
+ghost use Rattle.hayagriva_c.specs.Content.{entry_in, library_in, names_of, notes_in};
+ghost use Rattle.hayagriva_c.specs.Content.{selector_in};
 ghost use Rattle.hayagriva_c.specs.Hits.{NextGives};
 ghost use Rattle.hayagriva_c.specs.Lent.{Loan, both_lent, both_tokens, lent, token};
+ghost use Rattle.hayagriva_c.specs.Values.{DateGives, NumberGives, PagesGive, PersonGives};
+ghost use Rattle.hayagriva_c.specs.Values.{PersonsAre, count_of_ranges};
 ghost use Rattle.hayagriva_c.specs.Writing.{JsonGives, WriteGives};
 
 use crate::asking;
 use crate::content::Content;
 use crate::fault::Written;
+use crate::values::{DateParts, Pages};
 use haya_views::EntryId;
 
 /// How many entries a library has.
@@ -39,6 +43,34 @@ pub unsafe extern "C" fn haya_library_get(
         ∗ ⌜ KeyGives (library_in loan.value) key.now result entry.old entry.new ⌝ }
 {
     asking::library_get(&*library.cast::<Content>(), key, entry)
+}
+
+/// How many names were passed over of the library's text.
+#[unsafe(no_mangle)]
+pub unsafe extern "C" fn haya_library_notes(library: *const u8) -> usize
+    ghost loan: { Loan }
+    requires* { sem 𝓛 (lent library loan) }
+    ensures* { sem 𝓛 (token loan) ∗ ⌜ result ≡ length (notes_in loan.value) ⌝ }
+{
+    asking::library_notes(&*library.cast::<Content>())
+}
+
+/// A name that was passed over of the library's text, and how often it came.
+#[unsafe(no_mangle)]
+pub unsafe extern "C" fn haya_library_note(
+    library: *const u8,
+    number: usize,
+    room: &mut [u8],
+    len: &mut usize,
+    count: &mut u64,
+) -> u32
+    ghost loan: { Loan }
+    requires* { sem 𝓛 (lent library loan) }
+    ensures* { sem 𝓛 (token loan)
+        ∗ ⌜ NoteGives (slice_get (notes_in loan.value) number)
+        result len.new room.old room.new count.old count.new ⌝ }
+{
+    asking::library_note(&*library.cast::<Content>(), number, room, len, count)
 }
 
 /// The next entry where a selector holds, from a place on, and the entries that its names stand
@@ -155,6 +187,108 @@ pub unsafe extern "C" fn haya_entry_text(
         result len.new room.old room.new ⌝ }
 {
     asking::entry_text(&*library.cast::<Content>(), entry, name, room, len)
+}
+
+/// How many persons the field with a name has.
+#[unsafe(no_mangle)]
+pub unsafe extern "C" fn haya_entry_persons(
+    library: *const u8,
+    entry: &EntryId,
+    name: &[u8],
+) -> usize
+    ghost loan: { Loan }
+    requires* { sem 𝓛 (lent library loan) }
+    ensures* { sem 𝓛 (token loan)
+        ∗ ⌜ PersonsAre (entry_in loan.value entry.now) name.now result ⌝ }
+{
+    asking::entry_persons(&*library.cast::<Content>(), entry, name)
+}
+
+/// A part of the person at a place of the field with a name.
+#[unsafe(no_mangle)]
+pub unsafe extern "C" fn haya_entry_person(
+    library: *const u8,
+    entry: &EntryId,
+    name: &[u8],
+    place: usize,
+    part: u32,
+    room: &mut [u8],
+    len: &mut usize,
+) -> u32
+    ghost loan: { Loan }
+    requires* { sem 𝓛 (lent library loan) }
+    ensures* { sem 𝓛 (token loan)
+        ∗ ⌜ PersonGives (entry_in loan.value entry.now) name.now place part
+        result len.new room.old room.new ⌝ }
+{
+    asking::entry_person(
+        &*library.cast::<Content>(),
+        entry,
+        name,
+        place,
+        part,
+        room,
+        len,
+    )
+}
+
+/// The date of the field with a name, in parts.
+#[unsafe(no_mangle)]
+pub unsafe extern "C" fn haya_entry_date(
+    library: *const u8,
+    entry: &EntryId,
+    name: &[u8],
+    date: &mut DateParts,
+) -> u32
+    ghost loan: { Loan }
+    requires* { sem 𝓛 (lent library loan) }
+    ensures* { sem 𝓛 (token loan)
+        ∗ ⌜ DateGives (entry_in loan.value entry.now) name.now result date.old date.new ⌝ }
+{
+    asking::entry_date(&*library.cast::<Content>(), entry, name, date)
+}
+
+/// The number of the field with a name.
+#[unsafe(no_mangle)]
+pub unsafe extern "C" fn haya_entry_number(
+    library: *const u8,
+    entry: &EntryId,
+    name: &[u8],
+    number: &mut i32,
+) -> u32
+    ghost loan: { Loan }
+    requires* { sem 𝓛 (lent library loan) }
+    ensures* { sem 𝓛 (token loan)
+        ∗ ⌜ NumberGives (entry_in loan.value entry.now) name.now result number.old number.new ⌝ }
+{
+    asking::entry_number(&*library.cast::<Content>(), entry, name, number)
+}
+
+/// How many pages and ranges of pages an entry has.
+#[unsafe(no_mangle)]
+pub unsafe extern "C" fn haya_entry_page_ranges(library: *const u8, entry: &EntryId) -> usize
+    ghost loan: { Loan }
+    requires* { sem 𝓛 (lent library loan) }
+    ensures* { sem 𝓛 (token loan)
+        ∗ ⌜ result ≡ count_of_ranges (entry_in loan.value entry.now) ⌝ }
+{
+    asking::entry_page_ranges(&*library.cast::<Content>(), entry)
+}
+
+/// The page or the range of pages at a place.
+#[unsafe(no_mangle)]
+pub unsafe extern "C" fn haya_entry_page_range(
+    library: *const u8,
+    entry: &EntryId,
+    place: usize,
+    pages: &mut Pages,
+) -> u32
+    ghost loan: { Loan }
+    requires* { sem 𝓛 (lent library loan) }
+    ensures* { sem 𝓛 (token loan)
+        ∗ ⌜ PagesGive (entry_in loan.value entry.now) place result pages.old pages.new ⌝ }
+{
+    asking::entry_page_range(&*library.cast::<Content>(), entry, place, pages)
 }
 
 /// An entry as a line of JSON: an object of its `key`, and of the `entry` in hayagriva's file format.

@@ -1,15 +1,21 @@
 //! Libraries and selectors that are read from bytes.
 ghost use Rattle.std.specs.Prelude.{◌≡◌, ◌⊎◌, IfErr, IfOk, map, string_bytes};
-ghost use Rattle.haya_bibtex.specs.Libraries.{DescribesAsBibtex};
+ghost use Rattle.haya_bibtex.specs.Libraries.{DescribesAsBibtex, TellsAsBibtex};
 ghost use Rattle.haya_csl.specs.Libraries.{DescribesAsCsl};
+ghost use Rattle.haya_csl.specs.Told.{TellsAsCsl};
 ghost use Rattle.haya_csl.specs.declared.item_key.ItemKey.TheVariants.{CitationKey};
 ghost use Rattle.haya_formats.specs.Block.{without_mark};
 ghost use Rattle.haya_input.specs.Input.{Describes as LinesDescribe};
 ghost use Rattle.haya_json.specs.JsonLines.{Describes as JsonLinesDescribe};
+ghost use Rattle.haya_json.specs.JsonLines.{Tells as JsonLinesTell};
 ghost use Rattle.haya_json.specs.Libraries.{Describes as JsonDescribes};
+ghost use Rattle.haya_json.specs.Notes.{none_kept, notes_view};
+ghost use Rattle.haya_json.specs.Told.{Tells as JsonTells};
 ghost use Rattle.haya_selectors.specs.BoundNames.{bound_names};
 ghost use Rattle.haya_selectors.specs.Syntax.{syntax};
-ghost use Rattle.haya_yaml_library.specs.Libraries.{DescribesAsYaml};
+ghost use Rattle.haya_yaml_library.specs.Libraries.{DescribesAsYaml, TellsAsYaml};
+ghost use Rattle.hayagriva_c.specs.Noted.{noted};
+ghost use Rattle.hayagriva_c.specs.Notes.{NotesOf, TellsIn};
 ghost use Rattle.hayagriva_c.specs.Reading.{AsksAs, IsFront, IsToldAt, Says, SaysIn, WhyNoFront};
 ghost use Rattle.hayagriva_c.specs.Reading.{WhyNoLibrary, WhyNoSelector, WhyNotBibtex, WhyNotCsl};
 ghost use Rattle.hayagriva_c.specs.Reading.{WhyNotIn, WhyNotJson, WhyNotJsonLines, WhyNotLines};
@@ -18,13 +24,14 @@ ghost use Rattle.hayagriva_c.specs.Reading.{numbered};
 ghost use Rattle.hayagriva_c.specs.Told.{IsMemoryTold};
 
 use crate::content::{Asked, Shelf};
+use crate::notes::counted;
 use crate::told::Told;
 use crate::{codes, reasons};
 use haya_bibtex::read_bibtex_with_hash_keys;
 use haya_csl::{ItemKey, read_csl_json_with_hash_keys};
 use haya_formats::{Format as Guess, format_of, without_mark};
 use haya_input::read_library;
-use haya_json::{read_json_lines, read_library_with_hash_keys};
+use haya_json::{Notes, read_json_lines, read_library_with_hash_keys};
 use haya_selectors::CompiledSelector;
 use haya_text::OutOfMemory;
 use haya_views::names_of;
@@ -101,6 +108,8 @@ fn asked_format(alloc: Global, number: u32, bytes: &[u8]) -> Result<Option<Forma
 /// mark at their front is passed over.
 pub fn library_of(alloc: Global, keys: HashKeys, number: u32, bytes: &[u8]) -> Result<Shelf, Told>
     ensures library { IfOk result (λ shelf. Says number (without_mark bytes.now) shelf.library) }
+    ensures notes { IfOk result
+        (λ shelf. NotesOf number (without_mark bytes.now) (noted shelf.notes.items)) }
     ensures told { IfErr result (WhyNoLibrary number (without_mark bytes.now)) }
 {
     let bytes = without_mark(bytes);
@@ -114,14 +123,38 @@ pub fn library_of(alloc: Global, keys: HashKeys, number: u32, bytes: &[u8]) -> R
         return Err(Told::alone(alloc, codes::NOT_TEXT));
     };
     match library_in(alloc, keys, format, text) {
-        Ok(library) => Ok(Shelf { library, alloc }),
+        Ok((library, notes)) => shelf_of(alloc, keys, library, &notes),
         Err(told) => Err(told),
     }
 }
 
-// The library that a text says in this format, or why it says none.
-fn library_in(alloc: Global, keys: HashKeys, format: Format, text: &str) -> Result<Library, Told>
-    ensures library { IfOk result (SaysIn format text.now) }
+// The library with the names that are counted of what is told of its text.
+fn shelf_of(alloc: Global, keys: HashKeys, library: Library, notes: &Notes) -> Result<Shelf, Told>
+    ensures library { IfOk result (λ shelf. shelf.library ≡ library) }
+    ensures notes { IfOk result
+        (λ shelf. noted shelf.notes.items ≡ (notes_view notes.now).counts) }
+    ensures told { IfErr result IsMemoryTold }
+{
+    match counted(alloc, notes) {
+        Ok(notes) => Ok(Shelf {
+            library,
+            notes,
+            keys,
+            alloc,
+        }),
+        Err(_) => Err(Told::memory(alloc)),
+    }
+}
+
+// The library that a text says in this format and what is told of it, or why it says none.
+fn library_in(
+    alloc: Global,
+    keys: HashKeys,
+    format: Format,
+    text: &str,
+) -> Result<(Library, Notes), Told>
+    ensures library { IfOk result (λ read. SaysIn format text.now read.0) }
+    ensures notes { IfOk result (λ read. TellsIn format text.now (notes_view read.1)) }
     ensures told { IfErr result (WhyNotIn format text.now) }
 {
     match format {
@@ -134,77 +167,70 @@ fn library_in(alloc: Global, keys: HashKeys, format: Format, text: &str) -> Resu
     }
 }
 
-fn lines(alloc: Global, keys: HashKeys, text: &str) -> Result<Library, Told>
-    ensures library { IfOk result (LinesDescribe text.now) }
+fn lines(alloc: Global, keys: HashKeys, text: &str) -> Result<(Library, Notes), Told>
+    ensures library { IfOk result (λ read. LinesDescribe text.now read.0) }
+    ensures notes { IfOk result (λ read. notes_view read.1 ≡ none_kept) }
     ensures told { IfErr result (WhyNotLines text.now) }
 {
     match read_library(alloc, keys, text) {
-        Ok(library) => Ok(library),
+        Ok(library) => Ok((library, Notes::with_hash_keys(alloc, keys))),
         Err(fault) => Err(reasons::of_input(alloc, fault)),
     }
 }
 
-fn json(alloc: Global, keys: HashKeys, text: &str) -> Result<Library, Told>
-    ensures library { IfOk result (JsonDescribes text.now) }
+/// The library that a text says in hayagriva's file format, written as JSON, and what is told of
+/// it, or why it says none.
+pub fn json(alloc: Global, keys: HashKeys, text: &str) -> Result<(Library, Notes), Told>
+    ensures library { IfOk result (λ read. JsonDescribes text.now read.0) }
+    ensures notes { IfOk result (λ read. JsonTells text.now (notes_view read.1)) }
     ensures told { IfErr result (WhyNotJson text.now) }
 {
     match read_library_with_hash_keys(alloc, keys, text) {
-        Ok((library, notes)) => {
-            drop(notes);
-            Ok(library)
-        }
+        Ok(read) => Ok(read),
         Err(error) => Err(reasons::of_json(alloc, &error)),
     }
 }
 
-fn csl(alloc: Global, keys: HashKeys, text: &str) -> Result<Library, Told>
-    ensures library { IfOk result (DescribesAsCsl CitationKey text.now) }
+fn csl(alloc: Global, keys: HashKeys, text: &str) -> Result<(Library, Notes), Told>
+    ensures library { IfOk result (λ read. DescribesAsCsl CitationKey text.now read.0) }
+    ensures notes { IfOk result (λ read. TellsAsCsl CitationKey text.now (notes_view read.1)) }
     ensures told { IfErr result (WhyNotCsl text.now) }
 {
     match read_csl_json_with_hash_keys(alloc, keys, ItemKey::CitationKey, text) {
-        Ok((library, notes)) => {
-            drop(notes);
-            Ok(library)
-        }
+        Ok(read) => Ok(read),
         Err(error) => Err(reasons::of_json(alloc, &error)),
     }
 }
 
-fn json_lines(alloc: Global, keys: HashKeys, text: &str) -> Result<Library, Told>
-    ensures library { IfOk result (JsonLinesDescribe text.now) }
+fn json_lines(alloc: Global, keys: HashKeys, text: &str) -> Result<(Library, Notes), Told>
+    ensures library { IfOk result (λ read. JsonLinesDescribe text.now read.0) }
+    ensures notes { IfOk result (λ read. JsonLinesTell text.now (notes_view read.1)) }
     ensures told { IfErr result (WhyNotJsonLines text.now) }
 {
     match read_json_lines(alloc, keys, text) {
-        Ok((library, notes)) => {
-            drop(notes);
-            Ok(library)
-        }
+        Ok(read) => Ok(read),
         Err(error) => Err(reasons::of_json_line(alloc, &error)),
     }
 }
 
-fn yaml(alloc: Global, keys: HashKeys, text: &str) -> Result<Library, Told>
-    ensures library { IfOk result (DescribesAsYaml text.now) }
+fn yaml(alloc: Global, keys: HashKeys, text: &str) -> Result<(Library, Notes), Told>
+    ensures library { IfOk result (λ read. DescribesAsYaml text.now read.0) }
+    ensures notes { IfOk result (λ read. TellsAsYaml text.now (notes_view read.1)) }
     ensures told { IfErr result (WhyNotYaml text.now) }
 {
     match read_yaml_with_hash_keys(alloc, keys, text) {
-        Ok((library, notes)) => {
-            drop(notes);
-            Ok(library)
-        }
+        Ok(read) => Ok(read),
         Err(error) => Err(reasons::of_yaml(alloc, &error)),
     }
 }
 
-fn bibtex(alloc: Global, keys: HashKeys, text: &str) -> Result<Library, Told>
-    ensures library { IfOk result (DescribesAsBibtex text.now) }
+fn bibtex(alloc: Global, keys: HashKeys, text: &str) -> Result<(Library, Notes), Told>
+    ensures library { IfOk result (λ read. DescribesAsBibtex text.now read.0) }
+    ensures notes { IfOk result (λ read. TellsAsBibtex text.now (notes_view read.1)) }
     ensures told { IfErr result (WhyNotBibtex text.now) }
 {
     match read_bibtex_with_hash_keys(alloc, keys, text) {
-        Ok((library, notes)) => {
-            drop(notes);
-            Ok(library)
-        }
+        Ok(read) => Ok(read),
         Err(error) => Err(reasons::of_bibtex(alloc, &error)),
     }
 }

@@ -4,9 +4,11 @@ from __future__ import annotations
 import json
 import os
 import secrets
+import threading
 import weakref
+from contextlib import contextmanager
 from ctypes import Array, byref, c_bool, c_size_t, c_void_p
-from typing import Any, Dict, Iterator, List, Mapping, Optional, Tuple, Union
+from typing import Any, Dict, Iterator, List, Mapping, MutableMapping, Optional, Tuple, Union
 
 from . import _native as n
 from ._errors import Error, OutOfMemory, parse_failed, selector_failed
@@ -30,6 +32,32 @@ _AT_ONCE = 64
 def _refused(code: int) -> Error:
     kind = OutOfMemory if code == n.OUT_OF_MEMORY else Error
     return kind(n.message(code), code)
+
+
+class _Gate:
+    """Lets any number of threads read, or one change."""
+
+    __slots__ = ("_free", "_readers")
+
+    def __init__(self) -> None:
+        self._free, self._readers = threading.Condition(), 0
+
+    def __enter__(self) -> None:
+        with self._free:
+            self._readers += 1
+
+    def __exit__(self, *_: object) -> None:
+        with self._free:
+            self._readers -= 1
+            if not self._readers:
+                self._free.notify_all()
+
+    @contextmanager
+    def alone(self) -> Iterator[None]:
+        """No thread reads then, and none begins to."""
+        with self._free:
+            self._free.wait_for(lambda: not self._readers)
+            yield
 
 
 class Selector:
@@ -161,13 +189,13 @@ class Hit:
     ('a', 'blog', {'b': <blog b>})
     """
 
-    __slots__ = ("library", "selector", "place", "_steps")
+    __slots__ = ("library", "selector", "place", "_steps", "_changes")
 
     def __init__(self, library: Library, selector: Selector, place: int, steps: Dict[str, int]) -> None:
         self.library, self.selector = library, selector
         #: The place of the entry in the library, from 0 on.
         self.place = place
-        self._steps = steps
+        self._steps, self._changes = steps, library._changes
 
     @property
     def key(self) -> str:
@@ -175,7 +203,10 @@ class Hit:
 
     @property
     def entry(self) -> Entry:
-        return self.library.at(self.place)
+        """The entry. RuntimeError where the library has changed since."""
+        with self.library._gate:
+            self.library._is_still(self._changes)
+            return self.library.at(self.place)
 
     @property
     def bound(self) -> Dict[str, Entry]:
@@ -200,15 +231,20 @@ class Hit:
         return f"<Hit {self.key}{''.join(' ' + name for name in self._steps)}>"
 
 
-class Library(Mapping[str, Entry]):
-    """Entries in order, each under its key. It doesn't change, and any number of threads may ask it.
+class Library(MutableMapping[str, Entry]):
+    """Entries in order, each under its key. Any number of threads may ask it, and change it: who changes waits for those
+    who ask.
 
     >>> library = Library.parse("0\\ta\\tbook\\n0\\tb\\tarticle\\n")
     >>> list(library), len(library), library["b"].type, "c" in library
     (['a', 'b'], 2, 'article', False)
+    >>> library["c"] = {"type": "book", "title": "It"}
+    >>> del library["a"]
+    >>> [(entry.key, entry.title) for entry in library.entries()]
+    [('b', None), ('c', 'It')]
     """
 
-    __slots__ = ("source", "_held", "_lines", "_block", "_places", "__weakref__")
+    __slots__ = ("source", "_held", "_lines", "_block", "_places", "_gate", "_changes", "__weakref__")
 
     #: The file that it was read of.
     source: Optional[str]
@@ -216,6 +252,8 @@ class Library(Mapping[str, Entry]):
     _lines: Optional[List[bytes]]
     _block: Tuple[int, List[Entry]]
     _places: Optional[Dict[str, int]]
+    _gate: _Gate
+    _changes: int
 
     def __init__(self) -> None:
         raise TypeError("a library is made by Library.read or Library.parse")
@@ -248,12 +286,55 @@ class Library(Mapping[str, Entry]):
         if n.library_read(text, len(text), number, *keys, byref(held), byref(fault)) != n.OK:
             parse_failed(fault, source)
         weakref.finalize(self, n.library_free, held).atexit = False
-        self.source, self._held, self._lines, self._block, self._places = source, held, None, (0, []), None
+        self.source, self._held, self._gate, self._changes = source, held, _Gate(), 0
+        self._lines, self._block, self._places = None, (0, []), None
         return self
+
+    def _is_still(self, changes: int) -> None:
+        if self._changes != changes:
+            raise RuntimeError("the library has changed since")
+
+    def _changed(self) -> None:
+        self._changes += 1
+        self._lines, self._block, self._places = None, (0, []), None
+
+    def __setitem__(self, key: str, entry: Mapping[str, Any]) -> None:
+        """Puts an entry, as in hayagriva's file format, in the place of the one with its key, or last. Raises ParseError
+        where it is none, and the library stays as it was.
+
+        >>> library = Library.parse("")
+        >>> library["a"] = {"type": "book", "titel": "It"}
+        >>> library.notes
+        {'titel': 1}
+        """
+        text, fault = json.dumps({key: dict(entry)}).encode(), n.Fault()
+        with self._gate.alone():
+            if n.library_push(self._held, text, len(text), byref(fault)) != n.OK:
+                parse_failed(fault, None)
+            self._changed()
+
+    def __delitem__(self, key: str) -> None:
+        """Takes the entry with a key out."""
+        text = key.encode("utf-8", "surrogatepass")
+        with self._gate.alone():
+            if n.library_remove(self._held, text, len(text)) != n.OK:
+                raise KeyError(key)
+            self._changed()
+
+    @property
+    def notes(self) -> Dict[str, int]:
+        """What was passed over of the text that was read last: each name with how often it came, as `haya` says it.
+
+        >>> Library.parse('{"a": {"type": "book", "titel": 1}, "b": {"type": "book", "titel": 2}}').notes
+        {'titel': 2}
+        """
+        with self._gate:
+            return dict(n.note_of(self._held, number) for number in range(n.library_notes(self._held)))
 
     def _written(self, format: int) -> bytes:
         written = n.Written()
-        code = n.library_write(self._held, format, byref(written))
+        with self._gate:
+            code = n.library_write(self._held, format, byref(written))
         try:
             if code != n.OK:
                 raise _refused(code)
@@ -263,41 +344,49 @@ class Library(Mapping[str, Entry]):
 
     def at(self, place: int) -> Entry:
         """The entry at a place, from 0 on."""
-        first, block = self._block
-        if not 0 <= place - first < len(block):
-            many = _AT_ONCE if place == first + len(block) else 1
-            first, block = self._block = place, self._read(place, many)
-            if not block:
-                raise IndexError(place)
-        return block[place - first]
+        with self._gate:
+            first, block = self._block
+            if not 0 <= place - first < len(block):
+                many = _AT_ONCE if place == first + len(block) else 1
+                first, block = self._block = place, self._read(place, many)
+                if not block:
+                    raise IndexError(place)
+            return block[place - first]
 
     def _read(self, place: int, many: int) -> List[Entry]:
         """So many entries from a place on, as far as there are any."""
-        lines = self._lines
-        if lines is None:
-            self._lines = lines = self._written(n.JSON_LINES).split(b"\n")[:-1]
+        with self._gate:
+            lines = self._lines
+            if lines is None:
+                self._lines = lines = self._written(n.JSON_LINES).split(b"\n")[:-1]
         asked = lines[place : place + many] if place >= 0 else []
         return [Entry(line["key"], line["entry"]) for line in json.loads(b"[" + b",".join(asked) + b"]")]
 
     def entries(self) -> Iterator[Entry]:
-        """The entries, in order."""
+        """The entries, in order. RuntimeError where the library has changed in between."""
+        changes = self._changes
         for first in range(0, len(self), _AT_ONCE):
-            yield from self._read(first, _AT_ONCE)
+            with self._gate:
+                self._is_still(changes)
+                block = self._read(first, _AT_ONCE)
+            yield from block
 
     def __len__(self) -> int:
-        return int(n.library_len(self._held))
+        with self._gate:
+            return int(n.library_len(self._held))
 
     def __iter__(self) -> Iterator[str]:
         return (entry.key for entry in self.entries())
 
     def __getitem__(self, key: str) -> Entry:
-        if self._places is None:
-            self._places = {entry.key: place for place, entry in enumerate(self.entries())}
-        return self.at(self._places[key])
+        with self._gate:
+            if self._places is None:
+                self._places = {entry.key: place for place, entry in enumerate(self.entries())}
+            return self.at(self._places[key])
 
     def query(self, selector: Union[str, Selector]) -> Iterator[Hit]:
         """The hits of a selector, in the library's order, each looked for when it is asked for. Raises SelectorError
-        at once."""
+        at once, and RuntimeError where the library has changed in between."""
         return self._hits(selector if isinstance(selector, Selector) else Selector(selector))
 
     def _hits(self, selector: Selector) -> Iterator[Hit]:
@@ -305,8 +394,11 @@ class Library(Mapping[str, Entry]):
         place, hit = c_size_t(0), n.Place()
         bound: Array[n.Place] = (n.Place * (count + 1))()
         asked = (self._held, selector._held, byref(place), byref(hit), bound, count + 1)
+        changes = self._changes
         while True:
-            code = n.library_next(*asked)
+            with self._gate:
+                self._is_still(changes)
+                code = n.library_next(*asked)
             if code == n.END:
                 return
             if code != n.OK:
@@ -322,7 +414,8 @@ class Library(Mapping[str, Entry]):
         """Whether a selector holds at the entry at a place."""
         asked = selector if isinstance(selector, Selector) else Selector(selector)
         holds = c_bool()
-        code = n.entry_matches(self._held, asked._held, byref(n.Place(place, 0)), byref(holds))
+        with self._gate:
+            code = n.entry_matches(self._held, asked._held, byref(n.Place(place, 0)), byref(holds))
         if code == n.NO_ENTRY:
             raise IndexError(place)
         if code != n.OK:

@@ -3,10 +3,11 @@ from __future__ import annotations
 
 import ctypes
 from ctypes import POINTER, Structure, byref, c_bool, c_char, c_char_p, c_size_t, c_uint32, c_uint64, c_void_p
+from functools import partial
 from pathlib import Path
-from typing import Any, Callable
+from typing import Any, Callable, Tuple
 
-OK, END, NO_ENTRY, NO_FIELD, WRONG_KIND, NOT_TEXT, OUT_OF_MEMORY, NO_FORMAT, TOO_DEEP = range(9)
+OK, END, NO_ENTRY, NO_FIELD, WRONG_KIND, NOT_TEXT, OUT_OF_MEMORY, NO_FORMAT, TOO_DEEP, NOT_ONE_ENTRY = range(10)
 GUESSED, LINES, JSON, CSL, JSON_LINES, YAML, BIBTEX = range(7)
 NOWHERE = c_size_t(-1).value
 VERSION = 2
@@ -78,6 +79,12 @@ library_read = _call(
 library_free = _call("library_free", None, c_void_p)
 library_len = _call("library_len", c_size_t, c_void_p)
 library_next = _call("library_next", c_uint32, c_void_p, c_void_p, _LEN, _PLACE, _PLACE, c_size_t)
+library_notes = _call("library_notes", c_size_t, c_void_p)
+library_note = _call(
+    "library_note", c_uint32, c_void_p, c_size_t, POINTER(c_char), c_size_t, _LEN, POINTER(c_uint64)
+)
+library_push = _call("library_push", c_uint32, c_void_p, c_char_p, c_size_t, POINTER(Fault))
+library_remove = _call("library_remove", c_uint32, c_void_p, c_char_p, c_size_t)
 library_write = _call("library_write", c_uint32, c_void_p, c_uint32, POINTER(Written))
 written_free = _call("written_free", None, POINTER(Written))
 selector_read = _call("selector_read", c_uint32, c_char_p, c_size_t, _LEN, POINTER(c_void_p), POINTER(Fault))
@@ -99,14 +106,24 @@ def message(code: int) -> str:
     return room.raw[: min(length, len(room))].decode()
 
 
-def name_of(selector: c_void_p, number: int) -> str:
-    """A name that a selector binds."""
+def _text(number: int, call: Callable[..., Any], *more: Any) -> str:
+    """The text that a call writes into room, with as much of it as it needs."""
     length = c_size_t()
     room = ctypes.create_string_buffer(64)
     while True:
-        code = int(selector_name(selector, number, room, len(room), byref(length)))
-        if code != OK:
+        if int(call(room, len(room), byref(length), *more)) != OK:
             raise IndexError(number)
         if length.value <= len(room):
             return room.raw[: length.value].decode()
         room = ctypes.create_string_buffer(length.value)
+
+
+def name_of(selector: c_void_p, number: int) -> str:
+    """A name that a selector binds."""
+    return _text(number, partial(selector_name, selector, number))
+
+
+def note_of(library: c_void_p, number: int) -> Tuple[str, int]:
+    """A name that was passed over of a library's text, and how often it came."""
+    count = c_uint64()
+    return _text(number, partial(library_note, library, number), byref(count)), count.value

@@ -10,6 +10,7 @@ mod questions;
 mod refused;
 mod values;
 mod yaml;
+mod yaml_members;
 
 use std::env;
 use std::process::ExitCode;
@@ -27,6 +28,7 @@ fn main(rt: HostRuntime) -> ExitCode {
         "bibtex" => bibtex::main(rt),
         "bibtex-library" => bibtex_library::main(rt),
         "yaml" => yaml::main(rt),
+        "yaml-members" => yaml_members::main(rt),
         "refused" => {
             let name = words.next();
             refused::main(&rt, name.as_ref().map(|name| name.as_str()))

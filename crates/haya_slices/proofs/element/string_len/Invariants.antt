@@ -1,17 +1,15 @@
 use Rattle.std.proofs.Common.{◌≡◌, ◌++◌, ◌-◌, ◌≤◌, ℕ, List, length, take}
-use Rattle.std.specs.Prelude.{IsFalse}
 use Rattle.haya_elements.specs.declared.place.Brackets.{Brackets}
 use Rattle.haya_elements.specs.declared.place.Mode.TheVariants.{Text}
-use Rattle.haya_slices.specs.Layout.{inside, is_outside_string}
+use Rattle.haya_slices.specs.Layout.{inside}
 use Rattle.haya_slices.proofs.element.string_len.Given as goal
 
 abbrev pub invariant-bytes : goal.invariant-bytes
 invariant-bytes l =
     record {
       within : l.at ≤ length l.bytes;
-      in_string : IsFalse (is_outside_string l.mode);
       leads : (b : Brackets) (d : ℕ) (ys : List ℕ) →
-          inside b Text d (take l.at l.bytes ++ ys) ≡ inside b l.mode d ys;
+          inside b Text d (take l.at l.bytes ++ ys) ≡ inside b Text d ys;
     }
 
 abbrev pub decreases-bytes : goal.decreases-bytes

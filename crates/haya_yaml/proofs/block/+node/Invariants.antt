@@ -47,17 +47,17 @@ decreases-write_member l = 12 * l.depth + 4
 abbrev pub invariant-write_items-items : goal.invariant-write_items-items
 invariant-write_items-items l =
     KeepsBefore l.initial.out.writer l.out.writer
-    × (said_items l.out.writer.tokens (items (node l.depth) (value l.depth) l.column (entries_of false l.column (texts l.rest)))
-    ≡ said_items l.fn.out.writer.tokens (items (node l.depth) (value l.depth) l.column (entries false l.column l.text (texts l.lines))))
+    × (said_items l.out.writer.tokens (items (node l.depth) (value l.depth) l.column (entries_of false l.column (texts l.rest.texts.now)))
+    ≡ said_items l.fn.out.writer.tokens (items (node l.depth) (value l.depth) l.column (entries false l.column l.text (texts l.lines.texts.now))))
 
 abbrev pub decreases-write_items-items : goal.decreases-write_items-items
-decreases-write_items-items l = length l.rest
+decreases-write_items-items l = length l.rest.texts.now
 
 abbrev pub invariant-write_members-members : goal.invariant-write_members-members
 invariant-write_members-members l =
     KeepsBefore l.initial.out.writer l.out.writer
-    × (said_members l.out.writer.tokens (members (node l.depth) (value l.depth) l.column (entries_of true l.column (texts l.rest)))
-    ≡ said_members l.fn.out.writer.tokens (members (node l.depth) (value l.depth) l.column (entries true l.column l.first.text.now (texts l.lines))))
+    × (said_members l.out.writer.tokens (members (node l.depth) (value l.depth) l.column (entries_of true l.column (texts l.rest.texts.now)))
+    ≡ said_members l.fn.out.writer.tokens (members (node l.depth) (value l.depth) l.column (entries true l.column l.first.text.now (texts l.lines.texts.now))))
 
 abbrev pub decreases-write_members-members : goal.decreases-write_members-members
-decreases-write_members-members l = length l.rest
+decreases-write_members-members l = length l.rest.texts.now
