@@ -12,8 +12,8 @@ use std::alloc::{AllocError, Global};
 /// The members of a text that is a map in YAML over lines, in order, each as it is in the text,
 /// byte for byte: the lines from its key on up to the next. Comments right above a key, no deeper
 /// than it, go with the key. What comes before the first key and behind the document is of none.
-/// Each was read again by itself, and says its member alone. `None` says nothing of the text: it is
-/// so where the text says no value, or one in brackets.
+/// Each was read again by itself, and says its member alone. `None` is meant for a text that says no
+/// value, or one in brackets; no contract says when it is answered.
 pub fn member_slices<'t>(alloc: Global, text: &'t str) -> Result<Option<Vec<&'t str>>, AllocError>
     ensures { IfOk result (λ found. IfSome found (λ parts.
         AreMemberParts text.now (map (λ s. s.now) parts.items))) }

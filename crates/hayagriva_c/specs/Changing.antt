@@ -73,7 +73,7 @@ PushesInto bytes old new code before after =
 
 -- ---- remove
 
--- the library has no entry with the key; or it had none, and is as it was
+-- the entry with the key is taken out; or there is none, and the library is as it was
 abbrev pub RemovesKey : List ℕ → Option Tree → Shelf → Shelf → ℕ → Type 0
 RemovesKey key None old new code = (code ≡ 2) × (new ≡ old)
 RemovesKey key (Some t) old new code =
