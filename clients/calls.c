@@ -248,6 +248,59 @@ static void field(const haya_library *library, haya_entry entry, const char *nam
     is(words == NULL ? code == HAYA_NO_FIELD && len == 0 : code == HAYA_OK && shows(room, len, words), name);
 }
 
+/* The text of a field in a form, or, where `words` is NULL, the code without one. */
+static void formed(const haya_library *library, haya_entry entry, const char *name, uint32_t form, uint32_t code, const char *words) {
+    char room[128] = "....";
+    size_t len = 7;
+    uint32_t got = haya_entry_text_as(library, &entry, TEXT(name), form, room, sizeof room, &len);
+    is(got == code && (words == NULL ? len == 0 && memcmp(room, "....", 4) == 0 : shows(room, len, words)), name);
+}
+
+/* Texts in each form. */
+static void forms(void) {
+    haya_library *library = library_of(
+        "{\"a\": {\"type\": \"book\", \"title\": {\"value\": \"The {ACM} of $x^2$ \\\\{s\\\\}\", \"short\": \"{ACM} $x$\"},"
+        " \"note\": \"A {B}\", \"publisher\": {\"name\": {\"value\": \"{P} House\", \"short\": \"{P}\"}}, \"author\": \"Lee, Ann\","
+        " \"date\": \"1987-07\", \"volume\": \"the {9}\", \"serial-number\": {\"doi\": \"10/{x}\"}, \"url\": \"https://a.org\"}}", HAYA_JSON);
+    static const char *const names[] = {"author", "date", "volume", "doi", "url"};
+    static const char *const texts[] = {"Lee, Ann\n", "1987-07", "the {9}", "10/{x}", "https://a.org"};
+    const haya_entry a = {0, 0}, no = {1, 0};
+    formed(library, a, "title", HAYA_MARKED_UP, HAYA_OK, "The {ACM} of $x^2$ \\{s\\}");
+    formed(library, a, "title", HAYA_PLAIN, HAYA_OK, "The ACM of $x^2$ {s}");
+    formed(library, a, "title", HAYA_SHORT, HAYA_OK, "ACM $x$");
+    formed(library, a, "note", HAYA_MARKED_UP, HAYA_OK, "A {B}");
+    formed(library, a, "note", HAYA_PLAIN, HAYA_OK, "A B");
+    formed(library, a, "note", HAYA_SHORT, HAYA_OK, "A B");
+    formed(library, a, "publisher", HAYA_MARKED_UP, HAYA_OK, "{P} House");
+    formed(library, a, "publisher", HAYA_PLAIN, HAYA_OK, "P House");
+    formed(library, a, "publisher", HAYA_SHORT, HAYA_OK, "P");
+    for (size_t i = 0; i < sizeof names / sizeof *names; i++) {
+        for (uint32_t form = HAYA_MARKED_UP; form <= HAYA_SHORT; form++) formed(library, a, names[i], form, HAYA_OK, texts[i]);
+    }
+    for (uint32_t form = HAYA_MARKED_UP; form <= HAYA_SHORT; form++) {
+        formed(library, a, "genre", form, HAYA_NO_FIELD, NULL);
+        formed(library, a, "affiliated", form, HAYA_NO_FIELD, NULL);
+        formed(library, a, "no-such-field", form, HAYA_NO_FIELD, NULL);
+        formed(library, a, "\xff", form, HAYA_NO_FIELD, NULL);
+        formed(library, no, "title", form, HAYA_NO_ENTRY, NULL);
+    }
+    static const uint32_t others[] = {3, 4, 256, 65536, 1u << 31, UINT32_MAX};
+    for (size_t i = 0; i < sizeof others / sizeof *others; i++) {
+        formed(library, a, "title", others[i], HAYA_NO_FORMAT, NULL);
+        formed(library, a, "genre", others[i], HAYA_NO_FORMAT, NULL);
+        formed(library, no, "title", others[i], HAYA_NO_FORMAT, NULL);
+    }
+    char room[8] = ".......";
+    size_t len = 7;
+    is(haya_entry_text_as(library, &a, TEXT("title"), HAYA_SHORT, room, 3, &len) == HAYA_OK && len == 7 && memcmp(room, "ACM.", 4) == 0, "a form is cut");
+    is(haya_entry_text_as(library, &a, TEXT("title"), HAYA_SHORT, room, 0, &len) == HAYA_OK && len == 7 && memcmp(room, "ACM.", 4) == 0, "no room for a form");
+    haya_selector *selector = selector_of("*");
+    formed((haya_library *)selector, a, "title", HAYA_PLAIN, HAYA_NO_ENTRY, NULL);
+    formed((haya_library *)selector, a, "title", 3, HAYA_NO_FORMAT, NULL);
+    haya_selector_free(selector);
+    haya_library_free(library);
+}
+
 static void entries(void) {
     haya_library *library = library_of(lines, HAYA_LINES);
     haya_entry entry = {7, 7}, parent = {7, 7};
@@ -293,6 +346,7 @@ static void entries(void) {
         is(haya_entry_type(library, &nothing[i], room, sizeof room, &len) == HAYA_NO_ENTRY && len == 0, "the type of nothing");
         is(haya_entry_json(library, &nothing[i], room, sizeof room, &len) == HAYA_NO_ENTRY && len == 0, "the JSON of nothing");
         is(haya_entry_text(library, &nothing[i], TEXT("doi"), room, sizeof room, &len) == HAYA_NO_ENTRY, "the text of nothing");
+        is(haya_entry_text_as(library, &nothing[i], TEXT("doi"), HAYA_SHORT, room, sizeof room, &len) == HAYA_NO_ENTRY, "a form of nothing");
         is(haya_entry_parents(library, &nothing[i]) == 0 && !haya_entry_has(library, &nothing[i], TEXT("doi")), "nothing has none");
         is(haya_entry_parent(library, &nothing[i], 0, &parent) == HAYA_NO_ENTRY && parent.step == 2, "no parent of nothing");
     }
@@ -595,6 +649,7 @@ int main(void) {
     selectors();
     hits();
     entries();
+    forms();
     many();
     formats();
     written();

@@ -1,4 +1,5 @@
-/* SELECTOR < LIBRARY: prints the hits as the program hayagriva_query does, over the C library alone. */
+/* SELECTOR [FIELD FORM] < LIBRARY: prints the hits as the program hayagriva_query does, over the C library alone; behind the
+ * key of each the text of a field that is set, in the form `marked-up`, `plain` or `short`. */
 #include "hayagriva.h"
 
 #include <stdio.h>
@@ -14,31 +15,33 @@ static void print_words(uint32_t code) {
     fwrite(room, 1, len < sizeof room ? len : sizeof room, stderr);
 }
 
-/* What a call answered, in more room where it asks for that: NULL where memory ran out. The text is yours. */
-typedef uint32_t (*asks)(const haya_library *, const haya_entry *, char *, size_t, size_t *);
+/* The field whose text is asked for, or NULL, and the number of its form. */
+static const char *field;
+static uint32_t form;
 
-static char *text_of(asks ask, const haya_library *library, const haya_entry *entry, size_t *len) {
-    char *text = malloc(ROOM);
-    if (text != NULL && ask(library, entry, text, ROOM, len) == HAYA_OK && *len > ROOM) {
-        size_t room = *len;
-        free(text);
-        text = malloc(room);
-        if (text != NULL) {
-            ask(library, entry, text, room, len);
-        }
-    }
-    return text;
+static uint32_t field_text(const haya_library *library, const haya_entry *entry, char *room, size_t room_len, size_t *len) {
+    return haya_entry_text_as(library, entry, field, strlen(field), form, room, room_len, len);
 }
 
-static bool print_key(const haya_library *library, const haya_entry *entry) {
+/* Prints what a call answers behind `first`, in more room where it asks for that. The answer is a code. */
+typedef uint32_t (*asks)(const haya_library *, const haya_entry *, char *, size_t, size_t *);
+
+static uint32_t print_text(const char *first, asks ask, const haya_library *library, const haya_entry *entry) {
     size_t len = 0;
-    char *key = text_of(haya_entry_key, library, entry, &len);
-    if (key == NULL) {
-        return false;
+    char *text = malloc(ROOM);
+    uint32_t code = text == NULL ? HAYA_OUT_OF_MEMORY : ask(library, entry, text, ROOM, &len);
+    if (code == HAYA_OK && len > ROOM) {
+        size_t room = len;
+        free(text);
+        text = malloc(room);
+        code = text == NULL ? HAYA_OUT_OF_MEMORY : ask(library, entry, text, room, &len);
     }
-    fwrite(key, 1, len, stdout);
-    free(key);
-    return true;
+    if (code == HAYA_OK) {
+        fputs(first, stdout);
+        fwrite(text, 1, len, stdout);
+    }
+    free(text);
+    return code;
 }
 
 /* A name of the selector, and its number. */
@@ -89,16 +92,18 @@ static uint32_t print_hits(const haya_library *library, const haya_selector *sel
     haya_entry hit;
     uint32_t code = names == NULL || bound == NULL ? HAYA_OUT_OF_MEMORY : HAYA_OK;
     while (code == HAYA_OK && (code = haya_library_next(library, selector, &place, &hit, bound, all + 1)) == HAYA_OK) {
-        bool is_printed = print_key(library, &hit);
-        for (size_t n = 0; is_printed && n < count; n++) {
+        code = print_text("", haya_entry_key, library, &hit);
+        if (code == HAYA_OK && field != NULL && (code = print_text("\t", field_text, library, &hit)) == HAYA_NO_FIELD) {
+            code = HAYA_OK;
+        }
+        for (size_t n = 0; code == HAYA_OK && n < count; n++) {
             const haya_entry *entry = &bound[names[n].number];
             if (entry->place != HAYA_NOWHERE.place) {
-                printf("\t%.*s=", (int)names[n].len, names[n].name);
-                is_printed = print_key(library, entry);
+                printf("\t%.*s", (int)names[n].len, names[n].name);
+                code = print_text("=", haya_entry_key, library, entry);
             }
         }
         putchar('\n');
-        code = is_printed ? HAYA_OK : HAYA_OUT_OF_MEMORY;
     }
     for (size_t n = 0; names != NULL && n < count; n++) {
         free(names[n].name);
@@ -156,9 +161,21 @@ static int answer(const haya_library *library, const char *words, haya_fault *fa
     return fault->code == HAYA_END ? 0 : complain(fault);
 }
 
+/* Takes the field and the form that are asked for, if there is such a form. */
+static bool is_form(const char *name, const char *word) {
+    static const char *const forms[] = {[HAYA_MARKED_UP] = "marked-up", [HAYA_PLAIN] = "plain", [HAYA_SHORT] = "short"};
+    for (field = name, form = HAYA_MARKED_UP; form <= HAYA_SHORT; form++) {
+        if (strcmp(word, forms[form]) == 0) {
+            return true;
+        }
+    }
+    return false;
+}
+
 int main(int count, char **words) {
-    if (count != 2 || haya_version() < HAYA_VERSION || haya_version_least() > HAYA_VERSION) {
-        fputs("usage: client SELECTOR\n", stderr);
+    bool is_asked = count == 2 || (count == 4 && is_form(words[2], words[3]));
+    if (!is_asked || haya_version() < HAYA_VERSION || haya_version_least() > HAYA_VERSION) {
+        fputs("usage: client SELECTOR [FIELD marked-up|plain|short]\n", stderr);
         return 2;
     }
     size_t len;

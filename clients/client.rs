@@ -1,4 +1,5 @@
-//! SELECTOR < LIBRARY: prints the hits as the program hayagriva_query does, one at a time.
+//! SELECTOR [FIELD FORM] < LIBRARY: prints the hits as the program hayagriva_query does, one at a time; behind the key of each the
+//! text of a field that is set, in the form `marked-up`, `plain` or `short`.
 use std::collections::BTreeMap;
 use std::ffi::c_void;
 use std::io::{self, Read, Write};
@@ -38,6 +39,16 @@ mod raw {
             room_len: usize,
             len: *mut usize,
         ) -> u32;
+        pub fn haya_entry_text_as(
+            library: *const c_void,
+            entry: *const Entry,
+            name: *const u8,
+            name_len: usize,
+            form: u32,
+            room: *mut u8,
+            room_len: usize,
+            len: *mut usize,
+        ) -> u32;
         pub fn haya_selector_read(
             text: *const u8,
             len: usize,
@@ -60,7 +71,27 @@ mod raw {
 
 const VERSION: u32 = 2;
 const OK: u32 = 0;
+const NO_FIELD: u32 = 3;
 const LINES: u32 = 1;
+
+/// In which form a text is asked for.
+#[derive(Clone, Copy)]
+enum Form {
+    MarkedUp = 0,
+    Plain = 1,
+    Short = 2,
+}
+
+impl Form {
+    fn named(word: &[u8]) -> Option<Form> {
+        match word {
+            b"marked-up" => Some(Form::MarkedUp),
+            b"plain" => Some(Form::Plain),
+            b"short" => Some(Form::Short),
+            _ => None,
+        }
+    }
+}
 
 #[repr(C)]
 pub struct Text {
@@ -132,17 +163,20 @@ impl Drop for Fault {
     }
 }
 
-/// What a call writes, in as much room as it asks for.
-fn text_of(mut call: impl FnMut(*mut u8, usize, &mut usize) -> u32) -> Vec<u8> {
+/// What a call writes, in as much room as it asks for, or none where there is no such field.
+fn text_of(mut call: impl FnMut(*mut u8, usize, &mut usize) -> u32) -> Option<Vec<u8>> {
     let (mut len, mut room) = (0, vec![0; 64]);
     let mut code = call(room.as_mut_ptr(), room.len(), &mut len);
     if len > room.len() {
         room.resize(len, 0);
         code = call(room.as_mut_ptr(), room.len(), &mut len);
     }
+    if code == NO_FIELD {
+        return None;
+    }
     assert_eq!(code, OK);
     room.truncate(len);
-    room
+    Some(room)
 }
 
 /// A library, freed when it is dropped.
@@ -160,6 +194,15 @@ impl Library {
     fn key(&self, entry: &Entry) -> Vec<u8> {
         // SAFETY: a library that was read, and the room of a vector.
         text_of(|room, room_len, len| unsafe { raw::haya_entry_key(self.0, entry, room, room_len, len) })
+            .unwrap_or_default()
+    }
+
+    /// The text of a field in a form, if it is set.
+    fn text(&self, entry: &Entry, (name, form): (&[u8], Form)) -> Option<Vec<u8>> {
+        // SAFETY: a library that was read, the pointer and the length of one slice, and the room of a vector.
+        text_of(|room, room_len, len| unsafe {
+            raw::haya_entry_text_as(self.0, entry, name.as_ptr(), name.len(), form as u32, room, room_len, len)
+        })
     }
 }
 
@@ -190,13 +233,13 @@ impl Selector {
             let name = text_of(|room, room_len, len| unsafe {
                 raw::haya_selector_name(selector.held, number, room, room_len, len)
             });
-            selector.names.insert(name, number);
+            selector.names.insert(name.unwrap_or_default(), number);
         }
         Ok(selector)
     }
 
-    /// The line of the next hit, without its end; or none where no more come.
-    fn next_line(&self, library: &Library, place: &mut usize) -> Option<Vec<u8>> {
+    /// The line of the next hit, with the text that is asked for and without its end; or none where no more come.
+    fn next_line(&self, library: &Library, place: &mut usize, asked: Option<(&[u8], Form)>) -> Option<Vec<u8>> {
         let mut bound = vec![Entry::NOWHERE; self.names.values().max().map_or(1, |last| last + 1)];
         let mut hit = Entry::NOWHERE;
         // SAFETY: a library and a selector that were read, and the slots of a vector that has some.
@@ -207,6 +250,10 @@ impl Selector {
             return None;
         }
         let mut line = library.key(&hit);
+        if let Some(text) = asked.and_then(|asked| library.text(&hit, asked)) {
+            line.push(b'\t');
+            line.extend(text);
+        }
         for (name, number) in &self.names {
             if bound[*number] != Entry::NOWHERE {
                 for part in [b"\t", name.as_slice(), b"=", &library.key(&bound[*number])] {
@@ -225,11 +272,11 @@ impl Drop for Selector {
     }
 }
 
-fn print(text: &[u8], selector: &[u8]) -> Result<io::Result<()>, Fault> {
+fn print(text: &[u8], selector: &[u8], asked: Option<(&[u8], Form)>) -> Result<io::Result<()>, Fault> {
     let library = Library::read(text)?;
     let selector = Selector::read(selector)?;
     let (mut out, mut place) = (io::stdout().lock(), 0);
-    while let Some(mut line) = selector.next_line(&library, &mut place) {
+    while let Some(mut line) = selector.next_line(&library, &mut place, asked) {
         line.push(b'\n');
         if let Err(error) = out.write_all(&line) {
             return Ok(Err(error));
@@ -240,13 +287,19 @@ fn print(text: &[u8], selector: &[u8]) -> Result<io::Result<()>, Fault> {
 
 fn main() -> io::Result<ExitCode> {
     let words: Vec<_> = env::args_os().skip(1).collect();
-    let ([selector], VERSION) = (&words[..], raw::haya_version()) else {
-        eprintln!("usage: client SELECTOR");
+    let words: Vec<_> = words.iter().map(|word| word.as_bytes()).collect();
+    let asked = match words[..] {
+        [_, field, form] => Form::named(form).map(|form| (field, form)),
+        _ => None,
+    };
+    let ([selector, ..], VERSION, true) = (&words[..], raw::haya_version(), words.len() == if asked.is_some() { 3 } else { 1 })
+    else {
+        eprintln!("usage: client SELECTOR [FIELD marked-up|plain|short]");
         return Ok(ExitCode::from(2));
     };
     let mut text = Vec::new();
     io::stdin().read_to_end(&mut text)?;
-    match print(&text, selector.as_bytes()) {
+    match print(&text, selector, asked) {
         Ok(printed) => printed.map(|()| ExitCode::SUCCESS),
         Err(fault) => {
             let mut said = fault.complaint();

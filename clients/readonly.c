@@ -52,7 +52,7 @@ void __wrap_free(void *block) {
 }
 
 int main(void) {
-    const char *text = "{\"dependence\": {\"type\": \"article\", \"serial-number\": {\"doi\": \"10.1145/24039.24041\"}, \"titel\": 1, "
+    const char *text = "{\"dependence\": {\"type\": \"article\", \"title\": {\"value\": \"The {PDG}\", \"short\": \"{PDG}\"}, \"serial-number\": {\"doi\": \"10.1145/24039.24041\"}, \"titel\": 1, "
                        "\"parent\": {\"type\": \"periodical\", \"serial-number\": {\"issn\": \"0164-0925\"}}}}";
     const char *words = "article[doi] > p:periodical";
     haya_library *library = NULL;
@@ -86,11 +86,12 @@ int main(void) {
     passed += haya_entry_parent(library, &hit, 0, &other) == HAYA_OK;
     passed += haya_entry_has(library, &other, "issn", 4);
     passed += haya_entry_text(library, &hit, "doi", 3, room, sizeof room, &len) == HAYA_OK;
+    passed += haya_entry_text_as(library, &hit, "title", 5, HAYA_SHORT, room, sizeof room, &len) == HAYA_OK && len == 3;
     passed += haya_entry_json(library, &hit, room, sizeof room, &len) == HAYA_OK;
     passed += haya_entry_matches(library, selector, &hit, &holds) == HAYA_OK && holds;
     passed += haya_selector_names(selector) == 1;
     passed += haya_selector_name(selector, 0, room, sizeof room, &len) == HAYA_OK;
     haya_written_free(&written);
-    printf("%d passed, %d failed\n", passed, 18 - passed);
-    return passed == 18 ? 0 : 1;
+    printf("%d passed, %d failed\n", passed, 19 - passed);
+    return passed == 19 ? 0 : 1;
 }

@@ -38,7 +38,8 @@ static bool is_done(uint32_t code, uint32_t done, const char *what) {
 
 static const char *const lines = "0\tdependence\tarticle\tdoi=10.1145/24039.24041\tauthor=Kwan, Kevin\n1\ttoplas\tperiodical\n"
                                  "0\tfeminism\tarticle\tlanguage=en\n1\taeon\tblog\ttitle=A {Text}\n";
-static const char *const json = "{\"paper\": {\"type\": \"article\", \"title\": \"T\", \"parent\": {\"type\": \"blog\"}}}";
+static const char *const json = "{\"paper\": {\"type\": \"article\", \"title\": {\"value\": \"The {Text} of $x$\", \"short\": \"{Text}\"},"
+                                " \"parent\": {\"type\": \"blog\"}}}";
 
 static void ask(const haya_library *library, haya_fault *fault) {
     haya_selector *selector = NULL;
@@ -86,6 +87,20 @@ static void look(const haya_library *library) {
     must(haya_library_len(library) == 2 && haya_entry_has(library, &entry, TEXT("doi")), "the library stays");
 }
 
+/* The title in each form. */
+static void forms(const haya_library *library) {
+    static const char *const texts[] = {[HAYA_MARKED_UP] = "The {Text} of $x$", [HAYA_PLAIN] = "The Text of $x$", [HAYA_SHORT] = "Text"};
+    char room[64];
+    size_t len;
+    for (uint32_t form = HAYA_MARKED_UP; form <= HAYA_SHORT; form++) {
+        if (is_done(haya_entry_text_as(library, &(haya_entry){0, 0}, TEXT("title"), form, room, sizeof room, &len), HAYA_OK, "a form")) {
+            must(len == strlen(texts[form]) && memcmp(room, texts[form], len) == 0, "the form");
+        } else {
+            must(len == 0, "no form");
+        }
+    }
+}
+
 /* Changes a library of two entries, and looks whether it stays where memory is refused. */
 static void change(haya_library *library, haya_fault *fault) {
     haya_entry entry = {7, 7};
@@ -115,7 +130,7 @@ static void run(void) {
     } else {
         must(library == NULL && fault.code == HAYA_OUT_OF_MEMORY && fault.line == 0, "no library");
     }
-    is_done(haya_library_read(TEXT(json), HAYA_JSON, 0, 0, &other, &fault), HAYA_OK, "JSON");
+    if (is_done(haya_library_read(TEXT(json), HAYA_JSON, 0, 0, &other, &fault), HAYA_OK, "JSON")) forms(other);
     if (is_done(haya_library_read(TEXT("{\"a\": {\"type\": \"book\", \"titel\": 1, \"jahr\": 2}}"), HAYA_JSON, 0, 0, &other, &fault), HAYA_OK, "what is passed over")) {
         must(haya_library_notes(other) == 2, "its rows");
     }
@@ -196,6 +211,11 @@ static void run_many(void) {
     if (reads(long_line, HAYA_LINES, 1, &other, &fault)) {
         if (is_done(haya_entry_text(other, &(haya_entry){0, 0}, TEXT("title"), room, sizeof room, &len), HAYA_OK, "a long text")) {
             must(len == LONG && room[0] == 'x' && memcmp(room, room + 1, LONG - 1) == 0, "the long text");
+        }
+        for (uint32_t form = HAYA_PLAIN; form <= HAYA_SHORT; form++) {
+            if (is_done(haya_entry_text_as(other, &(haya_entry){0, 0}, TEXT("title"), form, room, sizeof room, &len), HAYA_OK, "a long form")) {
+                must(len == LONG && room[0] == 'x' && memcmp(room, room + 1, LONG - 1) == 0, "the long form");
+            }
         }
         is_done(haya_entry_json(other, &(haya_entry){0, 0}, room, sizeof room, &len), HAYA_OK, "long JSON");
     }

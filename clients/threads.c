@@ -21,6 +21,7 @@ static void *ask(void *wrong) {
         is_right &= haya_library_next(library, selector, &place, &hit, bound, 1) == HAYA_END;
         is_right &= haya_entry_key(library, bound, room, sizeof room, &len) == HAYA_OK && len == 6 && memcmp(room, "toplas", 6) == 0;
         is_right &= haya_entry_text(library, &hit, "doi", 3, room, sizeof room, &len) == HAYA_OK && len == 19;
+        is_right &= haya_entry_text_as(library, &hit, "title", 5, HAYA_PLAIN, room, sizeof room, &len) == HAYA_OK && len == 7;
         is_right &= haya_entry_json(library, &hit, room, sizeof room, &len) == HAYA_OK;
         is_right &= haya_entry_matches(library, selector, &hit, &holds) == HAYA_OK && holds;
         is_right &= haya_entry_parent(library, &hit, 0, &parent) == HAYA_OK && haya_entry_has(library, &parent, "issn", 4);
@@ -31,7 +32,7 @@ static void *ask(void *wrong) {
 }
 
 int main(void) {
-    const char *text = "0\tdependence\tarticle\tdoi=10.1145/24039.24041\n1\ttoplas\tperiodical\tissn=0164-0925\n"
+    const char *text = "0\tdependence\tarticle\ttitle=The {PDG}\tdoi=10.1145/24039.24041\n1\ttoplas\tperiodical\tissn=0164-0925\n"
                        "0\tfeminism\tarticle\tlanguage=en\n1\taeon\tblog\n";
     const char *words = "article[doi] > p:periodical";
     haya_fault fault = HAYA_NO_FAULT;

@@ -188,6 +188,13 @@ static int is_alike(int at) {
     return now.sizes[at] == normally.sizes[at] && memcmp(now.texts[at], normally.texts[at], now.sizes[at]) == 0;
 }
 
+/* Whether what is printed of a list, an element a line, ends where an element may: the comma behind it comes with the next. */
+static int is_list_up_to(size_t size) {
+    const char *all = normally.texts[0];
+    if (normally.sizes[0] < 2 || (all[0] != '[' && all[0] != '{') || all[1] != '\n') return 0;
+    return size == normally.sizes[0] || all[size] == '\n' || all[size] == ',';
+}
+
 static int answer_of(void) {
     const char *out = now.texts[0];
     size_t size = now.sizes[0];
@@ -200,7 +207,7 @@ static int answer_of(void) {
     if (!WIFEXITED(now.status) || WEXITSTATUS(now.status) == 0) return NO_MARK;
     if (!ends_with(now.texts[1], now.sizes[1], "out of memory\n")) return NO_MARK;
     if (size > normally.sizes[0] || memcmp(out, normally.texts[0], size) != 0) return NO_MARK;
-    return size == 0 || out[size - 1] == '\n' ? OUT_OF_MEMORY : NO_MARK;
+    return size == 0 || out[size - 1] == '\n' || is_list_up_to(size) ? OUT_OF_MEMORY : NO_MARK;
 }
 
 /* Runs the program over this input in a copy, with the request number n refused, all where n is 0, or none. Answers

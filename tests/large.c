@@ -76,6 +76,12 @@ static bool put_entry(const haya_library *library, const haya_entry *entry, cons
     do code = haya_entry_text(library, entry, name, strlen(name), text->at, text->room, &text->len);
     while (code == HAYA_OK && !has_room(text));
     if (code != HAYA_OK) return false;
+    /* It has no signs and no short form: so it is the same in each form, and the last one is printed. */
+    for (uint32_t form = HAYA_PLAIN; form <= HAYA_SHORT; form++) {
+        size_t len = text->len;
+        code = haya_entry_text_as(library, entry, name, strlen(name), form, text->at, text->room, &text->len);
+        if (code != HAYA_OK || text->len != len) return false;
+    }
     size_t parents = haya_entry_parents(library, entry);
     haya_entry last;
     if (parents > 0 && haya_entry_parent(library, entry, parents - 1, &last) != HAYA_OK) return false;

@@ -1,6 +1,7 @@
 """The package as it is installed. TORKIZEU_EXAMPLES is the folder of the examples, ../../examples where it isn't set."""
 from __future__ import annotations
 
+import ctypes
 import doctest
 import gc
 import json
@@ -8,10 +9,10 @@ import os
 import threading
 import unittest
 from pathlib import Path
-from typing import Any
+from typing import Any, Optional
 
 import torkizeu
-from torkizeu import Date, Entry, Library, ParseError, Person, Selector, SelectorError
+from torkizeu import Date, Entry, Library, ParseError, Person, Selector, SelectorError, _values
 
 HERE = Path(__file__).resolve().parent
 EXAMPLES = Path(os.environ.get("TORKIZEU_EXAMPLES", HERE.parent.parent / "examples"))
@@ -236,6 +237,35 @@ class Values(unittest.TestCase):
                 for each in (entry, *entry.ancestors()):
                     self.assertIsInstance(each, Entry)
                     _ = (each.title, each.authors, each.editors, each.date, each.doi, each.url, each.to_dict(), repr(each))
+
+    def test_texts_are_those_of_the_library(self) -> None:
+        from torkizeu import _native as n
+
+        short = {"value": r"The {ACM} of $x^2$ \{s\} \\ \$", "short": r"{A} $x$ \{"}
+        made = {"type": "book", "title": short, "note": short["value"], "publisher": {"name": short, "location": "{B}"}}
+        libraries = [Library.parse(json.dumps({"a": {**made, "parent": {"type": "blog", "publisher": short, "archive": short}}}))]
+        libraries += [Library.read(EXAMPLES / name) for name in ("zotero.json", "library.json", "fields.json", "xampl.json", "refs.bib")]
+        compared = 0
+        for library in libraries:
+            for place, entry in enumerate(library.entries()):
+                for step, each in enumerate((entry, *entry.ancestors())):
+                    for name in sorted((*_values.FORMED, "url", "language", "volume", "page-range", "runtime")):
+                        for number, form in enumerate(("marked-up", "plain", "short")):
+                            text = self.text_in_c(n, library, n.Place(place, step), name, number)
+                            self.assertEqual(each.text(name, form), text, (each.key, name, form))
+                            compared += text is not None
+        self.assertGreater(compared, 1000)
+        self.assertEqual(libraries[0]["a"].short_title, "A $x$ {")
+        with self.assertRaises(ValueError):
+            libraries[0]["a"].text("title", "long")  # type: ignore[arg-type]
+
+    def text_in_c(self, n: Any, library: Library, place: Any, name: str, form: int) -> Optional[str]:
+        """The text of a field as the library for C says it."""
+        room, length = ctypes.create_string_buffer(1 << 16), ctypes.c_size_t()
+        asked = (library._held, ctypes.byref(place), name.encode(), len(name), form, room, len(room), ctypes.byref(length))
+        code = n.entry_text_as(*asked)
+        self.assertIn(code, (n.OK, n.NO_FIELD))
+        return room.raw[: length.value].decode() if code == n.OK else None
 
     def test_persons(self) -> None:
         self.assertEqual(Person.of("de la Cruz, Juana"), Person("Cruz", "Juana", "de la"))

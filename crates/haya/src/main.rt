@@ -8,6 +8,7 @@ mod files;
 mod help;
 mod lists;
 mod progress;
+mod source_streaming;
 mod streaming;
 
 use arguments::{Arguments, Request, request_of};
@@ -15,10 +16,11 @@ use asking::read_words;
 use error::StartError;
 use files::read_files;
 use haya_command::{CommandError, Options, complain, run};
-use haya_stream::{WriteError, write_text};
+use haya_line_stream::{WriteError, write_text};
 use hayagriva::{HashKeys, Selector};
 use lists::List;
 use progress::Progress;
+use source_streaming::stream_source;
 use std::alloc::Global;
 use std::env;
 use std::io::{IsTerminal, Read, Write};
@@ -55,10 +57,12 @@ fn main(rt: HostRuntime) -> ExitCode {
     let Ok(keys) = HashKeys::random(&rt) else {
         return ended(tell_of(&options, &StartError::NoKeys, &mut err));
     };
-    ended(if streams {
-        stream(alloc, &rt, keys, &options, &mut stdin, &mut out, &mut err)
-    } else {
-        run_files(alloc, &rt, keys, &options, &mut stdin, &mut out, &mut err)
+    ended(match (streams, options.source) {
+        (true, Some(form)) => stream_source(
+            alloc, &rt, keys, &options, form, &mut stdin, &mut out, &mut err,
+        ),
+        (true, None) => stream(alloc, &rt, keys, &options, &mut stdin, &mut out, &mut err),
+        (false, _) => run_files(alloc, &rt, keys, &options, &mut stdin, &mut out, &mut err),
     })
 }
 

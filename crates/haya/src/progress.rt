@@ -1,5 +1,5 @@
 //! How far the reading of a long input is, shown to a person.
-use haya_stream::ByteCounter;
+use haya_line_stream::ByteCounter;
 use std::io::Write;
 
 // A line is shown at each ten megabytes.

@@ -142,8 +142,8 @@ fn ask_file<'o, F: Files, R: Read, W: Write, E: Write>(
     }
 }
 
-// The fault that the input that is called so can't be read.
-fn read_fault(alloc: Global, name: &str, error: io::Error) -> CommandError {
+/// The fault that the input that is called so can't be read.
+pub(crate) fn read_fault(alloc: Global, name: &str, error: io::Error) -> CommandError {
     match String::from_str(alloc, name) {
         Ok(name) => CommandError::of_read(name, error),
         Err(_) => CommandError::OutOfMemory,
@@ -170,8 +170,8 @@ fn ask_input<'o, R: Read + Drop, W: Write, E: Write>(
     }
 }
 
-// The first bytes of an input that is called so, and its format.
-fn begun<R: Read>(
+/// The first bytes of an input that is called so, and its format.
+pub(crate) fn begun<R: Read>(
     alloc: Global,
     options: &Options,
     name: &str,
@@ -309,8 +309,8 @@ fn not_streamed<'o>(alloc: Global, asker: Asker<'o>, name: &str, format: &'stati
     Halt { fault, asker }
 }
 
-// Tells what is passed over of the input that is called so.
-fn tell_input<E: Write>(
+/// Tells what is passed over of the input that is called so.
+pub(crate) fn tell_input<E: Write>(
     alloc: Global,
     options: &Options,
     name: &str,

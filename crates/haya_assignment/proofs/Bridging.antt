@@ -72,32 +72,32 @@ least_from table is long placed low =
     least_is : (first : List ℕ) → least table ≡ Some first → IsAssignment table first
     least_is first e = least_assigned table first e
 
--- members that are stuck, with no member before them fixed, leave no assignment
-pub stuck_least : (table : Table) (member : ℕ) (ps : List ℕ) (flags : List Bool) → length ps ≤ length table → IsStuck (accepts table) 0 member ps flags → least table ≡ None
+-- members that are stuck leave no assignment
+pub stuck_least : (table : Table) (member : ℕ) (ps : List ℕ) (flags : List Bool) → length ps ≤ length table → IsStuck (accepts table) member ps flags → least table ≡ None
 stuck_least table member ps flags fits stuck = none_least table (λ is a.
-    stuck_none (accepts table) 0 member ps flags is stuck (placed_assigned table is a) (let long = assigned_length table is a in omega arith) (λ k h. absurd (omega arith)))
+    stuck_none (accepts table) member ps flags is stuck (placed_assigned table is a) (let long = assigned_length table is a in omega arith))
 
 range_increases : (n : ℕ) → IsStrictlyIncreasing (range_with_len 0 n)
 range_increases n k h = range_ascends n k (k + 1) 0 (omega arith) h
 
 -- and are short of positions
-pub stuck_short : (table : Table) (parents member : ℕ) (ps : List ℕ) (flags : List Bool) → length ps ≤ length table → IsStuck (accepts table) 0 member ps flags → IsShort table parents (true_positions flags)
+pub stuck_short : (table : Table) (parents member : ℕ) (ps : List ℕ) (flags : List Bool) → length ps ≤ length table → IsStuck (accepts table) member ps flags → IsShort table parents (true_positions flags)
 unfolding accepts
 stuck_short table parents member ps flags fits stuck =
     let members = true_positions flags in
     let test : ℕ → Bool = λ i. list_any (λ m. get_or (get_or table m []) i false) members in
     let accepted = accepted_positions table parents members in
-    let many : length stuck.members ≤ length members = at_most_those stuck.members members stuck.movable.apart (λ t h. Contains-true_positions flags _ (stuck.set t h)) in
+    let many : length stuck.members ≤ length members = at_most_those stuck.members members stuck.distinct.apart (λ t h. Contains-true_positions flags _ (stuck.set t h)) in
     let apart : IsApart accepted = λ i j a b. let less : get_or accepted i 0 < get_or accepted j 0 = AllPairs-filter (λ i j. i < j) test (range_with_len 0 parents) (range_ascends parents) i j 0 a b in λ e. omega arith in
     record {
       ascending = IsStrictlyIncreasing-filter (λ i. get_or flags i false) (range_with_len 0 (length flags)) (range_increases (length flags));
       known = λ k d h.
           let c = stuck.flagged (get_or members k d) (Contains-from_true_positions flags _ (Contains-get_or members k d h)) in
-          let l : get_or stuck.members c.0 0 < length ps = stuck.movable.known c.0 c.1 in
+          let l : get_or stuck.members c.0 0 < length ps = stuck.distinct.known c.0 c.1 in
           let at : get_or stuck.members c.0 0 ≡ get_or members k d = contains_at stuck.members _ c in
           omega arith;
       fewer =
-          let few : length accepted < length stuck.members = rest_fewer ps stuck.members accepted stuck.movable.some apart (λ k h.
+          let few : length accepted < length stuck.members = rest_fewer ps stuck.members accepted stuck.distinct.some apart (λ k h.
           let j = get_or accepted k 0 in
           let some = Any-from_list_any (λ m. get_or (get_or table m []) j false) members (filter_passes test (range_with_len 0 parents) k 0 h) in
           let c = stuck.flagged some.1 (Contains-from_true_positions flags some.1 (some.0, some.2, some.3)) in
@@ -107,7 +107,7 @@ stuck_short table parents member ps flags fits stuck =
             holder = w.holder;
             other = w.other;
             there = w.there;
-            among = elim w.which [ inl none ↦ absurd (let l : w.holder < 0 = none in omega arith) | inr among ↦ among ];
+            among = w.among;
           }) in
           omega arith;
     }

@@ -1,13 +1,15 @@
 -- Rows that each take the first position that is left.
-use Rattle.std.proofs.Common.{◌≡◌, ℕ, ◌<◌, Bool, true, false, List, [], ◌∷◌, ◌++◌, Option, None, Some, length, get_or, set, refl, sym, ap, ◌∙◌, append_assoc, arith, inl, inr}
+use Rattle.std.proofs.Common.{◌≡◌, ◌≢◌, ℕ, ◌<◌, subst, Bool, true, false, List, [], ◌∷◌, ◌++◌, Option, None, Some, length, get_or, set, refl, sym, ap, ◌∙◌, append_assoc, arith, inl, inr}
 use Rattle.std.specs.Prelude.{◌||◌, ◌==◌, option_map, replicate, slice_get}
 use Rattle.std.specs.List.{list_any}
-use Rattle.std.proofs.lemmas.Bool.{cases_lt}
+use Rattle.std.proofs.lemmas.Bool.{cases_lt, cases_eq}
 use Rattle.std.proofs.lemmas.Bool.Decides.{Decides-eqb}
-use Rattle.std.proofs.lemmas.List.{get_or-replicate, get_or-set_other, get_or-set_same, length-replicate, length-set}
+use Rattle.std.proofs.lemmas.List.{get_or_append_left, get_or-replicate, get_or-set_other, get_or-set_same, length-replicate, length-set}
 use Rattle.std.proofs.lemmas.List.Elements.{Contains-get_or}
-use Rattle.std.proofs.lemmas.Option.{slice_get-get_or, slice_get_past}
+use Rattle.std.proofs.lemmas.Option.{slice_get-get_or}
 use Rattle.haya_assignment.specs.Assignment.{Table, greedy_beside, not_taken, true_positions}
+use Rattle.haya_assignment.specs.Placed.{IsPlaced}
+use Rattle.haya_assignment.proofs.Numbers.{at_more}
 use Rattle.haya_assignment.proofs.Listing.{Contains-from_not_taken, Contains-from_true_positions, Contains-not_taken, Contains-true_positions, IsFree, not_taken_ascends}
 
 -- a position that is left, with none before it, is the first
@@ -26,17 +28,6 @@ first_is taken row j ok free before =
       | inr z ↦
           let e : 0 ≡ c.0 = omega arith in
           slice_get-get_or xs 0 j some ∙ ap (λ (k : ℕ). Some (get_or xs k j)) e ∙ ap (λ (x : ℕ). Some x) c.2
-    ]
-
--- there is no first where none is left
-pub none_is : (taken : List ℕ) (row : List Bool) → ((k : ℕ) → get_or row k false ≡ true → ¬ IsFree taken k) → slice_get (not_taken taken (true_positions row)) 0 ≡ None
-none_is taken row none =
-    let xs = not_taken taken (true_positions row) in
-    elim (cases_lt 0 (length xs)) [
-      | inl l ↦
-          let w = Contains-from_not_taken taken (true_positions row) (get_or xs 0 0) (Contains-get_or xs 0 0 l) in
-          absurd (none (get_or xs 0 0) (Contains-from_true_positions row (get_or xs 0 0) w.0) w.1)
-      | inr g ↦ slice_get_past xs 0 g
     ]
 
 -- the flags of the positions that are taken are set
@@ -64,10 +55,25 @@ greedy_more taken before row rows i e = rw e (by (greedy_beside (i ∷ taken) ro
   by None = refl
   by (Some is) = ap (λ (js : List ℕ). Some js) (sym (append_assoc before (i ∷ []) is))
 
-pub greedy_none : (taken before : List ℕ) (row : List Bool) (rows : Table) → slice_get (not_taken taken (true_positions row)) 0 ≡ None
-    → option_map (λ is. before ++ is) (greedy_beside taken (row ∷ rows)) ≡ None
-greedy_none taken before row rows e = rw e refl
+-- ---- one more member has a position
+pub placed_push : (A : ℕ → ℕ → Bool) (ps : List ℕ) (j : ℕ) → IsPlaced A ps → A (length ps) j ≡ true → ((u : ℕ) → u < length ps → get_or ps u 0 ≢ j) → IsPlaced A (ps ++ j ∷ [])
+placed_push A ps j placed ok new =
+    record {
+      accepted = at_more (λ k x. A k x ≡ true) ps j 0 placed.accepted ok;
+      apart = λ i k a b. at_more (λ k x. (l : ℕ) → l < k → get_or (ps ++ j ∷ []) l 0 ≢ x) ps j 0
+          (λ k h l z. let l' : l < length ps = omega arith in rw (get_or_append_left ps (j ∷ []) 0 l l') (placed.apart l k z h))
+          (λ l z. rw (get_or_append_left ps (j ∷ []) 0 l z) (new l z)) k b i a;
+    }
 
-pub map_same : (o : Option (List ℕ)) → option_map (λ is. is) o ≡ o
-map_same None = refl
-map_same (Some is) = refl
+pub held_push : (flags : List Bool) (ps : List ℕ) (j : ℕ) → j < length flags → ((u : ℕ) → u < length ps → get_or flags (get_or ps u 0) false ≡ true) → (u : ℕ) → u < length (ps ++ j ∷ []) → get_or (set flags j true) (get_or (ps ++ j ∷ []) u 0) false ≡ true
+held_push flags ps j within held =
+    let here : get_or (set flags j true) j false ≡ true = get_or-set_same flags j true false within in
+    at_more (λ k x. get_or (set flags j true) x false ≡ true) ps j 0
+    (λ u h. elim (cases_eq (get_or ps u 0) j) [
+      | inl e ↦ rw e here
+      | inr ne ↦ get_or-set_other flags j (get_or ps u 0) true false ne ∙ held u h
+    ]) here
+
+-- a position that isn't flagged is that of none
+pub none_there : (flags : List Bool) (ps : List ℕ) (j : ℕ) → get_or flags j false ≡ false → ((u : ℕ) → u < length ps → get_or flags (get_or ps u 0) false ≡ true) → (u : ℕ) → u < length ps → get_or ps u 0 ≢ j
+none_there flags ps j left held u h e = let set : get_or flags j false ≡ true = subst (λ (x : ℕ). get_or flags x false ≡ true) e (held u h) in absurd (cc)

@@ -6,5 +6,6 @@ mod Placing
 mod Listing
 mod Bridging
 mod Lowering
+mod Ranking
 mod LawsOfLists
 mod InTurn

@@ -38,12 +38,12 @@ Contains-from_filter p xs x c =
     let all : Contains xs (get_or (filter p xs) c.0 x) = All-filter p (Contains xs) xs (λ k d h. Contains-get_or xs k d h) c.0 x c.1 in
     (subst (Contains xs) c.2 all, subst (λ y. p y ≡ true) c.2 passes)
 
-contains-map : {X Y : Type 0} (f : X → Y) (xs : List X) (x : X) → Contains xs x → Contains (map f xs) (f x)
+pub contains-map : {X Y : Type 0} (f : X → Y) (xs : List X) (x : X) → Contains xs x → Contains (map f xs) (f x)
 contains-map f xs x c =
     let l : c.0 < length (map f xs) = omega (arith, length-map xs f, c.1) in
     (c.0, l, get_or-map f xs c.0 x (f x) c.1 ∙ ap f c.2)
 
-contains-from_map : {X Y : Type 0} (f : X → Y) (xs : List X) (y : Y) → Contains (map f xs) y → (x : X) × Contains xs x × (f x ≡ y)
+pub contains-from_map : {X Y : Type 0} (f : X → Y) (xs : List X) (y : Y) → Contains (map f xs) y → (x : X) × Contains xs x × (f x ≡ y)
 contains-from_map f [] y c = absurd (let l : c.0 < 0 = c.1 in omega arith)
 contains-from_map f (x ∷ xs) y c =
     elim (contains-cons_cases (f x) y (map f xs) c) [

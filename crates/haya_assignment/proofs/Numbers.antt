@@ -1,9 +1,8 @@
 -- Lists of numbers that grow, are written to, and have no two that are equal.
-use Rattle.std.proofs.Common.{◌≡◌, ◌≢◌, ℕ, ◌+◌, ◌*◌, ◌<◌, ◌≤◌, true, false, List, [], ◌∷◌, ◌++◌, length, get_or, set, arith, refl, sym, ◌∙◌, subst, inl, inr}
+use Rattle.std.proofs.Common.{◌≡◌, ◌≢◌, ℕ, zero, suc, ◌<◌, ◌≤◌, true, false, List, [], ◌∷◌, ◌++◌, length, get_or, set, arith, refl, sym, ◌∙◌, subst, inl, inr}
 use Rattle.std.specs.Prelude.{Contains, nat_eq}
 use Rattle.std.specs.List.{IsDistinct}
 use Rattle.std.specs.Set.{is_member}
-use Rattle.std.proofs.Math.Nat.{mul-le-mul_left}
 use Rattle.std.proofs.lemmas.Bool.{cases_lt, cases_eq}
 use Rattle.std.proofs.lemmas.Bool.Decides.{nat_tests, Decides-eqb}
 use Rattle.std.proofs.lemmas.Cmp.{nat_eq_equiv}
@@ -77,9 +76,26 @@ at_most xs n apart all = length-le_from_distinct_below xs n (distinct xs apart)
     (λ q h. let c = contained xs q h in
     subst (λ (x : ℕ). x < n) (contains_at xs q c) (all c.0 c.1))
 
--- ---- looks
-pub rows_of_looks : (s₀ s s' a m p : ℕ) → s ≤ s₀ + a * p → s' ≤ s + p → a < m → s' ≤ s₀ + m * p
-rows_of_looks s₀ s s' a m p h k l = let f : p * (a + 1) ≤ p * m = mul-le-mul_left p (omega arith) in omega arith
+apart_cons : (y : ℕ) (xs : List ℕ) → IsApart xs → ((k : ℕ) → k < length xs → y ≢ get_or xs k 0) → IsApart (y ∷ xs)
+apart_cons y xs apart new zero zero a b = absurd (omega arith)
+apart_cons y xs apart new zero (suc j) a b = new j (omega arith)
+apart_cons y xs apart new (suc i) zero a b = absurd (omega arith)
+apart_cons y xs apart new (suc i) (suc j) a b = apart i j (omega arith) (omega arith)
 
-pub fewer_rows : (s₀ s a m p : ℕ) → s ≤ s₀ + a * p → a ≤ m → s ≤ s₀ + m * p
-fewer_rows s₀ s a m p h l = let f : p * a ≤ p * m = mul-le-mul_left p l in omega arith
+each_cons : (y : ℕ) (xs ys : List ℕ) → Contains ys y → ((k : ℕ) → k < length xs → Contains ys (get_or xs k 0)) → (k : ℕ) → k < length (y ∷ xs) → Contains ys (get_or (y ∷ xs) k 0)
+each_cons y xs ys c all zero h = c
+each_cons y xs ys c all (suc k) h = all k (omega arith)
+
+-- as many as those of a list, each of which they are, are all of it
+pub all_those : (xs ys : List ℕ) → IsApart xs → length xs ≡ length ys → ((k : ℕ) → k < length xs → Contains ys (get_or xs k 0)) → (y : ℕ) → Contains ys y → Contains xs y
+all_those xs ys apart long all y c =
+    (elim (is_member nat_eq xs y) as (λ b. is_member nat_eq xs y ≡ b → Contains xs y) [
+      | true ↦ λ e. contained xs y e
+      | false ↦ λ e.
+          let new : (k : ℕ) → k < length xs → y ≢ get_or xs k 0 = λ k h same.
+          let l : k < length xs = h in
+          let yes : is_member nat_eq xs y ≡ true = member xs y (k, l, get_or_default xs k y 0 l ∙ sym same) in
+          absurd (cc) in
+          let most : length (y ∷ xs) ≤ length ys = at_most_those (y ∷ xs) ys (apart_cons y xs apart new) (each_cons y xs ys c all) in
+          absurd (omega arith)
+    ]) refl

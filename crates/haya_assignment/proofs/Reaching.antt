@@ -6,8 +6,8 @@ use Rattle.std.proofs.lemmas.List.{get_or_append_left, get_or_push, length_push,
 use Rattle.std.proofs.lemmas.List.Elements.{All-map, Contains-append_left, Contains-push}
 use Rattle.haya_assignment.specs.Assignment.{Table, rows}
 use Rattle.haya_assignment.specs.Placed.{accepts, Grows}
-use Rattle.haya_assignment.specs.Search.{IsClosed, IsReached, IsSearched, IsSearchedBelow}
-use Rattle.haya_assignment.proofs.Numbers.{at_more, at_most, contains_grows}
+use Rattle.haya_assignment.specs.Search.{AreLayers, IsClosed, IsReached, IsSearched, IsSearchedBelow}
+use Rattle.haya_assignment.proofs.Numbers.{at_more, at_most, contains_at, contains_grows}
 
 -- ---- the table
 pub accepts_read : {Z : Type 0} (table : List (Vec Bool Z)) (row : Vec Bool Z) (i j : ℕ) (b : Bool) → i < length table → row ≡ get_or table i row → j < length row.items → b ≡ get_or row.items j b → b ≡ accepts (rows table) i j
@@ -43,30 +43,30 @@ pub accepts_within : {Z : Type 0} (table : List (Vec Bool Z)) (p i j : ℕ) → 
 accepts_within table p i j width ok = accepts_below (rows table) p i j (All-map (λ row. length row ≡ p) (λ row. row.items) table (λ k d h. let long : vec_len (get_or table k d) ≡ p = width k d h in let fits = (get_or table k d).ok in omega arith)) ok
 
 -- ---- positions that are closed
-pub closed_grows : (first : ℕ) (hs : List (Option ℕ)) (ms ms' : List ℕ) (j : ℕ) → Grows ms ms' → IsClosed first hs ms j → IsClosed first hs ms' j
-closed_grows first hs ms ms' j g c =
+pub closed_grows : (stays : List Bool) (hs : List (Option ℕ)) (ms ms' : List ℕ) (j : ℕ) → Grows ms ms' → IsClosed stays hs ms j → IsClosed stays hs ms' j
+closed_grows stays hs ms ms' j g c =
     record { holder = c.holder; held = c.held; which = elim c.which [ inl a ↦ inl a | inr b ↦ inr (contains_grows ms ms' c.holder g b) ] }
 
-pub searched_grows : (A : ℕ → ℕ → Bool) (first end : ℕ) (hs : List (Option ℕ)) (ms ms' : List ℕ) → end ≤ length ms → Grows ms ms' → IsSearched A first end hs ms → IsSearched A first end hs ms'
-searched_grows A first end hs ms ms' le g s t j z h ok =
+pub searched_grows : (A : ℕ → ℕ → Bool) (stays : List Bool) (end : ℕ) (hs : List (Option ℕ)) (ms ms' : List ℕ) → end ≤ length ms → Grows ms ms' → IsSearched A stays end hs ms → IsSearched A stays end hs ms'
+searched_grows A stays end hs ms ms' le g s t j z h ok =
     let l : t < length ms = omega arith in
-    closed_grows first hs ms ms' j g (s t j z h (rw (g.same t l) ok))
+    closed_grows stays hs ms ms' j g (s t j z h (rw (g.same t l) ok))
 
 -- one more position that is closed where it is accepted
-pub closed_more : (A : ℕ → ℕ → Bool) (first : ℕ) (hs : List (Option ℕ)) (ms ms' : List ℕ) (i k : ℕ) → Grows ms ms' → ((j : ℕ) → j < k → A i j ≡ true → IsClosed first hs ms j) → (A i k ≡ true → IsClosed first hs ms' k) → (j : ℕ) → j < k + 1 → A i j ≡ true → IsClosed first hs ms' j
-closed_more A first hs ms ms' i k g below here =
-    below_more (λ j. A i j ≡ true → IsClosed first hs ms' j) k (λ j h ok. closed_grows first hs ms ms' j g (below j h ok)) here
+pub closed_more : (A : ℕ → ℕ → Bool) (stays : List Bool) (hs : List (Option ℕ)) (ms ms' : List ℕ) (i k : ℕ) → Grows ms ms' → ((j : ℕ) → j < k → A i j ≡ true → IsClosed stays hs ms j) → (A i k ≡ true → IsClosed stays hs ms' k) → (j : ℕ) → j < k + 1 → A i j ≡ true → IsClosed stays hs ms' j
+closed_more A stays hs ms ms' i k g below here =
+    below_more (λ j. A i j ≡ true → IsClosed stays hs ms' j) k (λ j h ok. closed_grows stays hs ms ms' j g (below j h ok)) here
 
 -- one more member that is searched
-pub searched_more : (A : ℕ → ℕ → Bool) (first n : ℕ) (hs : List (Option ℕ)) (ms ms' : List ℕ) → n < length ms → Grows ms ms' → IsSearched A first n hs ms → ((j : ℕ) → A (get_or ms n 0) j ≡ true → IsClosed first hs ms' j) → IsSearched A first (n + 1) hs ms'
-searched_more A first n hs ms ms' in_ms g s here t j z h =
-    below_more (λ t. 0 < t → A (get_or ms' t 0) j ≡ true → IsClosed first hs ms' j) n
-    (λ t h z. searched_grows A first n hs ms ms' (omega arith) g s t j z h)
+pub searched_more : (A : ℕ → ℕ → Bool) (stays : List Bool) (n : ℕ) (hs : List (Option ℕ)) (ms ms' : List ℕ) → n < length ms → Grows ms ms' → IsSearched A stays n hs ms → ((j : ℕ) → A (get_or ms n 0) j ≡ true → IsClosed stays hs ms' j) → IsSearched A stays (n + 1) hs ms'
+searched_more A stays n hs ms ms' in_ms g s here t j z h =
+    below_more (λ t. 0 < t → A (get_or ms' t 0) j ≡ true → IsClosed stays hs ms' j) n
+    (λ t h z. searched_grows A stays n hs ms ms' (omega arith) g s t j z h)
     (λ z ok. here j (rw (g.same n in_ms) ok)) t h z
 
 -- ---- members that were reached
-pub reached_one : (A : ℕ → ℕ → Bool) (first member count : ℕ) (hs : List (Option ℕ)) → member < count → IsReached A first hs (member ∷ []) (0 ∷ []) (set (replicate count false) member true)
-reached_one A first member count hs in_count =
+pub reached_one : (A : ℕ → ℕ → Bool) (stays : List Bool) (member count : ℕ) (hs : List (Option ℕ)) → member < count → IsReached A stays hs (member ∷ []) (0 ∷ []) (set (replicate count false) member true)
+reached_one A stays member count hs in_count =
     let long : length (replicate count false) ≡ count = length-replicate count false in
     let long' : length (set (replicate count false) member true) ≡ length (replicate count false) = length-set (replicate count false) member true in
     let same : get_or (set (replicate count false) member true) member false ≡ true = get_or-set_same (replicate count false) member true false (omega arith) in
@@ -82,7 +82,7 @@ reached_one A first member count hs in_count =
       ];
       flags = λ t h. let e : t ≡ 0 = omega arith in rw e same;
       apart = λ i j a b. absurd (omega arith);
-      after = λ t a b. absurd (omega arith);
+      moves = λ t a b. absurd (omega arith);
       earlier = λ t a b. absurd (omega arith);
       via = λ t a b. absurd (omega arith);
     }
@@ -93,8 +93,8 @@ reached_one A first member count hs in_count =
       | inr g ↦ get_or_past (replicate count false) u false (omega (arith, length-replicate count false))
     ]
 
-pub reached_push : (A : ℕ → ℕ → Bool) (first : ℕ) (hs : List (Option ℕ)) (ms fs : List ℕ) (seen : List Bool) (t u j : ℕ) → IsReached A first hs ms fs seen → t < length ms → u < length seen → first ≤ u → get_or seen u false ≡ false → slice_get hs j ≡ Some (Some u) → A (get_or ms t 0) j ≡ true → IsReached A first hs (ms ++ u ∷ []) (fs ++ t ∷ []) (set seen u true)
-reached_push A first hs ms fs seen t u j r in_ms in_seen after new held ok =
+pub reached_push : (A : ℕ → ℕ → Bool) (stays : List Bool) (hs : List (Option ℕ)) (ms fs : List ℕ) (seen : List Bool) (t u j : ℕ) → IsReached A stays hs ms fs seen → t < length ms → u < length seen → get_or stays u false ≡ false → get_or seen u false ≡ false → slice_get hs j ≡ Some (Some u) → A (get_or ms t 0) j ≡ true → IsReached A stays hs (ms ++ u ∷ []) (fs ++ t ∷ []) (set seen u true)
+reached_push A stays hs ms fs seen t u j r in_ms in_seen moves new held ok =
     let n = length_push ms u in
     let m = length_push fs t in
     let even : length fs ≡ length ms = r.as_many in
@@ -114,7 +114,7 @@ reached_push A first hs ms fs seen t u j r in_ms in_seen after new held ok =
       apart = λ i k a b. at_more (λ k x. (l : ℕ) → l < k → get_or (ms ++ u ∷ []) l 0 ≢ x) ms u 0
           (λ k h l z. let l' : l < length ms = omega arith in rw (get_or_append_left ms (u ∷ []) 0 l l') (r.apart l k z h))
           (λ l z. rw (get_or_append_left ms (u ∷ []) 0 l z) (other l z)) k b i a;
-      after = λ s a b. at_more (λ k x. 0 < k → first ≤ x) ms u 0 (λ k h z. r.after k z h) (λ z. after) s b a;
+      moves = λ s a b. at_more (λ k x. 0 < k → get_or stays x false ≡ false) ms u 0 (λ k h z. r.moves k z h) (λ z. moves) s b a;
       earlier = λ s a b. let b' : s < length (fs ++ t ∷ []) = omega arith in
           at_more (λ k x. 0 < k → x < k) fs t 0 (λ k h z. r.earlier k z (omega arith)) (λ z. omega arith) s b' a;
       via = λ s a b.
@@ -132,8 +132,8 @@ reached_push A first hs ms fs seen t u j r in_ms in_seen after new held ok =
     }
 
 -- the members reached are at most those that there are
-pub reached_few : (A : ℕ → ℕ → Bool) (first : ℕ) (hs : List (Option ℕ)) (ms fs : List ℕ) (seen : List Bool) → IsReached A first hs ms fs seen → length ms ≤ length seen
-reached_few A first hs ms fs seen r = at_most ms (length seen) r.apart r.known
+pub reached_few : (A : ℕ → ℕ → Bool) (stays : List Bool) (hs : List (Option ℕ)) (ms fs : List ℕ) (seen : List Bool) → IsReached A stays hs ms fs seen → length ms ≤ length seen
+reached_few A stays hs ms fs seen r = at_most ms (length seen) r.apart r.known
 
 -- those reached by way of the first are early, with one more that is
 pub early_push : (bound : ℕ) (hs : List (Option ℕ)) (ms fs : List ℕ) (t u j : ℕ) → length fs ≡ length ms → slice_get hs j ≡ Some (Some u) → (t ≡ 0 → j < bound)
@@ -151,19 +151,80 @@ early_push bound hs ms fs t u j even held below was s a b root =
     ]
 
 -- one more position of the first that is left
-pub searched_below_more : (A : ℕ → ℕ → Bool) (first bound : ℕ) (hs : List (Option ℕ)) (ms ms' ms'' : List ℕ) → 0 < length ms → Grows ms ms' → Grows ms' ms''
-    → IsSearchedBelow A first bound hs ms → (A (get_or ms 0 0) bound ≡ true → IsClosed first hs ms' bound) → IsSearched A first (length ms'') hs ms'' → IsSearchedBelow A first (bound + 1) hs ms''
-searched_below_more A first bound hs ms ms' ms'' some g g' was here later =
+pub searched_below_more : (A : ℕ → ℕ → Bool) (stays : List Bool) (bound : ℕ) (hs : List (Option ℕ)) (ms ms' ms'' : List ℕ) → 0 < length ms → Grows ms ms' → Grows ms' ms''
+    → IsSearchedBelow A stays bound hs ms → (A (get_or ms 0 0) bound ≡ true → IsClosed stays hs ms' bound) → IsSearched A stays (length ms'') hs ms'' → IsSearchedBelow A stays (bound + 1) hs ms''
+searched_below_more A stays bound hs ms ms' ms'' some g g' was here later =
     let longer : length ms ≤ length ms' = g.longer in
     let same : get_or ms 0 0 ≡ get_or ms'' 0 0 = g.same 0 some ∙ g'.same 0 (omega arith) in
     record {
       later = later;
-      below = λ j h ok. below_more (λ j. A (get_or ms 0 0) j ≡ true → IsClosed first hs ms'' j) bound
-          (λ j h ok. closed_grows first hs ms' ms'' j g' (closed_grows first hs ms ms' j g (was.below j h ok)))
-          (λ ok. closed_grows first hs ms' ms'' bound g' (here ok)) j h (rw same ok);
+      below = λ j h ok. below_more (λ j. A (get_or ms 0 0) j ≡ true → IsClosed stays hs ms'' j) bound
+          (λ j h ok. closed_grows stays hs ms' ms'' j g' (closed_grows stays hs ms ms' j g (was.below j h ok)))
+          (λ ok. closed_grows stays hs ms' ms'' bound g' (here ok)) j h (rw same ok);
     }
 
 pub early_weaker : (bound : ℕ) (hs : List (Option ℕ)) (ms fs : List ℕ)
     → ((s : ℕ) → 0 < s → s < length ms → get_or fs s 0 ≡ 0 → (i : ℕ) × (slice_get hs i ≡ Some (Some (get_or ms s 0))) × (i < bound))
     → (s : ℕ) → 0 < s → s < length ms → get_or fs s 0 ≡ 0 → (i : ℕ) × (slice_get hs i ≡ Some (Some (get_or ms s 0))) × (i < bound + 1)
 early_weaker bound hs ms fs was s a b root = let w = was s a b root in let l : w.0 < bound = w.2 in (w.0, w.1, omega arith)
+
+pub none_set : (count u : ℕ) → get_or (replicate count false) u false ≡ false
+none_set count u = elim (cases_lt u count) [
+  | inl l ↦ get_or-replicate count u false false l
+  | inr g ↦ get_or_past (replicate count false) u false (omega (arith, length-replicate count false))
+]
+
+-- ---- layers
+pub layers_low : (ls ls' : List ℕ) (layer : ℕ) → Grows ls ls' → ((t : ℕ) → length ls ≤ t → t < length ls' → get_or ls' t 0 ≡ layer) → ((t : ℕ) → t < length ls → get_or ls t 0 < layer) → (t : ℕ) → t < length ls' → get_or ls' t 0 < layer + 1
+layers_low ls ls' layer g new lower t h = elim (cases_lt t (length ls)) [
+  | inl l ↦ let low : get_or ls t 0 < layer = lower t l in rw (← g.same t l) (omega arith)
+  | inr g ↦ rw (new t g h) (omega arith)
+]
+
+pub layers_grow : (A : ℕ → ℕ → Bool) (stays : List Bool) (hs : List (Option ℕ)) (ms ms' ls : List ℕ) → Grows ms ms' → AreLayers A stays hs ms ls → AreLayers A stays hs ms' ls
+layers_grow A stays hs ms ms' ls g r =
+    let fewer : length ls ≤ length ms = r.fewer in
+    let longer : length ms ≤ length ms' = g.longer in
+    record {
+      fewer = omega arith;
+      within = λ t j z h ok.
+          let w = r.within t j z h (rw (g.same t (omega arith)) ok) in
+          record {
+            holder = w.holder;
+            held = w.held;
+            which = elim w.which [ inl s ↦ inl s | inr b ↦ let l : b.0 < length ls = b.1 in inr (b.0, b.1, sym (g.same b.0 (omega arith)) ∙ b.2, b.3) ];
+          };
+    }
+
+-- those without a layer get the next one
+pub layers_more : (A : ℕ → ℕ → Bool) (stays : List Bool) (hs : List (Option ℕ)) (ms ls ls' : List ℕ) (layer : ℕ) → length ls' ≡ length ms → Grows ls ls' → ((t : ℕ) → length ls ≤ t → t < length ms → get_or ls' t 0 ≡ layer)
+    → ((t : ℕ) → t < length ls → get_or ls t 0 < layer) → AreLayers A stays hs ms ls → IsSearched A stays (length ms) hs ms → AreLayers A stays hs ms ls'
+layers_more A stays hs ms ls ls' layer long g new lower r searched =
+    let more : length ls ≤ length ls' = g.longer in
+    let most : (s : ℕ) → s < length ms → get_or ls' s 0 ≤ layer = λ s h. elim (cases_lt s (length ls)) [
+      | inl l ↦ let low : get_or ls s 0 < layer = lower s l in rw (← g.same s l) (omega arith)
+      | inr g ↦ rw (new s g h) (omega arith)
+    ] in
+    record {
+      fewer = omega arith;
+      within = λ t j z h ok. elim (cases_lt t (length ls)) [
+        | inl l ↦
+            let w = r.within t j z l ok in
+            record {
+              holder = w.holder;
+              held = w.held;
+              which = elim w.which [ inl s ↦ inl s | inr b ↦ let k : b.0 < length ls = b.1 in inr (b.0, omega arith, b.2, rw (← g.same b.0 k, ← g.same t l) b.3) ];
+            }
+        | inr old ↦
+            let h' : t < length ms = omega arith in
+            let c = searched t j z h' ok in
+            record {
+              holder = c.holder;
+              held = c.held;
+              which = elim c.which [
+                | inl s ↦ inl s
+                | inr b ↦ let k : b.0 < length ms = b.1 in inr (b.0, omega arith, contains_at ms c.holder b, rw (new t old h') (most b.0 k))
+              ];
+            }
+      ];
+    }

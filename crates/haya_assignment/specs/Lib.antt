@@ -2,5 +2,6 @@ pub mod Answer
 pub mod Assignment
 pub mod Laws
 pub mod Placed
+pub mod Ranked
 pub mod Search
 pub mod Shift

@@ -23,9 +23,9 @@ pub record IsVia (A : ℕ → ℕ → Bool) (holders : List (Option ℕ)) (membe
   pub held : slice_get holders position ≡ Some (Some other)
   pub accepted : A member position ≡ true
 
--- members that were reached, each but the first by way of one before it, which is accepted at its
--- position; `seen` flags them
-pub record IsReached (A : ℕ → ℕ → Bool) (first : ℕ) (holders : List (Option ℕ))
+-- members that were reached, each but the first one that can move, by way of one before it, which
+-- is accepted at its position; `stays` flags those that can't move, `seen` those reached
+pub record IsReached (A : ℕ → ℕ → Bool) (stays : List Bool) (holders : List (Option ℕ))
     (members from : List ℕ) (seen : List Bool) : Type 0 where
   pub some : 0 < length members
   pub as_many : length from ≡ length members
@@ -33,14 +33,15 @@ pub record IsReached (A : ℕ → ℕ → Bool) (first : ℕ) (holders : List (O
   pub flagged : (u : ℕ) → get_or seen u false ≡ true → Contains members u
   pub flags : (t : ℕ) → t < length members → get_or seen (get_or members t 0) false ≡ true
   pub apart : IsApart members
-  pub after : (t : ℕ) → 0 < t → t < length members → first ≤ get_or members t 0
+  pub moves : (t : ℕ) → 0 < t → t < length members →
+      get_or stays (get_or members t 0) false ≡ false
   pub earlier : (t : ℕ) → 0 < t → t < length members → get_or from t 0 < t
   pub via : (t : ℕ) → 0 < t → t < length members →
       IsVia A holders (get_or members (get_or from t 0) 0) (get_or members t 0)
 
-abbrev pub Reaches : (ℕ → ℕ → Bool) → ℕ → List (Option ℕ) → Reached → Type 0
-Reaches A first holders r =
-    IsReached A first holders r.members.items r.from.items r.seen.items
+abbrev pub Reaches : (ℕ → ℕ → Bool) → List Bool → List (Option ℕ) → Reached → Type 0
+Reaches A stays holders r =
+    IsReached A stays holders r.members.items r.from.items r.seen.items
 
 -- the members reached by way of the first have positions below a bound
 abbrev pub IsEarly : ℕ → List (Option ℕ) → Reached → Type 0
@@ -52,29 +53,46 @@ IsEarly bound holders r = (t : ℕ) → 0 < t → t < length r.members.items →
 abbrev pub IsFree : (ℕ → ℕ → Bool) → List (Option ℕ) → ℕ → ℕ → Type 0
 IsFree A holders i j = (A i j ≡ true) × (slice_get holders j ≡ Some None)
 
--- the position is held by a member before the `first`, which doesn't move, or by one reached
-pub record IsClosed (first : ℕ) (holders : List (Option ℕ)) (members : List ℕ) (j : ℕ)
+-- the position is held by a member that stays, or by one reached
+pub record IsClosed (stays : List Bool) (holders : List (Option ℕ)) (members : List ℕ) (j : ℕ)
     : Type 0 where
   pub holder : ℕ
   pub held : slice_get holders j ≡ Some (Some holder)
-  pub which : (holder < first) ⊎ Contains members holder
+  pub which : (get_or stays holder false ≡ true) ⊎ Contains members holder
 
 -- the positions where the reached members after the first are accepted, up to a place, are closed
-abbrev pub IsSearched : (ℕ → ℕ → Bool) → ℕ → ℕ → List (Option ℕ) → List ℕ → Type 0
-IsSearched A first end holders members = (t j : ℕ) → 0 < t → t < end →
-    A (get_or members t 0) j ≡ true → IsClosed first holders members j
+abbrev pub IsSearched : (ℕ → ℕ → Bool) → List Bool → ℕ → List (Option ℕ) → List ℕ → Type 0
+IsSearched A stays end holders members = (t j : ℕ) → 0 < t → t < end →
+    A (get_or members t 0) j ≡ true → IsClosed stays holders members j
 
 -- so are those of all of them, and of the first below a bound
-pub record IsSearchedBelow (A : ℕ → ℕ → Bool) (first bound : ℕ) (holders : List (Option ℕ))
-    (members : List ℕ) : Type 0 where
-  pub later : IsSearched A first (length members) holders members
+pub record IsSearchedBelow (A : ℕ → ℕ → Bool) (stays : List Bool) (bound : ℕ)
+    (holders : List (Option ℕ)) (members : List ℕ) : Type 0 where
+  pub later : IsSearched A stays (length members) holders members
   pub below : (j : ℕ) → j < bound → A (get_or members 0 0) j ≡ true →
-      IsClosed first holders members j
+      IsClosed stays holders members j
+
+-- the position is held by a member that stays, or by one of these layers or of lower ones
+pub record IsWithin (stays : List Bool) (holders : List (Option ℕ)) (members layers : List ℕ)
+    (layer j : ℕ) : Type 0 where
+  pub holder : ℕ
+  pub held : slice_get holders j ≡ Some (Some holder)
+  pub which : (get_or stays holder false ≡ true)
+      ⊎ ((s : ℕ) × (s < length layers) × (get_or members s 0 ≡ holder)
+      × (get_or layers s 0 ≤ layer))
+
+-- the layers of the members that were reached first: each but the first of them is accepted only
+-- at positions of those that stay, and of those of its layer and lower ones
+pub record AreLayers (A : ℕ → ℕ → Bool) (stays : List Bool) (holders : List (Option ℕ))
+    (members layers : List ℕ) : Type 0 where
+  pub fewer : length layers ≤ length members
+  pub within : (t j : ℕ) → 0 < t → t < length layers → A (get_or members t 0) j ≡ true →
+      IsWithin stays holders members layers (get_or layers t 0) j
 
 -- a member reached, at a place, that is accepted at a free position; a way to it leads by way of a
 -- position of the first below which there is none
-pub record HasFound (A : ℕ → ℕ → Bool) (first : ℕ) (holders : List (Option ℕ)) (r : Reached)
-    (at position : ℕ) : Type 0 where
+pub record HasFound (A : ℕ → ℕ → Bool) (stays : List Bool) (holders : List (Option ℕ))
+    (r : Reached) (at position : ℕ) : Type 0 where
   pub in_reached : at < length r.members.items
   pub free : IsFree A holders (get_or r.members.items at 0) position
   pub bound : ℕ
@@ -83,4 +101,4 @@ pub record HasFound (A : ℕ → ℕ → Bool) (first : ℕ) (holders : List (Op
   pub before : List ℕ
   pub some : 0 < length before
   pub grown : Grows before r.members.items
-  pub searched : IsSearchedBelow A first bound holders before
+  pub searched : IsSearchedBelow A stays bound holders before

@@ -1,11 +1,13 @@
 //! The call, and its answers.
-ghost use Rattle.std.specs.Prelude.{◌≡◌, ℕ, List, ◌+◌, ◌*◌, ◌≤◌, All, IfOk, OnOk, length, vec_len};
+ghost use Rattle.std.specs.Prelude.{◌≡◌, ◌⊎◌, ℕ, List, ◌+◌, ◌*◌, ◌≤◌, All, IfOk, OnOk};
+ghost use Rattle.std.specs.Prelude.{length, vec_len};
 ghost use Rattle.haya_assignment.specs.Answer.{IsAnswer, IsCompleted, OnFound};
 ghost use Rattle.haya_assignment.specs.Assignment.{rows, true_positions};
 ghost use Rattle.haya_assignment.specs.Placed.{accepts, IsLeastBelow, IsPlaced};
 
-use crate::greedy::take_in_turn;
-use crate::place::place;
+use crate::greedy::{take_in_turn, take_last_in_turn};
+use crate::place::{place, place_least};
+use crate::ranks::Ranks;
 use haya_entry::Steps;
 use haya_text::OutOfMemory;
 use std::alloc::Global;
@@ -32,23 +34,42 @@ fn set_places(alloc: Global, flags: &[bool]) -> Result<Vec<usize>, OutOfMemory>
     Ok(places)
 }
 
-/// Some assignment, or members that are accepted at fewer positions than they are.
+/// The longer of the two.
+fn longer(first: Vec<usize>, last: Vec<usize>) -> Vec<usize>
+    ensures either { (result.items ≡ first.items) ⊎ (result.items ≡ last.items) }
+    ensures long { length last.items ≤ length result.items }
+    ensures within { length result.items ≤ length first.items + length last.items }
+{
+    if first.len() < last.len() {
+        last
+    } else {
+        first
+    }
+}
+
+/// Some assignment, or members that are accepted at fewer positions than they are, where those
+/// before some member have positions.
 fn complete(
     alloc: Global,
     table: &[Vec<bool>],
     parents: usize,
+    start: Vec<usize>,
     steps: &mut Steps,
 ) -> Result<Assignment, OutOfMemory>
     requires width { All (λ row. vec_len row ≡ parents) table.now }
+    requires fewer { length start.items ≤ length table.now }
+    requires placed { IsPlaced (accepts (rows table.now)) start.items }
     ensures answer { IfOk result (IsCompleted (rows table.now) parents) }
-    ensures at_least { IfOk result (λ a. OnFound a (steps.old + length table.now ≤ steps.new)) }
+    ensures at_least { IfOk result (λ a. OnFound a
+        (steps.old + length table.now ≤ steps.new + length start.items)) }
     ensures onward { steps.old ≤ steps.new }
-    ensures at_most { steps.new ≤ steps.old + length table.now * (length table.now * parents) }
+    ensures at_most { steps.new + length start.items * (length table.now * parents)
+        ≤ steps.old + length table.now * (length table.now * parents) }
 {
-    let mut positions = Vec::new(alloc);
-    'members: for member in 0..table.len() {
+    let mut positions = start;
+    'members: for member in positions.len()..table.len() {
         positions.push(0)?;
-        if let Some(reached) = place(alloc, table, parents, 0, member, &mut positions, steps)? {
+        if let Some(reached) = place(alloc, table, parents, member, &mut positions, steps)? {
             return Ok(Assignment::Short(set_places(alloc, &reached)?));
         }
     }
@@ -74,8 +95,9 @@ fn lower(
     ensures onward { steps.old ≤ steps.new }
     ensures at_most { steps.new ≤ steps.old + length table.now * (length table.now * parents) }
 {
+    let mut ranks = Ranks::new(alloc, table.len())?;
     'members: for member in 0..table.len() {
-        place(alloc, table, parents, member, member, positions, steps)?;
+        place_least(alloc, table, parents, member, positions, &mut ranks, steps)?;
     }
     Ok(())
 }
@@ -109,12 +131,14 @@ pub fn least_assignment(
     ensures onward { steps.old ≤ steps.new }
     ensures at_least { IfOk result (λ a. OnFound a (steps.old + length table.now ≤ steps.new)) }
     ensures at_most { steps.new ≤ steps.old
-        + (length table.now * parents + 1) * (length table.now * length table.now * parents + 1) }
+        + (length table.now * parents + 1) * (length table.now + parents + 1) }
 {
-    if let Some(taken) = take_in_turn(alloc, table, parents, steps)? {
-        return Ok(Assignment::Found(taken));
+    let first = take_in_turn(alloc, table, parents, steps)?;
+    if first.len() == table.len() {
+        return Ok(Assignment::Found(first));
     }
-    match complete(alloc, table, parents, steps)? {
+    let last = take_last_in_turn(alloc, table, parents, steps)?;
+    match complete(alloc, table, parents, longer(first, last), steps)? {
         Assignment::Found(mut positions) => {
             lower(alloc, table, parents, &mut positions, steps)?;
             Ok(Assignment::Found(positions))

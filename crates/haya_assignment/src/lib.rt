@@ -12,6 +12,7 @@ mod assignment;
 mod greedy;
 pub mod laws;
 mod place;
+mod ranks;
 mod search;
 
 pub use assignment::{Assignment, least_assignment};

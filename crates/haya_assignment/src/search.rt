@@ -4,8 +4,8 @@ ghost use Rattle.std.specs.Prelude.{slice_get, slice_index, vec_len, All, IfNone
 ghost use Rattle.std.specs.Prelude.{OnOk, IsSome, Some, None};
 ghost use Rattle.haya_assignment.specs.Assignment.{rows};
 ghost use Rattle.haya_assignment.specs.Placed.{accepts, Grows};
-ghost use Rattle.haya_assignment.specs.Search.{AreBelow, HasFound, IsClosed, IsEarly, IsFree};
-ghost use Rattle.haya_assignment.specs.Search.{IsSearched, IsSearchedBelow, Reaches};
+ghost use Rattle.haya_assignment.specs.Search.{AreBelow, AreLayers, HasFound, IsClosed, IsEarly};
+ghost use Rattle.haya_assignment.specs.Search.{IsFree, IsSearched, IsSearchedBelow, Reaches};
 
 use haya_entry::Steps;
 use haya_text::OutOfMemory;
@@ -84,7 +84,7 @@ impl Reached {
 fn try_position(
     table: &[Vec<bool>],
     parents: usize,
-    first: usize,
+    stays: &[bool],
     holders: &[Option<usize>],
     reached: &mut Reached,
     at: usize,
@@ -96,10 +96,11 @@ fn try_position(
     requires as_many { length holders.now ≡ parents }
     requires rows { length reached.old.seen.items ≤ length table.now }
     requires held { AreBelow (length reached.old.seen.items) holders.now }
+    requires flags { length stays.now ≡ length reached.old.seen.items }
     requires at_in { at < length reached.old.members.items }
-    requires reaches { Reaches (accepts (rows table.now)) first holders.now reached.old }
+    requires reaches { Reaches (accepts (rows table.now)) stays.now holders.now reached.old }
     ensures reaches { OnOk result
-        (Reaches (accepts (rows table.now)) first holders.now reached.new) }
+        (Reaches (accepts (rows table.now)) stays.now holders.now reached.new) }
     ensures grows { OnOk result (Grows reached.old.members.items reached.new.members.items) }
     ensures as_long { OnOk result (length reached.new.seen.items ≡ length reached.old.seen.items) }
     ensures early { (bound : ℕ) → (at ≡ 0 → position < bound) →
@@ -109,7 +110,7 @@ fn try_position(
         holders.now (slice_index reached.old.members.items at) position) }
     ensures closed { IfOk result (λ found. found ≡ false →
         accepts (rows table.now) (slice_index reached.old.members.items at) position ≡ true →
-        IsClosed first holders.now reached.new.members.items position) }
+        IsClosed stays.now holders.now reached.new.members.items position) }
     ensures at_least { IfOk result (λ found. found ≡ true → steps.old + 1 ≤ steps.new) }
     ensures onward { steps.old ≤ steps.new }
     ensures at_most { steps.new ≤ steps.old + 1 }
@@ -118,7 +119,7 @@ fn try_position(
     match holders[position] {
         None => Ok(look(table, parents, member, position, steps)),
         Some(other) => {
-            if other >= first
+            if !stays[other]
                 && !reached.seen[other]
                 && look(table, parents, member, position, steps)
             {
@@ -134,7 +135,7 @@ fn try_position(
 fn scan(
     table: &[Vec<bool>],
     parents: usize,
-    first: usize,
+    stays: &[bool],
     holders: &[Option<usize>],
     reached: &mut Reached,
     at: usize,
@@ -144,11 +145,12 @@ fn scan(
     requires as_many { length holders.now ≡ parents }
     requires rows { length reached.old.seen.items ≤ length table.now }
     requires held { AreBelow (length reached.old.seen.items) holders.now }
+    requires flags { length stays.now ≡ length reached.old.seen.items }
     requires at_in { at < length reached.old.members.items }
     requires later { 0 < at }
-    requires reaches { Reaches (accepts (rows table.now)) first holders.now reached.old }
+    requires reaches { Reaches (accepts (rows table.now)) stays.now holders.now reached.old }
     ensures reaches { OnOk result
-        (Reaches (accepts (rows table.now)) first holders.now reached.new) }
+        (Reaches (accepts (rows table.now)) stays.now holders.now reached.new) }
     ensures grows { OnOk result (Grows reached.old.members.items reached.new.members.items) }
     ensures as_long { OnOk result (length reached.new.seen.items ≡ length reached.old.seen.items) }
     ensures early { (bound : ℕ) → IsEarly bound holders.now reached.old →
@@ -157,13 +159,13 @@ fn scan(
         holders.now (slice_index reached.old.members.items at) position)) }
     ensures closed { IfOk result (λ o. IfNone o ((position : ℕ) →
         accepts (rows table.now) (slice_index reached.old.members.items at) position ≡ true →
-        IsClosed first holders.now reached.new.members.items position)) }
+        IsClosed stays.now holders.now reached.new.members.items position)) }
     ensures at_least { IfOk result (λ o. IsSome o → steps.old + 1 ≤ steps.new) }
     ensures onward { steps.old ≤ steps.new }
     ensures at_most { steps.new ≤ steps.old + parents }
 {
     'positions: for position in 0..parents {
-        if try_position(table, parents, first, holders, reached, at, position, steps)? {
+        if try_position(table, parents, stays, holders, reached, at, position, steps)? {
             return Ok(Some(position));
         }
     }
@@ -175,7 +177,7 @@ fn scan(
 fn follow(
     table: &[Vec<bool>],
     parents: usize,
-    first: usize,
+    stays: &[bool],
     holders: &[Option<usize>],
     reached: &mut Reached,
     start: usize,
@@ -185,13 +187,14 @@ fn follow(
     requires as_many { length holders.now ≡ parents }
     requires rows { length reached.old.seen.items ≤ length table.now }
     requires held { AreBelow (length reached.old.seen.items) holders.now }
+    requires flags { length stays.now ≡ length reached.old.seen.items }
     requires later { 0 < start }
     requires start_in { start ≤ length reached.old.members.items }
-    requires reaches { Reaches (accepts (rows table.now)) first holders.now reached.old }
-    requires searched { IsSearched (accepts (rows table.now)) first start holders.now
+    requires reaches { Reaches (accepts (rows table.now)) stays.now holders.now reached.old }
+    requires searched { IsSearched (accepts (rows table.now)) stays.now start holders.now
         reached.old.members.items }
     ensures reaches { OnOk result
-        (Reaches (accepts (rows table.now)) first holders.now reached.new) }
+        (Reaches (accepts (rows table.now)) stays.now holders.now reached.new) }
     ensures grows { OnOk result (Grows reached.old.members.items reached.new.members.items) }
     ensures as_long { OnOk result (length reached.new.seen.items ≡ length reached.old.seen.items) }
     ensures early { (bound : ℕ) → IsEarly bound holders.now reached.old →
@@ -200,7 +203,7 @@ fn follow(
         × (end.0 < length reached.new.members.items)
         × IsFree (accepts (rows table.now)) holders.now
         (slice_index reached.new.members.items end.0) end.1)) }
-    ensures searched { IfOk result (λ o. IfNone o (IsSearched (accepts (rows table.now)) first
+    ensures searched { IfOk result (λ o. IfNone o (IsSearched (accepts (rows table.now)) stays.now
         (length reached.new.members.items) holders.now reached.new.members.items)) }
     ensures at_least { IfOk result (λ o. IsSome o → steps.old + 1 ≤ steps.new) }
     ensures onward { steps.old ≤ steps.new }
@@ -210,7 +213,7 @@ fn follow(
 {
     let mut at = start;
     'members: while at < reached.members.len() {
-        if let Some(position) = scan(table, parents, first, holders, reached, at, steps)? {
+        if let Some(position) = scan(table, parents, stays, holders, reached, at, steps)? {
             return Ok(Some((at, position)));
         }
         at += 1;
@@ -218,43 +221,65 @@ fn follow(
     Ok(None)
 }
 
+/// Gives the members that have none the layer, up to so many.
+fn fill(layers: &mut Vec<usize>, count: usize, layer: usize) -> Result<(), OutOfMemory>
+    requires fewer { length layers.old.items ≤ count }
+    ensures as_many { OnOk result (length layers.new.items ≡ count) }
+    ensures grows { OnOk result (Grows layers.old.items layers.new.items) }
+    ensures filled { OnOk result ((t : ℕ) → length layers.old.items ≤ t → t < count →
+        slice_index layers.new.items t ≡ layer) }
+{
+    'members: for _member in layers.len()..count {
+        layers.push(layer)?;
+    }
+    Ok(())
+}
+
 /// Goes through the positions for the member that was reached first. Each is left only when all
-/// members that can be reached by way of it were gone through. Ends at a member that is accepted
-/// at a free position: its place, and the position.
+/// members that can be reached by way of it were gone through: they are a layer. Ends at a member
+/// that is accepted at a free position: its place, and the position.
 pub fn search(
     table: &[Vec<bool>],
     parents: usize,
-    first: usize,
+    stays: &[bool],
     holders: &[Option<usize>],
     reached: &mut Reached,
+    layers: &mut Vec<usize>,
     steps: &mut Steps,
 ) -> Result<Option<(usize, usize)>, OutOfMemory>
     requires width { All (λ row. vec_len row ≡ parents) table.now }
     requires as_many { length holders.now ≡ parents }
     requires rows { length reached.old.seen.items ≤ length table.now }
     requires held { AreBelow (length reached.old.seen.items) holders.now }
+    requires flags { length stays.now ≡ length reached.old.seen.items }
     requires one { length reached.old.members.items ≡ 1 }
-    requires reaches { Reaches (accepts (rows table.now)) first holders.now reached.old }
+    requires no_layer { length layers.old.items ≡ 0 }
+    requires reaches { Reaches (accepts (rows table.now)) stays.now holders.now reached.old }
     ensures reaches { OnOk result
-        (Reaches (accepts (rows table.now)) first holders.now reached.new) }
+        (Reaches (accepts (rows table.now)) stays.now holders.now reached.new) }
     ensures grows { OnOk result (Grows reached.old.members.items reached.new.members.items) }
     ensures as_long { OnOk result (length reached.new.seen.items ≡ length reached.old.seen.items) }
-    ensures found { IfOk result (λ o. IfSome o (λ end. HasFound (accepts (rows table.now)) first
-        holders.now reached.new end.0 end.1)) }
+    ensures found { IfOk result (λ o. IfSome o (λ end. HasFound (accepts (rows table.now))
+        stays.now holders.now reached.new end.0 end.1)) }
     ensures searched { IfOk result (λ o. IfNone o (IsSearchedBelow (accepts (rows table.now))
-        first parents holders.now reached.new.members.items)) }
+        stays.now parents holders.now reached.new.members.items)) }
+    ensures layered { OnOk result (AreLayers (accepts (rows table.now)) stays.now holders.now
+        reached.new.members.items layers.new.items) }
+    ensures low { OnOk result ((t : ℕ) → t < length layers.new.items →
+        slice_index layers.new.items t < parents) }
     ensures at_least { IfOk result (λ o. IsSome o → steps.old + 1 ≤ steps.new) }
     ensures onward { steps.old ≤ steps.new }
     ensures at_most { steps.new ≤ steps.old + length table.now * parents }
 {
     'positions: for position in 0..parents {
         let start = reached.members.len();
-        if try_position(table, parents, first, holders, reached, 0, position, steps)? {
+        if try_position(table, parents, stays, holders, reached, 0, position, steps)? {
             return Ok(Some((0, position)));
         }
-        if let Some(end) = follow(table, parents, first, holders, reached, start, steps)? {
+        if let Some(end) = follow(table, parents, stays, holders, reached, start, steps)? {
             return Ok(Some(end));
         }
+        fill(layers, reached.members.len(), position)?;
     }
     Ok(None)
 }

@@ -10,16 +10,16 @@ use Rattle.haya_csl.proofs.ItemLists as item_lists
 use Rattle.haya_csl.specs.declared.item_key.ItemKey.{ItemKey}
 use Rattle.haya_json.specs.Notes.{NotesView, first_note, kept_of, none_kept}
 use Rattle.haya_json.proofs.MemberLists as member_lists
-use Rattle.haya_elements.specs.Elements.{nonempty_lines}
-use Rattle.haya_list.specs.EntryLines.{IsFaultOf, LeavesReader, ReadsFirst, ReadsLines}
-use Rattle.haya_list.specs.Listed.{AnswersEnough, AnswersList, AnswersPart, entries_of, printed_of}
-use Rattle.haya_list.specs.declared.error.EntryError.{EntryError}
-use Rattle.haya_list.specs.declared.error.EntryError.TheVariants as entry_fault
-use Rattle.haya_list.specs.declared.error.ListError.{ListError}
+use Rattle.haya_json_elements.specs.Elements.{nonempty_lines}
+use Rattle.haya_entry_stream.specs.EntryLines.{IsFaultOf, LeavesReader, ReadsFirst, ReadsLines}
+use Rattle.haya_entry_stream.specs.Listed.{AnswersEnough, AnswersList, AnswersPart, entries_of, printed_of}
+use Rattle.haya_entry_stream.specs.declared.error.EntryError.{EntryError}
+use Rattle.haya_entry_stream.specs.declared.error.EntryError.TheVariants as entry_fault
+use Rattle.haya_entry_stream.specs.declared.error.ListError.{ListError}
 use Rattle.haya_json.specs.declared.error.ElementError.{ElementError}
 use Rattle.haya_json.specs.declared.error.ReadError.TheVariants.{OutOfMemory}
 use Rattle.haya_printing.specs.declared.error.LinesError.{LinesError}
-use Rattle.haya_stream.specs.declared.error.StreamError.{StreamError}
+use Rattle.haya_line_stream.specs.declared.error.StreamError.{StreamError}
 use Rattle.haya_command.specs.AskedLines.{BeginsLines, BeginsListIn, FirstElementError, IsElementError, IsElementErrorFor, IsErrorIn, IsLineIn, IsListIn, IsOutOfMemory, ReadsElement, ReadsLine, asked_lines, lines_told}
 use Rattle.haya_command.specs.Reading.{IsLoss}
 use Rattle.haya_command.specs.Streamed.{AsksFirst, AsksInput, AsksPart, IsStreamError, TellsBefore, TellsPart}

@@ -12,17 +12,17 @@ use Rattle.haya_json.specs.declared.error.ReadError.{ReadError}
 use Rattle.haya_json.specs.declared.error.ReadError.TheVariants as read_error
 use Rattle.haya_json.specs.declared.error.ReadError.TheVariants.{OutOfMemory}
 use Rattle.haya_json.proofs.NotesKept.{first_of_kept, kept_from_none, kept_together}
-use Rattle.haya_elements.specs.Elements.{nonempty_lines}
-use Rattle.haya_list.proofs.EntryLineLists.{reads_one}
-use Rattle.haya_list.specs.EntryLines.{AtNext, IsFaultOf, LeavesReader, ReadsFirst, ReadsLines}
-use Rattle.haya_list.specs.declared.error.EntryError.{EntryError}
-use Rattle.haya_list.specs.declared.error.EntryError.TheVariants as entry_fault
-use Rattle.haya_list.specs.declared.error.ListError.{ListError}
-use Rattle.haya_list.specs.declared.error.ListError.TheVariants.{Entry, Line}
+use Rattle.haya_json_elements.specs.Elements.{nonempty_lines}
+use Rattle.haya_entry_stream.proofs.EntryLineLists.{reads_one}
+use Rattle.haya_entry_stream.specs.EntryLines.{AtNext, IsFaultOf, LeavesReader, ReadsFirst, ReadsLines}
+use Rattle.haya_entry_stream.specs.declared.error.EntryError.{EntryError}
+use Rattle.haya_entry_stream.specs.declared.error.EntryError.TheVariants as entry_fault
+use Rattle.haya_entry_stream.specs.declared.error.ListError.{ListError}
+use Rattle.haya_entry_stream.specs.declared.error.ListError.TheVariants.{Entry, Line}
 use Rattle.haya_printing.specs.declared.error.LinesError.{LinesError}
-use Rattle.haya_stream.specs.declared.error.StreamError.{StreamError}
-use Rattle.haya_stream.specs.declared.error.StreamError.TheVariants as stream
-use Rattle.haya_stream.specs.declared.error.WriteError.TheVariants as write
+use Rattle.haya_line_stream.specs.declared.error.StreamError.{StreamError}
+use Rattle.haya_line_stream.specs.declared.error.StreamError.TheVariants as stream
+use Rattle.haya_line_stream.specs.declared.error.WriteError.TheVariants as write
 use Rattle.haya_command.specs.AskedLines.{BeginsLines, FirstElementError, IsElementError, IsElementErrorFor, IsJsonLineErrorFor, IsLineIn, IsOutOfMemory, ReadsElement, ReadsLine, TellsLines, line_told, lines_told}
 use Rattle.haya_command.specs.Reading.{IsErrorOf, IsLoss}
 use Rattle.haya_command.specs.Streamed.{IsStreamError, TellsBefore, Why}

@@ -7,8 +7,8 @@ use Rattle.std.proofs.lemmas.List.Elements.{All-head, All-tail}
 use Rattle.hayagriva.specs.Parts.{AreApart}
 use Rattle.hayagriva.specs.Tree.{Tree}
 use Rattle.hayagriva.proofs.Parts.{AreApart-all, AreApart-entries, from_entries-parts}
-use Rattle.haya_input.specs.Parts.{AreWholeLines}
-use Rattle.haya_input.proofs.Parts.{lines-append}
+use Rattle.haya_line_library.specs.Parts.{AreWholeLines}
+use Rattle.haya_line_library.proofs.Parts.{lines-append}
 use Rattle.haya_json.specs.JsonLines.{AreEntriesOf, Describes, IsListOf}
 use Rattle.haya_json.proofs.LinesTaken.{AreEntriesOf-append}
 

@@ -7,7 +7,9 @@ mod JsonParts
 mod Lines
 mod LinesFault
 mod PrintedLines
+mod PrintedParts
 mod SaidWhole
+mod SameKinds
 mod Streams
 mod CollectedTexts
 mod Written

@@ -30,7 +30,7 @@ use Rattle.hayagriva.specs.Syntax.{Syntax}
 use Rattle.hayagriva.specs.Tree.{Tree, node}
 use Rattle.hayagriva.specs.declared.query.Hit.{Hit}
 use Rattle.haya_hits.specs.Line.{AreLines}
-use Rattle.haya_input.specs.Parts.{AreWholeLines}
+use Rattle.haya_line_library.specs.Parts.{AreWholeLines}
 use Rattle.haya_json.specs.Entries.{entry_of}
 use Rattle.haya_json.specs.JsonLines.{AreEntriesOf, IsListOf, entry_in}
 use Rattle.haya_json.specs.JsonLines as json_lines

@@ -5,7 +5,7 @@ use Rattle.std.specs.declared.alloc.Global.{Global}
 use Rattle.hayagriva.specs.Query.{hit_entry}
 use Rattle.hayagriva.specs.Tree.{Tree, Trees, node, no_trees, one_more}
 use Rattle.hayagriva.specs.declared.query.Hit.{Hit}
-use Rattle.haya_input.specs.Input.{Describes}
+use Rattle.haya_line_library.specs.Input.{Describes}
 use Rattle.haya_printing.specs.LeftOut.{AreSaidOf, But, IsSaidOf, NoMore, Said}
 use Rattle.haya_printing.specs.Printed.{entry_text}
 use Rattle.haya_command.specs.Printed.{IsPrintedOf}

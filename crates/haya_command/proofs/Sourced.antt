@@ -63,7 +63,7 @@ described form.Source format kind text library is h = of_kind format is h
     of_kind Hayagriva is h = let same = same-kind is in rw (← same) h
     of_kind (CslJson key) is h = let same = same-kind is in rw (← same) h
     of_kind JsonLines is h = let same = same-kind is in rw (← same) h
-    of_kind Yaml is h = let no : ⊥ = cc (is) in absurd no
+    of_kind Yaml is h = let same = same-kind is in rw (← same) h
     of_kind Lines is h = let same = same-kind is in rw (← same) h
     of_kind Bibtex is h = let no : ⊥ = cc (is) in absurd no
 described form.CslJson (CslJson key) kind text library is h = let same = same-kind is in rw (← same) h

@@ -31,10 +31,10 @@ use Rattle.haya_json.proofs.NotesKept.{none_of_first}
 use Rattle.haya_json.specs.Notes.{NotesView, first_note, kept_of}
 use Rattle.haya_hits.specs.Line.{AreLines, IsEscapedLineOf}
 use Rattle.haya_lines.specs.Signs.{line_feed}
-use Rattle.haya_list.specs.Listed as list
-use Rattle.haya_list.specs.Listed.{Replies, Run, entries_of, printed_of}
-use Rattle.haya_list.specs.declared.error.ListError.{ListError}
-use Rattle.haya_list.specs.declared.error.ListError.TheVariants.{Entry, Line}
+use Rattle.haya_entry_stream.specs.Listed as list
+use Rattle.haya_entry_stream.specs.Listed.{Replies, Run, entries_of, printed_of}
+use Rattle.haya_entry_stream.specs.declared.error.ListError.{ListError}
+use Rattle.haya_entry_stream.specs.declared.error.ListError.TheVariants.{Entry, Line}
 use Rattle.haya_printing.specs.declared.error.LinesError.{LinesError}
 use Rattle.haya_questions.specs.Columns.{hit_row}
 use Rattle.haya_questions.specs.Order.{hit_order}
@@ -42,11 +42,11 @@ use Rattle.haya_questions.specs.Place.{place_view}
 use Rattle.haya_questions.specs.Ranked.{IsSortOf}
 use Rattle.haya_questions.specs.SortText.{sort_key_view}
 use Rattle.haya_questions.specs.Test.{test_view}
-use Rattle.haya_stream.proofs.Taken.{flat_map-append}
-use Rattle.haya_stream.specs.Streamed.{IsEndedPart}
-use Rattle.haya_stream.specs.declared.error.StreamError.{StreamError}
-use Rattle.haya_stream.specs.declared.error.StreamError.TheVariants as stream
-use Rattle.haya_stream.specs.declared.error.WriteError.TheVariants as write
+use Rattle.haya_line_stream.proofs.Taken.{flat_map-append}
+use Rattle.haya_line_stream.specs.Streamed.{IsEndedPart}
+use Rattle.haya_line_stream.specs.declared.error.StreamError.{StreamError}
+use Rattle.haya_line_stream.specs.declared.error.StreamError.TheVariants as stream
+use Rattle.haya_line_stream.specs.declared.error.WriteError.TheVariants as write
 use Rattle.haya_command.specs.Printed.{IsJsonLineOf, IsPrintedOf, IsTextOf}
 use Rattle.haya_command.specs.AskedLines.{BeginsListIn, IsErrorIn, IsListIn, asked_lines, lines_told}
 use Rattle.haya_command.specs.Reading.{Describes, IsReadAs, IsWhole, format_in}

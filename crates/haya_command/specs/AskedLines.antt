@@ -4,17 +4,17 @@ use Rattle.std.specs.List.{AllZip}
 use Rattle.std.specs.Str.Lines.{lines}
 use Rattle.hayagriva.specs.Tree.{Tree}
 use Rattle.haya_csl.specs.ItemLines as item_lines
-use Rattle.haya_elements.specs.Elements.{element_lines, nonempty_lines}
-use Rattle.haya_elements.specs.declared.place.Brackets.TheVariants.{Curly, Square}
+use Rattle.haya_json_elements.specs.Elements.{element_lines, nonempty_lines}
+use Rattle.haya_json_elements.specs.declared.place.Brackets.TheVariants.{Curly, Square}
 use Rattle.haya_json.specs.JsonLines as json_lines
 use Rattle.haya_json.specs.MemberLines as member_lines
 use Rattle.haya_json.specs.Notes.{NoteView, NotesView, all_kept, kept_of}
 use Rattle.haya_json.specs.declared.error.ElementError.{ElementError}
 use Rattle.haya_json.specs.declared.error.ReadError.{ReadError}
 use Rattle.haya_json.specs.declared.error.ReadError.TheVariants as read_error
-use Rattle.haya_list.specs.Lines as lines_list
-use Rattle.haya_list.specs.declared.error.EntryError.{EntryError}
-use Rattle.haya_list.specs.declared.error.EntryError.TheVariants as entry_fault
+use Rattle.haya_entry_stream.specs.Lines as lines_list
+use Rattle.haya_entry_stream.specs.declared.error.EntryError.{EntryError}
+use Rattle.haya_entry_stream.specs.declared.error.EntryError.TheVariants as entry_fault
 use Rattle.haya_command.specs.Reading.{IsErrorOf}
 use Rattle.haya_command.specs.declared.error.LibraryError.{LibraryError}
 use Rattle.haya_command.specs.declared.error.LibraryError.TheVariants as input_error

@@ -9,6 +9,7 @@ pub mod Run
 pub mod SelectorText
 pub mod Source
 pub mod SourceForm
+pub mod SourceKinds
 pub mod Streamable
 pub mod Streamed
 pub mod Told

@@ -13,9 +13,9 @@ use Rattle.hayagriva.specs.Tree.{Tree}
 use Rattle.haya_bibtex.specs.Libraries.{DescribesAsBibtex, IsBibtexErrorOf, TellsAsBibtex}
 use Rattle.haya_csl.specs.Libraries.{DescribesAsCsl, IsCslErrorOf}
 use Rattle.haya_csl.specs.Told.{TellsAsCsl}
-use Rattle.haya_input.specs.Input as input
-use Rattle.haya_input.specs.Repeats.{DescribesAgain}
-use Rattle.haya_input.specs.TextReading.{FaultInText}
+use Rattle.haya_line_library.specs.Input as input
+use Rattle.haya_line_library.specs.Repeats.{DescribesAgain}
+use Rattle.haya_line_library.specs.TextReading.{FaultInText}
 use Rattle.haya_json.specs.JsonLines as json_lines
 use Rattle.haya_json.specs.Libraries as json
 use Rattle.haya_json.specs.Notes.{NoteView, NotesView, again, first_note, kept_of, lost_here, none_kept, note_of, note_view}

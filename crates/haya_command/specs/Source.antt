@@ -1,7 +1,7 @@
 -- The elements of inputs, printed as they are in them.
 use Rattle.std.specs.Prelude.{◌≡◌, ◌≢◌, ◌⊎◌, ◌<◌, ◌↔◌, ℕ, Bool, IsTrue, MatchBool, List, [], ◌∷◌, ◌++◌, Option, None, Some, String, decimal, flat_map, length, string_bytes}
 use Rattle.std.specs.Io.KnownBytes.{Appends, Keeps}
-use Rattle.std.specs.List.{AllByRecursion, AllZip}
+use Rattle.std.specs.List.{AllByRecursion, AllZip, Contains}
 use Rattle.std.specs.Str.{chars}
 use Rattle.std.specs.declared.alloc.Global.{Global}
 use Rattle.hayagriva.specs.Library.{key_of}
@@ -12,9 +12,10 @@ use Rattle.hayagriva.specs.Tree.{Tree}
 use Rattle.hayagriva.specs.declared.query.Hit.{Hit}
 use Rattle.haya_asked.specs.Asked.{AreAsked}
 use Rattle.haya_lines.specs.Signs.{line_feed}
-use Rattle.haya_source.specs.Elements.{AreElementsOf, Element}
+use Rattle.haya_slices.specs.Layout.{IsPartOf}
+use Rattle.haya_source.specs.Elements.{AreElementsOf, Element, Says}
 use Rattle.haya_source.specs.Places.{part_for}
-use Rattle.haya_source.specs.Printed.{printed_text}
+use Rattle.haya_source.specs.Printed.{IsTextOf}
 use Rattle.haya_source.specs.declared.kind.ElementKind.{ElementKind}
 use Rattle.haya_command.specs.Picks.{wanted}
 use Rattle.haya_command.specs.Reading.{AreReadAs, format_in}
@@ -47,12 +48,12 @@ pub record AreElementsIn (kind : ElementKind) (texts : List (List ℕ)) (es : Li
 -- ---- what is printed
 
 -- Of each hit the element that it was read from, the last that has its key, as it is in its text:
--- all of them as one text of their kind.
+-- all of them as one text of their kind, which says what they say.
 pub record IsSourceOf (kind : ElementKind) (es : List Element) (hits : List Hit) (text : List ℕ)
     : Type 0 where
   pub parts : List (List ℕ)
   pub each : AllZip (λ hit part. part_for (key_of (hit_entry hit)) es ≡ Some part) hits parts
-  pub is : text ≡ printed_text kind parts
+  pub is : IsTextOf kind parts text
 
 -- the same where it is asked for: nothing where the run is quiet, their number where it counts them
 abbrev pub IsSourceShown : Options → ElementKind → List Element → List Hit → List ℕ → Type 0
@@ -73,6 +74,16 @@ pub record IsSourceAnswer (options : Options) (kind : ElementKind) (es : List El
   pub asks : AreAsked options.questions hits asked
   pub shows : IsSourceShown options kind es asked text
   pub found_one : IsTrue found ↔ (0 < length asked)
+
+-- the bytes are a part of one of the texts, and say an entry that has this key
+pub record IsElementFor (kind : ElementKind) (texts : List (List ℕ)) (key part : List ℕ)
+    : Type 0 where
+  pub text : List ℕ
+  pub entry : Tree
+  pub among : Contains texts text
+  pub is_part : IsPartOf part text
+  pub says : Says kind part entry
+  pub named : key_of entry ≡ key
 
 -- ---- a run
 

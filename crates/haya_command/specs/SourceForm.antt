@@ -27,7 +27,7 @@ kind_of (CslJson key) = Some (kind.Items key)
 kind_of Hayagriva = Some kind.Members
 kind_of JsonLines = Some kind.JsonLines
 kind_of Lines = Some kind.Lines
-kind_of Yaml = None
+kind_of Yaml = Some kind.Yaml
 kind_of Bibtex = None
 
 -- those of them that a form prints: any, or items of CSL-JSON alone

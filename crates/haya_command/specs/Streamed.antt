@@ -16,16 +16,16 @@ use Rattle.haya_asked.specs.Asked.{passes}
 use Rattle.haya_asked.specs.declared.columns.Columns.{Columns}
 use Rattle.haya_json.specs.Notes.{NotesView, kept_of, none_kept, note_view}
 use Rattle.haya_lines.specs.Signs.{line_feed}
-use Rattle.haya_list.specs.declared.error.ListError.{ListError}
-use Rattle.haya_list.specs.declared.error.ListError.TheVariants.{Entry, Line}
+use Rattle.haya_entry_stream.specs.declared.error.ListError.{ListError}
+use Rattle.haya_entry_stream.specs.declared.error.ListError.TheVariants.{Entry, Line}
 use Rattle.haya_printing.specs.declared.error.LinesError.{LinesError}
 use Rattle.haya_questions.specs.Columns.{header, rows}
 use Rattle.haya_questions.specs.Place.{place_view}
 use Rattle.haya_questions.specs.Test.{test_view}
-use Rattle.haya_stream.specs.Streamed.{IsEndedPart}
-use Rattle.haya_stream.specs.declared.error.StreamError.{StreamError}
-use Rattle.haya_stream.specs.declared.error.StreamError.TheVariants as stream
-use Rattle.haya_stream.specs.declared.error.WriteError.TheVariants as write
+use Rattle.haya_line_stream.specs.Streamed.{IsEndedPart}
+use Rattle.haya_line_stream.specs.declared.error.StreamError.{StreamError}
+use Rattle.haya_line_stream.specs.declared.error.StreamError.TheVariants as stream
+use Rattle.haya_line_stream.specs.declared.error.WriteError.TheVariants as write
 use Rattle.haya_command.specs.Form.{is_library}
 use Rattle.haya_command.specs.AskedLines.{BeginsListIn, IsAccepted, IsErrorIn, IsListIn, IsOutOfMemory, TellsFirst, TellsLines, asked_lines, lines_told}
 use Rattle.haya_command.specs.Streamable.{is_streamable}
@@ -34,7 +34,7 @@ use Rattle.haya_command.specs.declared.error.CommandError.{CommandError}
 use Rattle.haya_command.specs.declared.error.CommandError.TheVariants as fault
 use Rattle.haya_command.specs.declared.error.LibraryError.{LibraryError}
 use Rattle.haya_formats.specs.declared.format.Format.{Format}
-use Rattle.haya_formats.specs.declared.format.Format.TheVariants.{CslJson, Hayagriva, JsonLines, Lines, Yaml}
+use Rattle.haya_formats.specs.declared.format.Format.TheVariants.{Lines}
 use Rattle.haya_command.specs.declared.options.Options.{Options}
 
 -- ---- what is asked

@@ -2,8 +2,8 @@
 ghost use Rattle.std.specs.Prelude.{◌≡◌, ◌+◌, IfErr, IfOk, OnOk};
 
 use haya_csl::{ItemKey, read_item_line};
+use haya_entry_stream::EntryReader;
 use haya_json::{ElementError, Notes, ReadError, read_member_line};
-use haya_list::EntryReader;
 use hayagriva::{Entry, HashKeys};
 use json::Scratch;
 use std::alloc::Global;

@@ -5,13 +5,13 @@ ghost use Rattle.std.specs.declared.io.ErrorKind.TheVariants as kind;
 
 use crate::source_error::SourceError;
 use haya_bibtex::BibtexReadError;
+use haya_entry_stream::EntryError;
 use haya_formats::ForeignInput;
-use haya_input::InputError;
 use haya_json::{ElementError, JsonLineError, Note, ReadError};
-use haya_list::EntryError;
+use haya_line_library::InputError;
+use haya_line_stream::WriteError;
 use haya_printing::LinesError;
 use haya_questions::{PlaceError, TestError};
-use haya_stream::WriteError;
 use haya_text::OutOfMemory;
 use haya_yaml_library::YamlReadError;
 use hayagriva::SelectorError;
@@ -126,6 +126,9 @@ pub enum CommandError {
     /// There is no element for an entry: no input is refused so.
     #[error("an entry has no element")]
     NoPart,
+    /// The elements of the hits, one behind the other, say something else than each alone.
+    #[error("these entries aren't indented alike: --to keys, lines, hayagriva, yaml or json-lines")]
+    NotTogether,
     /// Hits are to be sorted, or told from others that share their values, which can't be said of one
     /// before the last is there.
     #[error("--stream takes no --sort, --unique or --duplicates, which wait for the last entry")]
@@ -181,7 +184,7 @@ impl CommandError {
 }
 
 impl From<WriteError> for CommandError {
-    ghost use Rattle.haya_stream.specs.declared.error.WriteError.TheVariants as write;
+    ghost use Rattle.haya_line_stream.specs.declared.error.WriteError.TheVariants as write;
     ghost use Rattle.haya_command.specs.declared.error.CommandError.TheVariants.{CannotWrite, Closed};
 
     ghost from_gives = { λ s e. (s ≡ write.Closed → e ≡ Closed)

@@ -7,7 +7,7 @@ ghost use Rattle.haya_command.specs.Form.{form_name, form_named, is_form_named, 
 pub enum Form {
     /// A line a hit: its key, and `name=key` for each name that is bound.
     Keys,
-    /// The entries in lines, with their ancestors, as `haya_input` reads them.
+    /// The entries in lines, with their ancestors, as `haya_line_library` reads them.
     Lines,
     /// A library of the entries in hayagriva's file format, laid out for people.
     Hayagriva,

@@ -11,7 +11,7 @@ use crate::options::Input;
 use haya_formats::{
     ForeignInput, Format, foreign_for, foreign_of, format_for, likeness_for, without_mark,
 };
-use haya_stream::{ByteCounter, read_all};
+use haya_line_stream::{ByteCounter, read_all};
 use std::alloc::Global;
 use std::io::Read;
 

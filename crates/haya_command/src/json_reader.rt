@@ -1,6 +1,6 @@
 //! An entry from each line of JSON.
+use haya_entry_stream::EntryReader;
 use haya_json::{Notes, ReadError, read_entry_line};
-use haya_list::EntryReader;
 use hayagriva::{Entry, HashKeys};
 use json::Scratch;
 use std::alloc::Global;

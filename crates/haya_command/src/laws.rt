@@ -7,7 +7,7 @@ ghost use Rattle.std.specs.List.{AllPairs, AllZip, concat, flat_map};
 ghost use Rattle.std.specs.Str.{IsUtf8, chars};
 ghost use Rattle.std.specs.Io.KnownBytes.{Appends};
 ghost use Rattle.hayagriva.specs.Holds.{holds};
-ghost use Rattle.hayagriva.specs.Library.{AreDistinct, from_entries, push};
+ghost use Rattle.hayagriva.specs.Library.{AreDistinct, from_entries, key_of, push};
 ghost use Rattle.hayagriva.specs.Parts.{AreApart};
 ghost use Rattle.hayagriva.specs.Query.{AreHits, IsHit, hit_bound, hit_entry};
 ghost use Rattle.hayagriva.specs.Reading.{TextReads};
@@ -15,11 +15,13 @@ ghost use Rattle.hayagriva.specs.Syntax.{Syntax};
 ghost use Rattle.hayagriva.specs.Tree.{Tree};
 ghost use Rattle.hayagriva.specs.declared.query.Hit.{Hit as HitData};
 ghost use Rattle.haya_hits.specs.Line.{AreLines};
-ghost use Rattle.haya_input.specs.Parts.{AreWholeLines};
+ghost use Rattle.haya_line_library.specs.Parts.{AreWholeLines};
 ghost use Rattle.haya_json.specs.JsonLines as json_lines;
 ghost use Rattle.haya_json.specs.JsonLines.{IsListOf};
 ghost use Rattle.haya_json.specs.Libraries as json;
 ghost use Rattle.haya_json.specs.Readable.{EntriesAreReadable};
+ghost use Rattle.haya_source.specs.Elements.{Element};
+ghost use Rattle.haya_source.specs.declared.kind.ElementKind.{ElementKind as KindData};
 ghost use Rattle.haya_command.specs.Answer.{IsAnswer};
 ghost use Rattle.haya_command.specs.Bound.{can_bind};
 ghost use Rattle.haya_command.specs.Picks.{wanted};
@@ -27,11 +29,14 @@ ghost use Rattle.haya_command.specs.Printed.{FitsLine, IsJsonLineOf};
 ghost use Rattle.haya_command.specs.Reading.{IsWhole, format_in};
 ghost use Rattle.haya_command.specs.Run.{Prints};
 ghost use Rattle.haya_command.specs.AskedLines.{IsListIn};
+ghost use Rattle.haya_command.specs.Source.{AreElementsIn, IsElementFor, IsSourceOf};
 ghost use Rattle.haya_command.specs.Streamable.{is_streamable};
 ghost use Rattle.haya_command.specs.Streamed.{IsTold, IsWithin, end_text, has_enough, passing};
 ghost use Rattle.haya_command.specs.Streamed.{start_text};
 ghost use Rattle.haya_formats.specs.declared.format.Format.{Format as FormatData};
 ghost use Rattle.haya_command.specs.declared.options.Options.{Options as OptionsData};
+
+use haya_source::laws::elements_are_parts;
 
 /// What is printed of the hits of a list as they come, between the row of names in front of them and
 /// their number at the end, is the answer of the list, where they are neither sorted nor told from
@@ -57,6 +62,17 @@ pub fn told_hits_answer()
         IsAnswer options entries
         (start_text options ++ printed ++ end_text options (length (passing options hits))) found }
 {}
+
+/// Each element that is printed of hits is a part of one of the texts, byte for byte, and says an
+/// entry that has the hit's key.
+pub fn printed_elements_are_parts()
+    ensures { (kind : KindData) (texts : List (List ℕ)) (es : List Element) (hits : List HitData)
+        (text : List ℕ) (given : IsSourceOf kind es hits text) → AreElementsIn kind texts es →
+        AllZip (λ hit part. IsElementFor kind texts (key_of (hit_entry hit)) part)
+        hits given.parts }
+{
+    elements_are_parts();
+}
 
 /// Where the keys of a list are distinct, its answer is what the command prints that reads a
 /// library first. In a strict run nothing may be passed over of the text.

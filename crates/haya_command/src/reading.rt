@@ -1,7 +1,7 @@
 //! The library of texts in any of the formats.
 ghost use Rattle.std.specs.Prelude.{◌≡◌, ◌⊎◌, ◌++◌, ◌∷◌, [], Contains, IfErr, IfOk, IsTrue, List};
 ghost use Rattle.std.specs.Prelude.{None, OnOk, Some, map, string_bytes};
-ghost use Rattle.haya_input.specs.Repeats.{repeats_view};
+ghost use Rattle.haya_line_library.specs.Repeats.{repeats_view};
 ghost use Rattle.haya_json.specs.Notes.{NotesView, all_kept, first_note, kept_of, note_view};
 ghost use Rattle.haya_json.specs.Notes.{notes_view};
 ghost use Rattle.haya_json.specs.Told.{told_again};
@@ -24,8 +24,8 @@ use crate::told::InputNotes;
 use haya_bibtex::read_bibtex_with_hash_keys;
 use haya_csl::read_csl_json_with_hash_keys;
 use haya_formats::{Format, format_for};
-use haya_input::{InputError, Repeat, read_library_with_repeats};
 use haya_json::{Lost, Note, Notes, read_json_lines, read_library_with_hash_keys};
+use haya_line_library::{InputError, Repeat, read_library_with_repeats};
 use haya_text::OutOfMemory;
 use haya_yaml_library::read_yaml_with_hash_keys;
 use hayagriva::laws::distinct_entries_stand;
@@ -219,7 +219,7 @@ pub(crate) fn read_input(
 }
 
 /// What is told of the input that is called so; in a strict run the first of this is a fault.
-pub(crate) fn check_notes(
+pub fn check_notes(
     alloc: Global,
     options: &Options,
     name: &str,

@@ -18,7 +18,7 @@ use crate::source_answering::ask_source;
 use crate::source_form::SourceForm;
 use crate::sources::{Sources, kind_of_inputs, read_sources};
 use crate::told::told_text;
-use haya_stream::write_text;
+use haya_line_stream::write_text;
 use hayagriva::{HashKeys, Library};
 use std::alloc::Global;
 use std::io::Write;

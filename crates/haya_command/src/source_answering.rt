@@ -17,7 +17,7 @@ use std::alloc::Global;
 
 /// The answer of a library to what is asked, by the elements that it was read from, of this kind. A
 /// map of values hashes with the keys. `Selector`: the selector's text is none. `NoPart`: a hit's
-/// element isn't there.
+/// element isn't there. `NotTogether`: the hits' elements, one behind the other, say something else.
 pub(crate) fn ask_source(
     alloc: Global,
     keys: HashKeys,
@@ -74,7 +74,10 @@ fn source_text(
         IsSourceOf kind es hits.now (string_bytes text)) }
 {
     let parts = parts_of(alloc, hits, places)?;
-    Ok(printed_text(alloc, kind, parts.as_slice())?)
+    match printed_text(alloc, kind, parts.as_slice())? {
+        Some(text) => Ok(text),
+        None => Err(CommandError::NotTogether),
+    }
 }
 
 // The element of each hit.

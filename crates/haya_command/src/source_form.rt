@@ -66,6 +66,7 @@ fn kind_of(format: Format) -> Option<ElementKind>
         Format::Hayagriva => Some(ElementKind::Members),
         Format::JsonLines => Some(ElementKind::JsonLines),
         Format::Lines => Some(ElementKind::Lines),
-        Format::Yaml | Format::Bibtex => None,
+        Format::Yaml => Some(ElementKind::Yaml),
+        Format::Bibtex => None,
     }
 }

@@ -79,8 +79,8 @@ fn check_kind(
     Err(source_fault(alloc, input, other_kind(form, first, format)))
 }
 
-// What is wrong with a format whose elements aren't of the kind of the first input's.
-fn other_kind(form: SourceForm, first: Format, format: Format) -> SourceError
+/// What is wrong with a format whose elements aren't of the kind of the first input's.
+pub(crate) fn other_kind(form: SourceForm, first: Format, format: Format) -> SourceError
     ensures { kind_in form format ≢ kind_in form first → IsKindError form first format result }
 {
     match form.kind_in(format) {
@@ -89,8 +89,8 @@ fn other_kind(form: SourceForm, first: Format, format: Format) -> SourceError
     }
 }
 
-// What is wrong with a format of which the form prints no elements.
-fn no_kind(form: SourceForm, format: Format) -> SourceError
+/// What is wrong with a format of which the form prints no elements.
+pub(crate) fn no_kind(form: SourceForm, format: Format) -> SourceError
     ensures { (first : FormatData) → kind_in form format ≡ None →
         IsKindError form first format result }
 {

@@ -13,11 +13,11 @@ use crate::error::{CommandError, LibraryError};
 use crate::json_reader::JsonReader;
 use crate::reading::check_notes;
 use haya_csl::ItemKey;
-use haya_elements::Brackets;
+use haya_entry_stream::{ListError, Stopped, answer_elements, answer_entry_lines, answer_lines};
 use haya_json::Notes;
-use haya_list::{ListError, Stopped, answer_elements, answer_entry_lines, answer_lines};
+use haya_json_elements::Brackets;
+use haya_line_stream::StreamError;
 use haya_printing::LinesError;
-use haya_stream::StreamError;
 use std::alloc::Global;
 use std::io::{Read, Write};
 

@@ -7,10 +7,10 @@ use Rattle.std.proofs.lemmas.Slice.Eq.{bytes_eq-Decides}
 use Rattle.json.specs.Json as json
 use Rattle.json.specs.Json.{Json, Items, array, document}
 use Rattle.json.specs.Strict.{HasUniqueKeys, ItemsHaveUniqueKeys}
-use Rattle.haya_elements.specs.Elements.{AreItems, elements}
-use Rattle.haya_elements.specs.declared.place.Brackets.TheVariants.{Square}
-use Rattle.haya_elements.proofs.Complete.{items-of-array}
-use Rattle.haya_elements.proofs.Documents.{document_of_items}
+use Rattle.haya_json_elements.specs.Elements.{AreItems, elements}
+use Rattle.haya_json_elements.specs.declared.place.Brackets.TheVariants.{Square}
+use Rattle.haya_json_elements.proofs.Complete.{items-of-array}
+use Rattle.haya_json_elements.proofs.Documents.{document_of_items}
 use Rattle.haya_entry.specs.Tree.{Tree}
 use Rattle.hayagriva.specs.Library.{AreDistinct, from_entries, get, has_key, key_of, push}
 use Rattle.hayagriva.proofs.Parts.{AreApart-distinct, from_entries-distinct}

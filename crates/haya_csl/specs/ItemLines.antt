@@ -6,8 +6,8 @@ use Rattle.std.specs.Str.Lines.{lines}
 use Rattle.json.specs.Json.{Items, Json, array, document, item, no_items}
 use Rattle.json.specs.Lex.{tokens}
 use Rattle.json.specs.Strict.{HasUniqueKeys, ItemsHaveUniqueKeys}
-use Rattle.haya_elements.specs.Elements.{IsItem, element_lines, elements, nonempty_lines}
-use Rattle.haya_elements.specs.declared.place.Brackets.TheVariants.{Square}
+use Rattle.haya_json_elements.specs.Elements.{IsItem, element_lines, elements, nonempty_lines}
+use Rattle.haya_json_elements.specs.declared.place.Brackets.TheVariants.{Square}
 use Rattle.haya_entry.specs.Tree.{Tree}
 use Rattle.haya_json.specs.Alone.{value_alone}
 use Rattle.haya_json.specs.Libraries.{IsErrorOfJson}

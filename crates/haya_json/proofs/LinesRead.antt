@@ -5,7 +5,7 @@ use Rattle.std.specs.List.{AllZip, list_any}
 use Rattle.std.specs.Str.Lines.{lines}
 use Rattle.std.proofs.lemmas.List.Elements.{All-filter, All-head, All-tail}
 use Rattle.json.specs.Json.{Json}
-use Rattle.haya_elements.specs.Elements.{nonempty_lines}
+use Rattle.haya_json_elements.specs.Elements.{nonempty_lines}
 use Rattle.haya_entry.specs.Tree.{Tree}
 use Rattle.hayagriva.specs.Library.{has_key, key_of, push, with_replacement}
 use Rattle.haya_json.specs.Entries.{entry_said}

@@ -4,8 +4,8 @@ use Rattle.std.specs.List.{AllZip}
 use Rattle.std.specs.Str.Lines.{lines}
 use Rattle.std.proofs.lemmas.List.{drop_more, drop_all, length-take-le, take-append-drop, take_all, take_more}
 use Rattle.std.proofs.lemmas.List.Sums.{fold-append}
-use Rattle.haya_elements.specs.Elements.{nonempty_lines}
-use Rattle.haya_elements.proofs.NonemptyLines.{nonempty_lines-append}
+use Rattle.haya_json_elements.specs.Elements.{nonempty_lines}
+use Rattle.haya_json_elements.proofs.NonemptyLines.{nonempty_lines-append}
 use Rattle.haya_entry.specs.Tree.{Tree}
 use Rattle.hayagriva.specs.Library.{from_entries, push}
 use Rattle.hayagriva.proofs.Parts.{AllZip-append}

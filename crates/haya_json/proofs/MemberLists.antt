@@ -4,10 +4,10 @@ use Rattle.std.specs.List.{AllPairs, AllZip}
 use Rattle.json.specs.Json as json
 use Rattle.json.specs.Json.{Json, Members, document, object}
 use Rattle.json.specs.Strict.{HasUniqueKeys, MembersHaveUniqueKeys}
-use Rattle.haya_elements.specs.Elements.{AreMembers, elements}
-use Rattle.haya_elements.specs.declared.place.Brackets.TheVariants.{Curly}
-use Rattle.haya_elements.proofs.Complete.{members-of-object}
-use Rattle.haya_elements.proofs.Documents.{document_of_members}
+use Rattle.haya_json_elements.specs.Elements.{AreMembers, elements}
+use Rattle.haya_json_elements.specs.declared.place.Brackets.TheVariants.{Curly}
+use Rattle.haya_json_elements.proofs.Complete.{members-of-object}
+use Rattle.haya_json_elements.proofs.Documents.{document_of_members}
 use Rattle.haya_entry.specs.Tree.{Tree}
 use Rattle.hayagriva.specs.Library.{AreDistinct}
 use Rattle.haya_json.specs.Entries.{entry_of}

@@ -3,7 +3,7 @@ use Rattle.std.proofs.Common.{◌≡◌, ℕ, List, [], ◌∷◌, Option, None,
 use Rattle.json.specs.Json.{Json, value}
 use Rattle.json.specs.Lex.{tokens}
 use Rattle.json.specs.Token.{Token}
-use Rattle.haya_elements.specs.Elements.{IsMember}
+use Rattle.haya_json_elements.specs.Elements.{IsMember}
 use Rattle.haya_json.specs.Alone.{value_alone}
 use Rattle.haya_json.specs.MemberLines.{member_in, single_object, single_object_in}
 use Rattle.haya_json.proofs.ValuesAlone.{alone, one_read}

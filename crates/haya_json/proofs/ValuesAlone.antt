@@ -2,7 +2,7 @@
 use Rattle.std.proofs.Common.{◌≡◌, ℕ, List, [], ◌∷◌, Option, None, Some, option_and_then, sym, ap, ◌∙◌}
 use Rattle.json.specs.Json.{Json, if_last}
 use Rattle.json.specs.Token.{Token}
-use Rattle.haya_elements.specs.Elements.{IsItem}
+use Rattle.haya_json_elements.specs.Elements.{IsItem}
 
 -- the value that is read, or another where none is
 first_or : Json → Option (Json × List Token) → Json

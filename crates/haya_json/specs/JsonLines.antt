@@ -5,7 +5,7 @@ use Rattle.std.specs.Option.{option_map_or}
 use Rattle.std.specs.Str.Lines.{lines}
 use Rattle.json.specs.Json.{Json, document}
 use Rattle.json.specs.Strict.{HasUniqueKeys}
-use Rattle.haya_elements.specs.Elements.{nonempty_lines}
+use Rattle.haya_json_elements.specs.Elements.{nonempty_lines}
 use Rattle.haya_entry.specs.Tree.{Tree}
 use Rattle.hayagriva.specs.Library.{from_entries, push}
 use Rattle.haya_json.specs.Entries.{entry_said}

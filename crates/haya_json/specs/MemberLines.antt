@@ -7,8 +7,8 @@ use Rattle.json.specs.Json.{Json, Members, document, member, no_members, object}
 use Rattle.json.specs.Lex.{tokens}
 use Rattle.json.specs.Strict.{HasUniqueKeys, MembersHaveUniqueKeys}
 use Rattle.json.specs.Token.{Token}
-use Rattle.haya_elements.specs.Elements.{IsMember, element_lines, elements, nonempty_lines}
-use Rattle.haya_elements.specs.declared.place.Brackets.TheVariants.{Curly}
+use Rattle.haya_json_elements.specs.Elements.{IsMember, element_lines, elements, nonempty_lines}
+use Rattle.haya_json_elements.specs.declared.place.Brackets.TheVariants.{Curly}
 use Rattle.haya_entry.specs.Tree.{Tree}
 use Rattle.haya_json.specs.Alone.{value_alone}
 use Rattle.haya_json.specs.Entries.{entry_of}

@@ -13,7 +13,7 @@ pub fn not_json(alloc: Global, text: &str) -> ReadError
     not_so(alloc, text, Nesting::of_text(alloc))
 }
 
-/// The error of a line of `haya_elements::ElementLines` that is no item of an array. The position is
+/// The error of a line of `haya_json_elements::ElementLines` that is no item of an array. The position is
 /// one in the element as it was in its text.
 pub fn no_item(alloc: Global, line: &str) -> ReadError
     ensures { IsNotJson result }

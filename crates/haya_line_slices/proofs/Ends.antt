@@ -4,8 +4,8 @@ use Rattle.std.specs.Prelude.{IsTrue, flat_map, slice_index}
 use Rattle.std.specs.List.{AllByRecursion, concat, last_or}
 use Rattle.std.specs.Str.Lines.{lines}
 use Rattle.std.proofs.lemmas.List.{drop-drop, drop-take, get_or-take, take-append-drop, take_all, take_more}
-use Rattle.haya_input.specs.Parts.{AreWholeLines}
-use Rattle.haya_input.proofs.Parts.{lines-append}
+use Rattle.haya_line_library.specs.Parts.{AreWholeLines}
+use Rattle.haya_line_library.proofs.Parts.{lines-append}
 use Rattle.haya_line_slices.specs.EntryLines.{AreEntryParts, BeginNone, IsEntryPart, begins_entry}
 use Rattle.haya_line_slices.specs.Scan.{EndsAt, IsEnd, IsPartedTo, behind_first}
 use Rattle.haya_line_slices.proofs.FirstLines.{IsSome, NoneWithin, all-lines, lines-some, none-later}

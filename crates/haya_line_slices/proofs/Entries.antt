@@ -8,7 +8,7 @@ use Rattle.haya_lines.specs.FieldTable.{and_then}
 use Rattle.haya_lines.specs.Items.{items}
 use Rattle.haya_lines.specs.Line.{Row, row_read}
 use Rattle.haya_lines.specs.declared.error.LineError.{LineError}
-use Rattle.haya_input.specs.Input.{in_line, rows_of, rows_of_all, rows_read}
+use Rattle.haya_line_library.specs.Input.{in_line, rows_of, rows_of_all, rows_read}
 use Rattle.haya_line_slices.specs.EntryLines.{AreEntryParts, BeginNone, IsEntryOf, IsEntryPart, begins_entry}
 use Rattle.haya_line_slices.proofs.Rows.{and_then-Ok, row-begins, row-depth}
 use Rattle.haya_line_slices.proofs.Starts.{not-zero}

@@ -3,7 +3,7 @@ use Rattle.std.specs.Prelude.{◌≡◌, ◌||◌, ℕ, Bool, IsFalse, IsTrue, L
 use Rattle.std.specs.List.{AllByRecursion, concat, flat_map, starts_with}
 use Rattle.std.specs.Str.Lines.{lines}
 use Rattle.haya_entry.specs.Tree.{Tree, trees}
-use Rattle.haya_input.specs.Input.{rows_of_all, rows_read}
+use Rattle.haya_line_library.specs.Input.{rows_of_all, rows_read}
 
 -- a line begins with a depth of zero: it is an entry of the library, and no parent
 abbrev pub begins_entry : List ℕ → Bool

@@ -4,7 +4,7 @@ ghost use Rattle.std.specs.Prelude.{◌≡◌, ℕ, List, Ok};
 ghost use Rattle.std.specs.List.{AllZip};
 ghost use Rattle.std.specs.Str.Lines.{lines};
 ghost use Rattle.haya_entry.specs.Tree.{Tree, trees};
-ghost use Rattle.haya_input.specs.Input.{rows_of_all, rows_read};
+ghost use Rattle.haya_line_library.specs.Input.{rows_of_all, rows_read};
 ghost use Rattle.haya_line_slices.specs.EntryLines.{AreEntryParts, IsEntryOf};
 
 /// The parts of a text that lists entries are these entries, one after the other.

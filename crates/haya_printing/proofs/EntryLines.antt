@@ -3,7 +3,7 @@ use Rattle.std.proofs.Common.{◌≡◌, ℕ, ◌+◌, List, [], ◌∷◌, ◌+
 use Rattle.std.specs.List.{last_or}
 use Rattle.haya_entry.specs.Tree.{Tree, Trees, node, no_trees, one_more, trees, tree_list, fields, parents}
 use Rattle.haya_lines.specs.Signs.{line_feed}
-use Rattle.haya_input.specs.Parts.{AreWholeLines}
+use Rattle.haya_line_library.specs.Parts.{AreWholeLines}
 use Rattle.haya_printing.specs.Printed.{all_lines_text, head_text, field_items, line_text, lines_text, entry_text}
 
 trees-tree_list : (ts : Trees) → trees (tree_list ts) ≡ ts

@@ -6,8 +6,8 @@ use Rattle.std.proofs.lemmas.List.Elements.{All-head, All-tail}
 use Rattle.haya_entry.specs.Tree.{Tree}
 use Rattle.hayagriva.specs.Library.{AreDistinct}
 use Rattle.hayagriva.proofs.Parts.{AreApart-distinct}
-use Rattle.haya_input.specs.Input.{Describes}
-use Rattle.haya_input.proofs.Parts.{Describes-append}
+use Rattle.haya_line_library.specs.Input.{Describes}
+use Rattle.haya_line_library.proofs.Parts.{Describes-append}
 use Rattle.haya_printing.specs.Printed.{entry_text}
 use Rattle.haya_printing.proofs.EntryLines.{entry_text-whole}
 

@@ -7,7 +7,7 @@ use Rattle.haya_printing.specs.declared.left_out.LeftOut.{LeftOut}
 use Rattle.haya_printing.specs.declared.left_out.Part.{Part}
 use Rattle.haya_printing.specs.declared.left_out.Part.TheVariants.{Key, Parents}
 use Rattle.haya_printing.specs.LeftOut.{Alone, AreAllPrintable, AreLinesOf, AreSaidOf, But, IsPrintable, IsSaidOf, Named, Names, NoLine, NoMore, NoParents, Over, Said, SaysFields, SaysPart, SaysParts, SetsOver, Unsaid, named, named_part, parts_of}
-use Rattle.haya_input.specs.Input.{Describes}
+use Rattle.haya_line_library.specs.Input.{Describes}
 use Rattle.haya_printing.specs.Printed.{entry_text}
 
 -- ---- all is said

@@ -3,7 +3,7 @@ use Rattle.std.specs.Prelude.{◌≡◌, ℕ, List, [], ◌∷◌, ◌++◌, Opt
 use Rattle.std.specs.declared.alloc.Global.{Global}
 use Rattle.haya_entry.specs.declared.field_name.FieldName.{FieldName}
 use Rattle.haya_entry.specs.Tree.{Fields, Tree, Trees, node, no_trees, one_more, new_entry, fields}
-use Rattle.haya_input.specs.Input.{Describes}
+use Rattle.haya_line_library.specs.Input.{Describes}
 use Rattle.haya_lines.specs.Line.{leaf}
 use Rattle.haya_printing.specs.declared.left_out.Part.{Part}
 use Rattle.haya_printing.specs.declared.left_out.Part.TheVariants.{Field, Key, Parents}

@@ -3,8 +3,8 @@ ghost use Rattle.std.specs.Prelude.{All, List, [], ◌∷◌};
 ghost use Rattle.std.specs.List.{flat_map};
 ghost use Rattle.haya_entry.specs.Tree.{Tree};
 ghost use Rattle.hayagriva.specs.Library.{AreDistinct};
-ghost use Rattle.haya_input.specs.Input.{Describes};
-ghost use Rattle.haya_input.specs.Parts.{AreWholeLines};
+ghost use Rattle.haya_line_library.specs.Input.{Describes};
+ghost use Rattle.haya_line_library.specs.Parts.{AreWholeLines};
 ghost use Rattle.haya_printing.specs.Printed.{entry_text};
 
 /// The lines of an entry are whole; and those of several entries, no two of which have the same

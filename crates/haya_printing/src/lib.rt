@@ -1,4 +1,4 @@
-//! Entries printed as lines of text, as `haya_input` reads them.
+//! Entries printed as lines of text, as `haya_line_library` reads them.
 //!
 //! ```
 //! let lines = entry_lines(alloc, entry)?;   // or which value lines can't say

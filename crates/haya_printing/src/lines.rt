@@ -2,7 +2,7 @@
 ghost use Rattle.std.specs.Prelude.{◌≡◌, ◌⊎◌, [], ◌∷◌, true, false, map, string_bytes};
 ghost use Rattle.std.specs.Prelude.{IfOk, IfErr, OnOk};
 ghost use Rattle.haya_entry.specs.Tree.{fields, trees, view};
-ghost use Rattle.haya_input.specs.Input.{Describes};
+ghost use Rattle.haya_line_library.specs.Input.{Describes};
 ghost use Rattle.haya_printing.specs.declared.error.LinesError.TheVariants.{OutOfMemory as memory};
 ghost use Rattle.haya_printing.specs.Printed.{all_lines_text, entry_text, field_items};
 ghost use Rattle.haya_printing.specs.Printed.{head_text, line_text, lines_text};
@@ -12,12 +12,12 @@ use crate::error::LinesError;
 use crate::fields::{push_last, push_numbers, push_people, push_texts};
 use crate::unsaid::unsaid;
 use haya_entry::Entry;
-use haya_input::{InputError, read_library};
+use haya_line_library::{InputError, read_library};
 use haya_text::OutOfMemory;
 use hayagriva::{HashKeys, Library};
 use std::alloc::Global;
 
-/// The lines of an entry and of its ancestors, as `haya_input::read_library` reads them: a line
+/// The lines of an entry and of its ancestors, as `haya_line_library::read_library` reads them: a line
 /// feed ends each. Fails with `NotPrintable` where no library of this one entry is read from them.
 pub fn entry_lines(alloc: Global, entry: &Entry) -> Result<String, LinesError>
     ensures text { IfOk result (λ text. string_bytes text ≡ entry_text (view entry.now)) }
@@ -39,7 +39,7 @@ pub(crate) fn is_said(alloc: Global, text: &str, entry: &Entry) -> Result<bool, 
     ensures yes { IfOk result (λ b. b ≡ true → Describes text.now (view entry.now ∷ [])) }
     ensures no { IfOk result (λ b. b ≡ false → ¬ Describes text.now (view entry.now ∷ [])) }
 {
-    haya_input::laws::one_library();
+    haya_line_library::laws::one_library();
     match read_library(alloc, HashKeys::new(0, 0), text) {
         Ok(read) => Ok(is_alone(&read, entry)),
         Err(InputError::OutOfMemory) => Err(OutOfMemory),

@@ -9,7 +9,7 @@ use Rattle.hayagriva.specs.Reading.{TextReads, TextFails}
 use Rattle.hayagriva.specs.Syntax.{Syntax}
 use Rattle.hayagriva.proofs.OneOutcome.{one_reading}
 use Rattle.haya_lines.specs.Line.{Row}
-use Rattle.haya_input.specs.Input.{rows_read}
+use Rattle.haya_line_library.specs.Input.{rows_read}
 use Rattle.haya_run.specs.Output.{KeepsAtFault}
 
 -- where what is on the output stays as it is

@@ -22,10 +22,10 @@ use Rattle.hayagriva.specs.Syntax.{Syntax}
 use Rattle.hayagriva.specs.Tree.{Tree}
 use Rattle.hayagriva.proofs.OneOutcome.{one_reading}
 use Rattle.haya_lines.specs.Signs.{line_feed}
-use Rattle.haya_input.specs.Input.{Describes}
-use Rattle.haya_input.specs.Parts.{AreWholeLines, DescribeApart}
-use Rattle.haya_input.proofs.OneLibrary.{Describes-same}
-use Rattle.haya_input.proofs.Parts.{Describes-append, Describes-many}
+use Rattle.haya_line_library.specs.Input.{Describes}
+use Rattle.haya_line_library.specs.Parts.{AreWholeLines, DescribeApart}
+use Rattle.haya_line_library.proofs.OneLibrary.{Describes-same}
+use Rattle.haya_line_library.proofs.Parts.{Describes-append, Describes-many}
 use Rattle.haya_hits.specs.Line.{AreLinesAt, IsLineAt, binding_text}
 use Rattle.haya_run.specs.Parts.{Shows}
 use Rattle.haya_run.proofs.Parts.{AreLinesAt-append, AreLinesAt-many}

@@ -9,7 +9,7 @@ use Rattle.hayagriva.specs.Reading.{TextReads, TextFails}
 use Rattle.hayagriva.specs.Syntax.{Syntax}
 use Rattle.hayagriva.specs.Tree.{Tree}
 use Rattle.haya_hits.specs.Line.{AreLines, AreLinesAt, IsLineAt}
-use Rattle.haya_input.specs.Input.{Describes, rows_read}
+use Rattle.haya_line_library.specs.Input.{Describes, rows_read}
 use Rattle.haya_run.specs.declared.error.RunError.{RunError}
 use Rattle.haya_run.specs.declared.error.RunError.TheVariants.{CannotWrite}
 use Rattle.haya_lines.specs.declared.error.LineError.{LineError}

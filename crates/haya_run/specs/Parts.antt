@@ -4,7 +4,7 @@ use Rattle.std.specs.Str.{chars}
 use Rattle.hayagriva.specs.Reading.{TextReads}
 use Rattle.hayagriva.specs.Syntax.{Syntax}
 use Rattle.hayagriva.specs.Tree.{Tree}
-use Rattle.haya_input.specs.Input.{Describes}
+use Rattle.haya_line_library.specs.Input.{Describes}
 use Rattle.haya_hits.specs.Line.{AreLinesAt}
 
 -- what a run prints whose word reads as a selector and whose input is this text: the lines of the

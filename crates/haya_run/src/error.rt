@@ -2,8 +2,8 @@
 ghost use Rattle.std.specs.Prelude.{◌≡◌, ◌≢◌};
 ghost use Rattle.haya_run.specs.declared.error.RunError.TheVariants.{Usage};
 
-use haya_input::InputError;
-use haya_stream::WriteError;
+use haya_line_library::InputError;
+use haya_line_stream::WriteError;
 use hayagriva::{OutOfMemory, SelectorError};
 use std::alloc::{AllocError, AllocFailed};
 use std::io;
@@ -49,7 +49,7 @@ impl RunError {
 }
 
 impl From<InputError> for RunError {
-    ghost use Rattle.haya_input.specs.declared.error.InputError.TheVariants as error;
+    ghost use Rattle.haya_line_library.specs.declared.error.InputError.TheVariants as error;
     ghost use Rattle.haya_run.specs.declared.error.RunError.TheVariants.{Input, OutOfMemory};
 
     ghost from_gives = { λ s e. (s ≡ error.OutOfMemory → e ≡ OutOfMemory)

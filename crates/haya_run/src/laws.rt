@@ -6,7 +6,7 @@ ghost use Rattle.std.specs.Str.{chars};
 ghost use Rattle.hayagriva.specs.Reading.{TextReads};
 ghost use Rattle.hayagriva.specs.Syntax.{Syntax};
 ghost use Rattle.hayagriva.specs.Tree.{Tree};
-ghost use Rattle.haya_input.specs.Parts.{AreWholeLines, DescribeApart};
+ghost use Rattle.haya_line_library.specs.Parts.{AreWholeLines, DescribeApart};
 ghost use Rattle.haya_hits.specs.Line.{AreLinesAt};
 ghost use Rattle.haya_run.specs.Output.{Answers};
 ghost use Rattle.haya_run.specs.Parts.{Shows};

@@ -7,7 +7,7 @@ ghost use Rattle.haya_run.specs.Output.{PrintsPart};
 
 use crate::error::RunError;
 use haya_hits::push_line;
-use haya_stream::write_all;
+use haya_line_stream::write_all;
 use hayagriva::Query;
 use std::alloc::Global;
 use std::io::Write;

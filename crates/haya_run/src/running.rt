@@ -10,8 +10,8 @@ ghost use Rattle.haya_run.specs.Words.{IsStatus, words_of};
 
 use crate::error::RunError;
 use crate::printing::print_hits;
-use haya_input::read_library;
-use haya_stream::read_all;
+use haya_line_library::read_library;
+use haya_line_stream::read_all;
 use hayagriva::HashKeys;
 use std::alloc::Global;
 use std::io::{Read, Write};

@@ -3,8 +3,8 @@ use Rattle.std.proofs.Common.{◌≡◌, ℕ, List, [], ◌∷◌, ◌++◌, len
 use Rattle.json.specs.Token.{Token}
 use Rattle.json.specs.Json.{Json, Items, Members, array, object, document, if_last, items, members, parse_map, value}
 use Rattle.json.specs.Lex.{between, fresh, lex, punctuate, space, tokens}
-use Rattle.haya_elements.specs.Steps.{closing_bracket}
-use Rattle.haya_elements.specs.declared.place.Brackets.TheVariants.{Square, Curly}
+use Rattle.haya_json_elements.specs.Steps.{closing_bracket}
+use Rattle.haya_json_elements.specs.declared.place.Brackets.TheVariants.{Square, Curly}
 use Rattle.haya_slices.specs.Layout.{IsLaidOut, IsWhite}
 use Rattle.haya_slices.proofs.Classes.{lex_class}
 use Rattle.haya_slices.proofs.Lines.{space_class}

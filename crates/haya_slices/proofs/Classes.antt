@@ -4,13 +4,13 @@ use Rattle.std.proofs.lemmas.Bool.{true≢false, eqb-true, ne_eqb, or_cases, or_
 use Rattle.json.specs.Align.{is_blank}
 use Rattle.json.specs.Word.{is_operator, is_space}
 use Rattle.json.specs.Lex.{Class, class, quote, backslash, operator, space, other, Mode as LexMode, lex_byte, lex}
-use Rattle.haya_elements.specs.Steps.{Step, operator_step, start_step, comma_step, blank_byte, closing_bracket, closing_step, element_step, text_byte, lost_step, space_step, opening_bracket, opening_step, step}
-use Rattle.haya_elements.specs.Elements.{elements, end_of, lines_from}
-use Rattle.haya_elements.specs.declared.place.Brackets.{Brackets}
-use Rattle.haya_elements.specs.declared.place.Mode.{Mode}
-use Rattle.haya_elements.specs.declared.place.Mode.TheVariants.{Between, Word, Text, Escape}
-use Rattle.haya_elements.specs.declared.place.Place.{Place}
-use Rattle.haya_elements.specs.declared.place.Place.TheVariants.{Front, Opened, Next, Element, Closed, Lost}
+use Rattle.haya_json_elements.specs.Steps.{Step, operator_step, start_step, comma_step, blank_byte, closing_bracket, closing_step, element_step, text_byte, lost_step, space_step, opening_bracket, opening_step, step}
+use Rattle.haya_json_elements.specs.Elements.{elements, end_of, lines_from}
+use Rattle.haya_json_elements.specs.declared.place.Brackets.{Brackets}
+use Rattle.haya_json_elements.specs.declared.place.Mode.{Mode}
+use Rattle.haya_json_elements.specs.declared.place.Mode.TheVariants.{Between, Word, Text, Escape}
+use Rattle.haya_json_elements.specs.declared.place.Place.{Place}
+use Rattle.haya_json_elements.specs.declared.place.Place.TheVariants.{Front, Opened, Next, Element, Closed, Lost}
 use Rattle.haya_slices.proofs.Pieces.{HasNo, nonempty_lines-pieces, pieces}
 use Rattle.haya_slices.proofs.Words.{is_word_end}
 

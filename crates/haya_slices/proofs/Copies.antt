@@ -7,9 +7,9 @@ use Rattle.json.specs.Text.{code_unit, short_escape, is_high_surrogate, is_low_s
 use Rattle.json.specs.Word.{ends_word, word}
 use Rattle.json.specs.Lex.{token, Class, class, quote, backslash, operator, space, other, Mode as LexMode, between, in_word, in_string, in_escape, operator_lexeme, string_token, lex_byte, lex, punctuate, fresh, tokens}
 use Rattle.json.specs.Token.{Token}
-use Rattle.haya_elements.specs.Steps.{blank_byte, text_byte}
-use Rattle.haya_elements.specs.declared.place.Mode.{Mode}
-use Rattle.haya_elements.specs.declared.place.Mode.TheVariants.{Between, Word, Text, Escape}
+use Rattle.haya_json_elements.specs.Steps.{blank_byte, text_byte}
+use Rattle.haya_json_elements.specs.declared.place.Mode.{Mode}
+use Rattle.haya_json_elements.specs.declared.place.Mode.TheVariants.{Between, Word, Text, Escape}
 use Rattle.haya_slices.specs.Layout.{is_outside_string}
 use Rattle.haya_slices.proofs.Classes.{blank_class, class_tells, lex_class, operator_ends, space_ends, text_class}
 use Rattle.haya_slices.proofs.Words.{same_word}

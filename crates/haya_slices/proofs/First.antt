@@ -6,12 +6,12 @@ use Rattle.std.proofs.lemmas.List.{drop_more, length-take-le, take-append-drop, 
 use Rattle.std.proofs.lemmas.Str.{IsCharBoundary-after_ascii, IsCharBoundary-start}
 use Rattle.json.specs.Word.{is_space}
 use Rattle.json.specs.Lex.{class, space}
-use Rattle.haya_elements.specs.Steps.{closing_bracket, element_step, start_step, step}
-use Rattle.haya_elements.specs.declared.place.Brackets.{Brackets}
-use Rattle.haya_elements.specs.declared.place.Brackets.TheVariants.{Square, Curly}
-use Rattle.haya_elements.specs.declared.place.Mode.{Mode}
-use Rattle.haya_elements.specs.declared.place.Mode.TheVariants.{Between, Word, Text, Escape}
-use Rattle.haya_elements.specs.declared.place.Place.TheVariants.{Element, Next}
+use Rattle.haya_json_elements.specs.Steps.{closing_bracket, element_step, start_step, step}
+use Rattle.haya_json_elements.specs.declared.place.Brackets.{Brackets}
+use Rattle.haya_json_elements.specs.declared.place.Brackets.TheVariants.{Square, Curly}
+use Rattle.haya_json_elements.specs.declared.place.Mode.{Mode}
+use Rattle.haya_json_elements.specs.declared.place.Mode.TheVariants.{Between, Word, Text, Escape}
+use Rattle.haya_json_elements.specs.declared.place.Place.TheVariants.{Element, Next}
 use Rattle.haya_slices.specs.Layout.{IsElement, IsWhite, inside, inside_element, is_outside_string, within}
 use Rattle.haya_slices.specs.Scan.{BeginsWith, EndsAt, end_byte}
 use Rattle.haya_slices.proofs.Lines.{space_class}

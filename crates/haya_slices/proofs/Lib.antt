@@ -1,12 +1,13 @@
 mod Arrays
 mod Classes
 mod Copies
+mod Ending
 mod First
 mod Lines
-mod Listed
-mod PartsOf
+pub mod Listed
+pub mod PartsOf
 mod Pieces
 mod Same
-mod Scanned
+pub mod Scanned
 mod Strings
 mod Words

@@ -5,14 +5,14 @@ use Rattle.std.specs.List.{AllByRecursion}
 use Rattle.std.proofs.lemmas.Bool.{false≢true, eqb-true, ne_eqb, or_cases, cond_both}
 use Rattle.json.specs.Word.{is_space}
 use Rattle.json.specs.Lex.{Class, class, quote, backslash, operator, space, other, tokens}
-use Rattle.haya_elements.specs.Elements.{elements, lines_from, nonempty_lines}
-use Rattle.haya_elements.specs.Steps.{Step, blank_byte, closing_bracket, element_step, lost_step, opening_bracket, opening_step, operator_step, space_step, start_step, step}
-use Rattle.haya_elements.specs.declared.place.Brackets.{Brackets}
-use Rattle.haya_elements.specs.declared.place.Brackets.TheVariants.{Square, Curly}
-use Rattle.haya_elements.specs.declared.place.Mode.{Mode}
-use Rattle.haya_elements.specs.declared.place.Mode.TheVariants.{Between, Word, Text, Escape}
-use Rattle.haya_elements.specs.declared.place.Place.{Place}
-use Rattle.haya_elements.specs.declared.place.Place.TheVariants.{Front, Opened, Next, Element, Closed, Lost}
+use Rattle.haya_json_elements.specs.Elements.{elements, lines_from, nonempty_lines}
+use Rattle.haya_json_elements.specs.Steps.{Step, blank_byte, closing_bracket, element_step, lost_step, opening_bracket, opening_step, operator_step, space_step, start_step, step}
+use Rattle.haya_json_elements.specs.declared.place.Brackets.{Brackets}
+use Rattle.haya_json_elements.specs.declared.place.Brackets.TheVariants.{Square, Curly}
+use Rattle.haya_json_elements.specs.declared.place.Mode.{Mode}
+use Rattle.haya_json_elements.specs.declared.place.Mode.TheVariants.{Between, Word, Text, Escape}
+use Rattle.haya_json_elements.specs.declared.place.Place.{Place}
+use Rattle.haya_json_elements.specs.declared.place.Place.TheVariants.{Front, Opened, Next, Element, Closed, Lost}
 use Rattle.haya_slices.specs.Layout.{AreSeparated, IsElement, IsLaidOut, IsPadded, IsWhite, inside, is_outside_string, within}
 use Rattle.haya_slices.proofs.Classes.{apart, blank_class, blank_feed, elements-pieces, opening_step-each, operator_step-each, text_feed}
 use Rattle.haya_slices.proofs.Copies.{AreBlank, IsCopy, next_mode, put_byte, tokens-copy}

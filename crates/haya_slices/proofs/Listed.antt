@@ -3,8 +3,8 @@ use Rattle.std.proofs.Common.{◌≡◌, ℕ, true, false, Bor, List, [], ◌∷
 use Rattle.std.specs.Prelude.{IfSome, Vec, map}
 use Rattle.std.specs.declared.alloc.Global.{Global}
 use Rattle.std.specs.List.{AllByRecursion}
-use Rattle.haya_elements.specs.Steps.{closing_bracket, opening_bracket}
-use Rattle.haya_elements.specs.declared.place.Brackets.{Brackets}
+use Rattle.haya_json_elements.specs.Steps.{closing_bracket, opening_bracket}
+use Rattle.haya_json_elements.specs.declared.place.Brackets.{Brackets}
 use Rattle.haya_slices.specs.Layout.{AreSeparated, IsElement, IsLaidOut, IsWhite}
 use Rattle.haya_slices.specs.Scan.{BeginsByte, BeginsWith}
 

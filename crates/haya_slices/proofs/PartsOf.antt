@@ -1,12 +1,12 @@
 -- The elements of a text are parts of it.
 use Rattle.std.proofs.Common.{◌≡◌, ℕ, List, [], ◌∷◌, ◌++◌, refl, sym, ap, ◌∙◌, append_assoc}
 use Rattle.std.specs.List.{AllByRecursion}
-use Rattle.haya_elements.specs.Steps.{closing_bracket, opening_bracket}
-use Rattle.haya_elements.specs.declared.place.Brackets.{Brackets}
+use Rattle.haya_json_elements.specs.Steps.{closing_bracket, opening_bracket}
+use Rattle.haya_json_elements.specs.declared.place.Brackets.{Brackets}
 use Rattle.haya_slices.specs.Layout.{AreSeparated, IsLaidOut, IsPartOf}
 
 -- bytes in front of a text
-behind : (part more text front : List ℕ) → text ≡ front ++ more → IsPartOf part more
+pub behind : (part more text front : List ℕ) → text ≡ front ++ more → IsPartOf part more
     → IsPartOf part text
 behind part more text front is p = record {
   front = front ++ p.front;
@@ -15,7 +15,7 @@ behind part more text front is p = record {
 }
 
 -- bytes behind it
-before : (part first text back : List ℕ) → text ≡ first ++ back → IsPartOf part first
+pub before : (part first text back : List ℕ) → text ≡ first ++ back → IsPartOf part first
     → IsPartOf part text
 before part first text back is p = record {
   front = p.front;
@@ -24,14 +24,14 @@ before part first text back is p = record {
       ∙ ap (λ l. p.front ++ l) (append_assoc part p.back back);
 }
 
-all_behind : (parts : List (List ℕ)) (more text front : List ℕ) → text ≡ front ++ more
+pub all_behind : (parts : List (List ℕ)) (more text front : List ℕ) → text ≡ front ++ more
     → AllByRecursion (λ part. IsPartOf part more) parts
     → AllByRecursion (λ part. IsPartOf part text) parts
 all_behind [] more text front is h = tt
 all_behind (p ∷ ps) more text front is h =
     (behind p more text front is h.0, all_behind ps more text front is h.1)
 
-all_before : (parts : List (List ℕ)) (first text back : List ℕ) → text ≡ first ++ back
+pub all_before : (parts : List (List ℕ)) (first text back : List ℕ) → text ≡ first ++ back
     → AllByRecursion (λ part. IsPartOf part first) parts
     → AllByRecursion (λ part. IsPartOf part text) parts
 all_before [] first text back is h = tt

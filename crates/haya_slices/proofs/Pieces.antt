@@ -1,7 +1,7 @@
 -- The lines of a text with no carriage return, by recursion over its bytes.
 use Rattle.std.proofs.Common.{◌≡◌, ℕ, zero, suc, ◌-◌, Bool, true, false, not, ◌==◌, cond, List, [], ◌∷◌, ◌++◌, length, take, slice_index, refl, sym, ap, ◌∙◌, arith}
 use Rattle.std.specs.List.{AllByRecursion, onto_first, slice_split}
-use Rattle.haya_elements.specs.Elements.{nonempty_lines}
+use Rattle.haya_json_elements.specs.Elements.{nonempty_lines}
 use Rattle.std.specs.Str.Lines.{lines, lines_of_parts, strip_carriage_return}
 use Rattle.std.proofs.lemmas.Bool.{cond_both, ne_eqb}
 

@@ -3,9 +3,9 @@ use Rattle.std.proofs.Common.{◌≡◌, ℕ, false, List, [], ◌∷◌, ◌++�
 use Rattle.std.specs.List.{AllByRecursion}
 use Rattle.json.specs.Json.{Items, no_items, item, Members, no_members, member, value}
 use Rattle.json.specs.Lex.{tokens}
-use Rattle.haya_elements.specs.Elements.{AreItems, AreMembers}
-use Rattle.haya_elements.specs.Steps.{closing_bracket, opening_bracket}
-use Rattle.haya_elements.specs.declared.place.Brackets.{Brackets}
+use Rattle.haya_json_elements.specs.Elements.{AreItems, AreMembers}
+use Rattle.haya_json_elements.specs.Steps.{closing_bracket, opening_bracket}
+use Rattle.haya_json_elements.specs.declared.place.Brackets.{Brackets}
 use Rattle.haya_slices.specs.Layout.{AreSeparated, IsElement, IsLaidOut, list_text, text_from}
 
 pub same_items : (ls ps : List (List ℕ)) (js : Items) → map tokens ls ≡ map tokens ps

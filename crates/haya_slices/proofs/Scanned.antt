@@ -5,11 +5,11 @@ use Rattle.std.proofs.lemmas.Bool.{true≢false}
 use Rattle.std.proofs.lemmas.List.{take_more, drop_more}
 use Rattle.json.specs.Word.{is_space}
 use Rattle.json.specs.Lex.{Class, class, quote, backslash, operator, space, other}
-use Rattle.haya_elements.specs.Steps.{closing_bracket, element_step, step}
-use Rattle.haya_elements.specs.declared.place.Brackets.{Brackets}
-use Rattle.haya_elements.specs.declared.place.Mode.{Mode}
-use Rattle.haya_elements.specs.declared.place.Mode.TheVariants.{Between, Word}
-use Rattle.haya_elements.specs.declared.place.Place.TheVariants.{Element, Next}
+use Rattle.haya_json_elements.specs.Steps.{closing_bracket, element_step, step}
+use Rattle.haya_json_elements.specs.declared.place.Brackets.{Brackets}
+use Rattle.haya_json_elements.specs.declared.place.Mode.{Mode}
+use Rattle.haya_json_elements.specs.declared.place.Mode.TheVariants.{Between, Word}
+use Rattle.haya_json_elements.specs.declared.place.Place.TheVariants.{Element, Next}
 use Rattle.haya_slices.specs.Scan.{EndsAt}
 use Rattle.haya_slices.proofs.Classes.{class_tells}
 use Rattle.haya_slices.specs.Layout.{IsWhite, inside, inside_element, is_outside_string, within}

@@ -2,10 +2,10 @@
 use Rattle.std.proofs.Common.{◌≡◌, ℕ, zero, suc, ◌+◌, ◌<◌, ◌≤◌, ◌==◌, ◌||◌, Bool, true, false, List, [], ◌∷◌, ◌++◌, length, take, get_or, Some, option_and_then, inl, inr, ◌⊎◌, refl, sym, ap, ◌∙◌, arith}
 use Rattle.std.proofs.lemmas.Bool.{true≢false, eqb-true, or_cases}
 use Rattle.json.specs.Lex.{Class, class, quote, backslash, operator, space, other}
-use Rattle.haya_elements.specs.Steps.{element_step, step}
-use Rattle.haya_elements.specs.declared.place.Brackets.{Brackets}
-use Rattle.haya_elements.specs.declared.place.Mode.TheVariants.{Between, Text, Escape}
-use Rattle.haya_elements.specs.declared.place.Place.TheVariants.{Element}
+use Rattle.haya_json_elements.specs.Steps.{element_step, step}
+use Rattle.haya_json_elements.specs.declared.place.Brackets.{Brackets}
+use Rattle.haya_json_elements.specs.declared.place.Mode.TheVariants.{Between, Text, Escape}
+use Rattle.haya_json_elements.specs.declared.place.Place.TheVariants.{Element}
 use Rattle.haya_slices.specs.Layout.{IsWhite, inside, within}
 use Rattle.haya_slices.proofs.Classes.{class_tells}
 use Rattle.haya_slices.proofs.Lines.{space_class}

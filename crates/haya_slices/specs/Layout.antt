@@ -3,12 +3,12 @@ use Rattle.std.specs.Prelude.{◌≡◌, ℕ, ◌-◌, Bool, true, false, IsFals
 use Rattle.std.specs.List.{AllByRecursion}
 use Rattle.json.specs.Ascii as ascii
 use Rattle.json.specs.Word.{is_space}
-use Rattle.haya_elements.specs.Steps.{closing_bracket, opening_bracket, step}
-use Rattle.haya_elements.specs.declared.place.Brackets.{Brackets}
-use Rattle.haya_elements.specs.declared.place.Mode.{Mode}
-use Rattle.haya_elements.specs.declared.place.Mode.TheVariants.{Between, Word, Text, Escape}
-use Rattle.haya_elements.specs.declared.place.Place.{Place}
-use Rattle.haya_elements.specs.declared.place.Place.TheVariants.{Next, Element}
+use Rattle.haya_json_elements.specs.Steps.{closing_bracket, opening_bracket, step}
+use Rattle.haya_json_elements.specs.declared.place.Brackets.{Brackets}
+use Rattle.haya_json_elements.specs.declared.place.Mode.{Mode}
+use Rattle.haya_json_elements.specs.declared.place.Mode.TheVariants.{Between, Word, Text, Escape}
+use Rattle.haya_json_elements.specs.declared.place.Place.{Place}
+use Rattle.haya_json_elements.specs.declared.place.Place.TheVariants.{Next, Element}
 
 -- ---- an element
 

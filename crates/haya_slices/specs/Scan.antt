@@ -1,9 +1,9 @@
 -- What a text begins with.
 use Rattle.std.specs.Prelude.{◌≡◌, ◌⊎◌, ◌<◌, ℕ, Bool, IsTrue, List, ◌∷◌, ◌++◌, Some, length, map, slice_index, take, if◌then◌else◌}
 use Rattle.json.specs.Ascii as ascii
-use Rattle.haya_elements.specs.Steps.{closing_bracket}
-use Rattle.haya_elements.specs.declared.place.Brackets.{Brackets}
-use Rattle.haya_elements.specs.declared.place.Mode.{Mode}
+use Rattle.haya_json_elements.specs.Steps.{closing_bracket}
+use Rattle.haya_json_elements.specs.declared.place.Brackets.{Brackets}
+use Rattle.haya_json_elements.specs.declared.place.Mode.{Mode}
 use Rattle.haya_slices.specs.Layout.{IsElement, IsPadded, IsWhite, inside_element, is_outside_string}
 
 -- what is behind an element: the bracket that closes, or a comma

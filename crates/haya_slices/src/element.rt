@@ -2,15 +2,15 @@
 ghost use Rattle.std.specs.Prelude.{◌≡◌, ◌⊎◌, ◌++◌, ◌<◌, ◌≤◌, ℕ, List, IfSome, IsFalse, IsTrue};
 ghost use Rattle.std.specs.Prelude.{◌+◌, Some, drop, length, slice_index, take};
 ghost use Rattle.json.specs.Ascii as ascii;
-ghost use Rattle.haya_elements.specs.Steps.{closing_bracket, closing_step, comma_step, opening_step, step};
-ghost use Rattle.haya_elements.specs.declared.place.Brackets.{Brackets as BracketsData};
-ghost use Rattle.haya_elements.specs.declared.place.Mode.TheVariants.{Between, Text, Word};
-ghost use Rattle.haya_elements.specs.declared.place.Place.TheVariants.{Element, Next};
+ghost use Rattle.haya_json_elements.specs.Steps.{closing_bracket, closing_step, comma_step, opening_step, step};
+ghost use Rattle.haya_json_elements.specs.declared.place.Brackets.{Brackets as BracketsData};
+ghost use Rattle.haya_json_elements.specs.declared.place.Mode.TheVariants.{Between, Text, Word};
+ghost use Rattle.haya_json_elements.specs.declared.place.Place.TheVariants.{Element, Next};
 ghost use Rattle.haya_slices.specs.Layout.{IsWhite, inside, is_outside_string, within};
 ghost use Rattle.haya_slices.specs.Scan.{EndsAt};
 
 use crate::white::white_len;
-use haya_elements::{Brackets, Mode};
+use haya_json_elements::{Brackets, Mode};
 use memchr::memchr2;
 
 /// How many bytes the element at the front has, with the white space behind it: a comma or the
@@ -57,7 +57,7 @@ fn white_behind(bytes: &[u8], at: usize) -> usize
 }
 
 // The place, if an element may end there at this depth.
-fn end_at(brackets: Brackets, depth: u8, bytes: &[u8], at: usize) -> Option<usize>
+pub(crate) fn end_at(brackets: Brackets, depth: u8, bytes: &[u8], at: usize) -> Option<usize>
     requires { at < length bytes.now }
     ensures { IfSome result (λ n. (n ≡ at) × (0 < at) × (depth ≡ 0)
         × ((slice_index bytes.now at ≡ ascii.comma)
@@ -71,7 +71,7 @@ fn end_at(brackets: Brackets, depth: u8, bytes: &[u8], at: usize) -> Option<usiz
 }
 
 // Whether an element may begin with the byte.
-fn may_begin(byte: u8) -> bool
+pub(crate) fn may_begin(byte: u8) -> bool
     ensures { IsTrue result → (b : BracketsData) →
         step b Next byte ≡ step b (Element Between 0) byte }
 {
@@ -92,7 +92,7 @@ fn may_end(brackets: Brackets, byte: u8) -> bool
 }
 
 // Where a byte leads from a place in an element, if not out of it.
-fn passed(mode: Mode, depth: u8, byte: u8) -> Option<(Mode, u8)>
+pub(crate) fn passed(mode: Mode, depth: u8, byte: u8) -> Option<(Mode, u8)>
     ensures { (b : BracketsData) → result ≡ within (step b (Element mode depth) byte).0 }
 {
     match mode {

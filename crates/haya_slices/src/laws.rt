@@ -3,12 +3,12 @@
 ghost use Rattle.std.specs.Prelude.{◌≡◌, ℕ, List, Some};
 ghost use Rattle.std.specs.List.{AllByRecursion};
 ghost use Rattle.json.specs.Json.{Items, Json, Members, array, document, object};
-ghost use Rattle.haya_elements.specs.Elements.{AreItems, AreMembers};
-ghost use Rattle.haya_elements.specs.declared.place.Brackets.{Brackets as BracketsData};
-ghost use Rattle.haya_elements.specs.declared.place.Brackets.TheVariants.{Curly, Square};
+ghost use Rattle.haya_json_elements.specs.Elements.{AreItems, AreMembers};
+ghost use Rattle.haya_json_elements.specs.declared.place.Brackets.{Brackets as BracketsData};
+ghost use Rattle.haya_json_elements.specs.declared.place.Brackets.TheVariants.{Curly, Square};
 ghost use Rattle.haya_slices.specs.Layout.{IsElement, IsLaidOut, IsPartOf, list_text};
 
-use haya_elements::laws::{documents, elements_of_documents};
+use haya_json_elements::laws::{documents, elements_of_documents};
 
 /// The parts of a text that is an array are its items, in order, and those of one that is an object
 /// are its members.

@@ -5,11 +5,14 @@
 //! ```
 #![tactic(auto)]
 
+mod coming;
 mod element;
 pub mod laws;
 mod printing;
 mod slices;
 mod white;
 
+pub use coming::{Coming, Complete, Search};
 pub use printing::{list_text, push_element, push_end};
 pub use slices::element_slices;
+pub use white::white_len;

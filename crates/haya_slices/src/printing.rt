@@ -2,7 +2,7 @@
 ghost use Rattle.std.specs.Prelude.{◌≡◌, ◌++◌, IfOk, OnOk, map, string_bytes};
 ghost use Rattle.haya_slices.specs.Layout.{element_text, end_text, list_text};
 
-use haya_elements::Brackets;
+use haya_json_elements::Brackets;
 use std::alloc::{AllocError, Global};
 
 /// The elements as a list in these brackets, each as it is and on a line of its own, separated by

@@ -1,12 +1,12 @@
 //! The elements of a text.
 ghost use Rattle.std.specs.Prelude.{◌≡◌, ◌<◌, ◌∷◌, ◌++◌, [], IfOk, IfSome, IsTrue, OnOk, map};
-ghost use Rattle.haya_elements.specs.Steps.{closing_bracket, opening_bracket};
+ghost use Rattle.haya_json_elements.specs.Steps.{closing_bracket, opening_bracket};
 ghost use Rattle.haya_slices.specs.Layout.{IsLaidOut, IsWhite};
 ghost use Rattle.haya_slices.specs.Scan.{BeginsByte, BeginsWith};
 
 use crate::element::element_len;
 use crate::white::{trimmed_len, white_len};
-use haya_elements::Brackets;
+use haya_json_elements::Brackets;
 use std::alloc::{AllocError, Global};
 
 /// The elements of a text that is a list in JSON in these brackets: of an array its items, and of

@@ -12,7 +12,7 @@ fn is_space(byte: u8) -> bool
 }
 
 /// How many bytes of white space are in front.
-pub(crate) fn white_len(bytes: &[u8]) -> usize
+pub fn white_len(bytes: &[u8]) -> usize
     ensures within { result ≤ length bytes.now }
     ensures white { IsWhite (take result bytes.now) }
 {

@@ -7,12 +7,12 @@ use Rattle.json.specs.Json.{Items, Json, Members, array, document, object}
 use Rattle.haya_csl.specs.ItemLines.{IsItemLineOf, Lists as ListsItems}
 use Rattle.haya_csl.specs.Libraries.{DescribesAsCsl}
 use Rattle.haya_csl.specs.declared.item_key.ItemKey.{ItemKey}
-use Rattle.haya_elements.specs.Elements.{AreItems, AreMembers, nonempty_lines}
+use Rattle.haya_json_elements.specs.Elements.{AreItems, AreMembers, nonempty_lines}
 use Rattle.haya_entry.specs.Tree.{Tree, trees}
 use Rattle.hayagriva.specs.Library.{AreDistinct, from_entries}
 use Rattle.hayagriva.proofs.Parts.{from_entries-distinct}
-use Rattle.haya_input.specs.Input as input
-use Rattle.haya_input.specs.Input.{rows_of_all, rows_read}
+use Rattle.haya_line_library.specs.Input as input
+use Rattle.haya_line_library.specs.Input.{rows_of_all, rows_read}
 use Rattle.haya_json.specs.JsonLines as json_lines
 use Rattle.haya_json.specs.Libraries as json
 use Rattle.haya_json.specs.MemberLines.{IsMemberLineOf}
@@ -29,7 +29,7 @@ HaveSaid kind parts library =
     (es : List Element) × (parts_of es ≡ parts) × SayEntries kind es
     × (library ≡ from_entries (entries_of es))
 
-said : (kind : ElementKind) (parts : List (List ℕ)) (entries library : List Tree)
+pub said : (kind : ElementKind) (parts : List (List ℕ)) (entries library : List Tree)
     → Paired (Says kind) parts entries → library ≡ from_entries entries → HaveSaid kind parts library
 said kind parts entries library p e =
     (p.elements, p.parts_are, p.each, e ∙ ap from_entries (sym p.entries_are))

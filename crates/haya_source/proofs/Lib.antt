@@ -1,3 +1,5 @@
 mod Divided
 mod Found
+mod PartsOf
 mod Says
+mod Yaml

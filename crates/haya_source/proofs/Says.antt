@@ -8,7 +8,7 @@ use Rattle.json.specs.Json.{Items, Json, Members, array, document, object}
 use Rattle.json.specs.Strict.{ItemsHaveUniqueKeys, MembersHaveUniqueKeys}
 use Rattle.haya_csl.specs.ItemLines.{IsItemLineOf, ItemsSay}
 use Rattle.haya_csl.specs.declared.item_key.ItemKey.{ItemKey}
-use Rattle.haya_elements.specs.Elements.{AreItems, AreMembers}
+use Rattle.haya_json_elements.specs.Elements.{AreItems, AreMembers}
 use Rattle.haya_entry.specs.Tree.{Tree}
 use Rattle.haya_json.specs.Entries.{entry_of}
 use Rattle.haya_json.specs.Libraries.{entries_of as object_entries}

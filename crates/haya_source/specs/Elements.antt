@@ -1,20 +1,22 @@
 -- The elements of a text, as they are in it, and the entries that they say.
-use Rattle.std.specs.Prelude.{◌≡◌, ℕ, List, map}
+use Rattle.std.specs.Prelude.{◌≡◌, ℕ, List, [], ◌∷◌, map}
 use Rattle.std.specs.List.{AllByRecursion}
 use Rattle.std.specs.Str.Lines.{lines}
 use Rattle.haya_csl.specs.ItemLines.{IsItemLineOf}
 use Rattle.haya_csl.specs.Libraries.{DescribesAsCsl}
-use Rattle.haya_elements.specs.Elements.{nonempty_lines}
-use Rattle.haya_elements.specs.declared.place.Brackets.TheVariants.{Curly, Square}
+use Rattle.haya_json_elements.specs.Elements.{nonempty_lines}
+use Rattle.haya_json_elements.specs.declared.place.Brackets.TheVariants.{Curly, Square}
 use Rattle.haya_entry.specs.Tree.{Tree}
-use Rattle.haya_input.specs.Input as input
+use Rattle.haya_line_library.specs.Input as input
 use Rattle.haya_json.specs.JsonLines as json_lines
 use Rattle.haya_json.specs.Libraries as json
 use Rattle.haya_json.specs.MemberLines.{IsMemberLineOf}
 use Rattle.haya_line_slices.specs.EntryLines.{AreEntryParts, IsEntryOf}
 use Rattle.haya_slices.specs.Layout.{IsLaidOut}
 use Rattle.haya_source.specs.declared.kind.ElementKind.{ElementKind}
-use Rattle.haya_source.specs.declared.kind.ElementKind.TheVariants.{Items, JsonLines, Lines, Members}
+use Rattle.haya_source.specs.declared.kind.ElementKind.TheVariants.{Items, JsonLines, Lines, Members, Yaml}
+use Rattle.haya_yaml_library.specs.Libraries.{DescribesAsYaml}
+use Rattle.haya_yaml_slices.specs.Members.{AreMemberParts}
 
 -- an element as it is in its text, and the entry that it says
 abbrev pub Element : Type 0
@@ -29,13 +31,15 @@ abbrev pub entries_of : List Element → List Tree
 entries_of es = map (λ e. e.1) es
 
 -- The elements of a text are these parts of it, in order, byte for byte: of a list those between
--- its commas, white space aside, of lines of JSON those that aren't empty, and of lines those from
--- an entry of the library up to the next.
+-- its commas, white space aside, of lines of JSON those that aren't empty, of lines those from an
+-- entry of the library up to the next, and of a map in YAML one behind the other, of which each alone
+-- says the member at its place.
 abbrev pub IsDivided : ElementKind → List ℕ → List (List ℕ) → Type 0
 IsDivided (Items by) text parts = IsLaidOut Square text parts
 IsDivided Members text parts = IsLaidOut Curly text parts
 IsDivided JsonLines text parts = parts ≡ nonempty_lines (lines text)
 IsDivided Lines text parts = AreEntryParts text parts
+IsDivided Yaml text parts = AreMemberParts text parts
 
 -- the entry that an element of this kind says
 abbrev pub Says : ElementKind → List ℕ → Tree → Type 0
@@ -43,6 +47,7 @@ Says (Items by) part entry = IsItemLineOf by part entry
 Says Members part entry = IsMemberLineOf part entry
 Says JsonLines part entry = json_lines.IsLineOf part entry
 Says Lines part entry = IsEntryOf part entry
+Says Yaml part entry = DescribesAsYaml part (entry ∷ [])
 
 -- each element says its entry
 abbrev pub SayEntries : ElementKind → List Element → Type 0
@@ -60,3 +65,4 @@ Describes (Items by) text library = DescribesAsCsl by text library
 Describes Members text library = json.Describes text library
 Describes JsonLines text library = json_lines.Describes text library
 Describes Lines text library = input.Describes text library
+Describes Yaml text library = DescribesAsYaml text library

@@ -1,18 +1,20 @@
 //! The elements of a text.
 ghost use Rattle.std.specs.Prelude.{◌≡◌, ◌∷◌, ◌++◌, [], IfOk, IfSome, OnOk, map};
 ghost use Rattle.std.specs.Str.Lines.{lines};
-ghost use Rattle.haya_elements.specs.Elements.{nonempty_lines};
+ghost use Rattle.haya_json_elements.specs.Elements.{nonempty_lines};
 ghost use Rattle.haya_source.specs.Elements.{IsDivided};
 
 use crate::kind::ElementKind;
-use haya_elements::Brackets;
+use haya_json_elements::Brackets;
 use haya_line_slices::entry_slices;
 use haya_slices::element_slices;
 use haya_text::OutOfMemory;
+use haya_yaml_slices::member_slices;
 use std::alloc::Global;
 
 /// The elements of a text, in order, each as it is in the text, byte for byte. `None` where the
-/// text has none of this kind: it isn't a list in the brackets that it has to be.
+/// text has none of this kind: it isn't a list in the brackets that it has to be, or its members
+/// can't be told apart.
 pub fn elements<'t>(
     alloc: Global,
     kind: ElementKind,
@@ -26,6 +28,7 @@ pub fn elements<'t>(
         ElementKind::Members => Ok(element_slices(alloc, Brackets::Curly, text)?),
         ElementKind::JsonLines => Ok(Some(filled_lines(alloc, text)?)),
         ElementKind::Lines => Ok(Some(entry_slices(alloc, text)?)),
+        ElementKind::Yaml => Ok(member_slices(alloc, text)?),
     }
 }
 

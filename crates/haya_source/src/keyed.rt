@@ -1,17 +1,20 @@
 //! The key of the entry that an element says.
-ghost use Rattle.std.specs.Prelude.{◌≡◌, IfOk, string_bytes};
+ghost use Rattle.std.specs.Prelude.{◌≡◌, ◌∷◌, [], IfOk, string_bytes};
 ghost use Rattle.haya_entry.specs.Tree.{Tree, view};
 ghost use Rattle.hayagriva.specs.Library.{key_of};
 ghost use Rattle.haya_line_slices.specs.EntryLines.{IsEntryOf};
 ghost use Rattle.haya_source.specs.Elements.{Says};
+ghost use Rattle.haya_yaml_library.specs.Libraries.{DescribesAsYaml};
 
 use crate::kind::ElementKind;
 use haya_csl::read_item_line;
 use haya_entry::Entry;
-use haya_input::laws::one_library;
-use haya_input::read_library;
 use haya_json::{Notes, read_entry_line, read_member_line};
+use haya_line_library::laws::one_library;
+use haya_line_library::read_library;
 use haya_text::OutOfMemory;
+use haya_yaml::laws::texts_say;
+use haya_yaml_library::read_yaml_with_hash_keys;
 use hayagriva::HashKeys;
 use json::Scratch;
 use std::alloc::Global;
@@ -28,11 +31,14 @@ pub fn element_key(
     ensures { (entry : Tree) → Says kind part.now entry → IfOk result (λ key.
         string_bytes key ≡ key_of entry) }
 {
-    if let ElementKind::Lines = kind {
-        return lines_key(alloc, keys, part);
+    match kind {
+        ElementKind::Lines => lines_key(alloc, keys, part),
+        ElementKind::Yaml => yaml_key(alloc, keys, part),
+        _ => {
+            let entry = element_entry(alloc, keys, kind, part)?;
+            Ok(String::from_str(alloc, entry.key())?)
+        }
     }
-    let entry = element_entry(alloc, keys, kind, part)?;
-    Ok(String::from_str(alloc, entry.key())?)
 }
 
 // The key of the entry that lines list.
@@ -42,6 +48,21 @@ fn lines_key(alloc: Global, keys: HashKeys, part: &str) -> Result<String, OutOfM
 {
     one_library();
     let Ok(library) = read_library(alloc, keys, part) else {
+        return Err(OutOfMemory);
+    };
+    match library.nth(0) {
+        Some(entry) => Ok(String::from_str(alloc, entry.key())?),
+        None => Err(OutOfMemory),
+    }
+}
+
+// The key of the entry that a member in YAML says.
+fn yaml_key(alloc: Global, keys: HashKeys, part: &str) -> Result<String, OutOfMemory>
+    ensures { (entry : Tree) → DescribesAsYaml part.now (entry ∷ []) → IfOk result (λ key.
+        string_bytes key ≡ key_of entry) }
+{
+    texts_say();
+    let Ok((library, _)) = read_yaml_with_hash_keys(alloc, keys, part) else {
         return Err(OutOfMemory);
     };
     match library.nth(0) {
@@ -65,7 +86,7 @@ fn element_entry(
         ElementKind::Items(by) => read_item_line(alloc, by, 0, part, &mut scratch, &mut notes),
         ElementKind::Members => read_member_line(alloc, part, &mut scratch, &mut notes),
         ElementKind::JsonLines => read_entry_line(alloc, part, &mut scratch, &mut notes),
-        ElementKind::Lines => return Err(OutOfMemory),
+        ElementKind::Lines | ElementKind::Yaml => return Err(OutOfMemory),
     };
     match read {
         Ok(entry) => Ok(entry),

@@ -12,4 +12,6 @@ pub enum ElementKind {
     JsonLines,
     /// Entries in lines, each with those of its parents.
     Lines,
+    /// Members of a map over lines: entries of hayagriva's file format, written as YAML.
+    Yaml,
 }

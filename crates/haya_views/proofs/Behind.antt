@@ -1,6 +1,6 @@
 -- Lists that are walked item by item: what is behind a place.
 use Rattle.std.proofs.Common.{◌≡◌, ◌+◌, ◌-◌, ◌^◌, ◌<◌, ◌++◌, min, ◌∷◌, [], ℕ, zero, suc, List, Some, length, map, drop, get_or, refl, ap, ◌∙◌, arith, add-one}
-use Rattle.std.specs.Prelude.{Bool, Option, None, true, false, flat_map, is_some, option_map, slice_get}
+use Rattle.std.specs.Prelude.{Option, None, true, false, flat_map, is_some, option_map, slice_get}
 use Rattle.std.specs.List.{cons_option, filter_map}
 use Rattle.std.proofs.lemmas.List.{length-map}
 use Rattle.std.proofs.lemmas.List.Concat.{flat_map-cons}

@@ -1,5 +1,5 @@
 -- The hits of a library from a place on.
-use Rattle.std.proofs.Common.{◌≡◌, ◌+◌, ◌<◌, inl, inr, ℕ, suc, false, true, cond, List, ◌∷◌, None, Some, length, ap, subst, ◌∙◌, add-one, arith}
+use Rattle.std.proofs.Common.{◌≡◌, ◌+◌, ◌<◌, inl, inr, ℕ, suc, false, true, cond, List, ◌∷◌, Some, length, ap, subst, ◌∙◌, add-one, arith}
 use Rattle.std.specs.Prelude.{IfSome, IsSomeAnd, filter, slice_get}
 use Rattle.std.proofs.lemmas.Option.{slice_get_cases}
 use Rattle.haya_entry.proofs.LevelLemmas.{from_place}

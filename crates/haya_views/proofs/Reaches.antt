@@ -1,6 +1,6 @@
 -- What a path leads to is among an entry and its ancestors in order.
-use Rattle.std.proofs.Common.{◌≡◌, ◌+◌, ℕ, suc, List, [], ◌∷◌, None, Some, inl, inr, refl, sym, ap, subst, ◌∙◌}
-use Rattle.std.specs.Prelude.{Option, option_and_then, flat_map, slice_get}
+use Rattle.std.proofs.Common.{◌≡◌, ◌+◌, ℕ, suc, List, [], ◌∷◌, None, Some, inl, inr, sym, ap, ◌∙◌}
+use Rattle.std.specs.Prelude.{Option, option_and_then, slice_get}
 use Rattle.std.proofs.lemmas.Option.{slice_get_cases}
 use Rattle.haya_entry.specs.Tree.{Tree, at, parents}
 use Rattle.haya_selectors.specs.Binds.{binds, bound_to, last_of}

@@ -11,36 +11,43 @@ ghost use Rattle.haya_time.specs.DatePrinted.{date_text};
 ghost use Rattle.haya_time.specs.DurationPrint.{duration_text, range_text};
 ghost use Rattle.haya_values.specs.MaybeTyped.{maybe_typed_view};
 ghost use Rattle.haya_values.specs.Url.{url_view};
-ghost use Rattle.haya_views.specs.FieldTexts.{field_text, long_text, people_text};
+ghost use Rattle.haya_views.specs.FieldTexts.{field_text, form_text, people_text};
 ghost use Rattle.haya_views.specs.FieldTexts.{publisher_name, typed_text};
 
+use crate::text_form::TextForm;
 use haya_entry::Entry;
 use haya_numbers::{Numeric, PageRanges};
 use haya_people::Person;
-use haya_text::{FormatString, OutOfMemory};
+use haya_text::{FormatString, LongShortForm, OutOfMemory};
 use haya_time::{Date, Duration, DurationRange};
 use haya_values::{MaybeTyped, QualifiedUrl};
 use std::alloc::Global;
 
-/// The text of the field with this name, if the entry has one.
-pub fn field_text(alloc: Global, entry: &Entry, name: &str) -> Result<Option<String>, OutOfMemory>
+/// The text of the field with this name in a form, if the entry has one. A field that isn't a text
+/// of chunks has one text in all forms.
+pub fn field_text(
+    alloc: Global,
+    entry: &Entry,
+    name: &str,
+    form: TextForm,
+) -> Result<Option<String>, OutOfMemory>
     ensures { IfOk result (λ text.
-        option_map string_bytes text ≡ field_text (view entry.now) name.now) }
+        option_map string_bytes text ≡ field_text (view entry.now) name.now form) }
 {
     match name {
-        "title" => long(alloc, entry.title()),
-        "location" => long(alloc, entry.location()),
-        "organization" => long(alloc, entry.organization()),
-        "archive" => long(alloc, entry.archive()),
-        "archive-location" => long(alloc, entry.archive_location()),
-        "call-number" => long(alloc, entry.call_number()),
-        "note" => long(alloc, entry.note()),
-        "abstract" => long(alloc, entry.abstract_()),
-        "genre" => long(alloc, entry.genre()),
+        "title" => in_form(alloc, entry.title(), form),
+        "location" => in_form(alloc, entry.location(), form),
+        "organization" => in_form(alloc, entry.organization(), form),
+        "archive" => in_form(alloc, entry.archive(), form),
+        "archive-location" => in_form(alloc, entry.archive_location(), form),
+        "call-number" => in_form(alloc, entry.call_number(), form),
+        "note" => in_form(alloc, entry.note(), form),
+        "abstract" => in_form(alloc, entry.abstract_(), form),
+        "genre" => in_form(alloc, entry.genre(), form),
         "author" => people(alloc, entry.authors()),
         "editor" => people(alloc, entry.editors()),
         "date" => date(alloc, entry.date()),
-        "publisher" => long(alloc, publisher_name(entry)),
+        "publisher" => in_form(alloc, publisher_name(entry), form),
         "url" => url(alloc, entry.url()),
         "issue" => typed_number(alloc, entry.issue()),
         "chapter" => typed_number(alloc, entry.chapter()),
@@ -81,14 +88,28 @@ fn copied(alloc: Global, text: Option<&str>) -> Result<Option<String>, OutOfMemo
     }
 }
 
-// The long form.
-fn long(alloc: Global, text: Option<&FormatString>) -> Result<Option<String>, OutOfMemory>
+// A text in a form.
+fn in_form(
+    alloc: Global,
+    text: Option<&FormatString>,
+    form: TextForm,
+) -> Result<Option<String>, OutOfMemory>
     ensures { IfOk result (λ s. option_map string_bytes s
-        ≡ option_map long_text (option_map (λ t. text_view t.now) text.entry)) }
+        ≡ option_map (form_text form) (option_map (λ t. text_view t.now) text.entry)) }
 {
     match text {
-        Some(text) => Ok(Some(text.value.to_serialized(alloc)?)),
+        Some(text) => Ok(Some(form_text(alloc, text, form)?)),
         None => Ok(None),
+    }
+}
+
+fn form_text(alloc: Global, text: &FormatString, form: TextForm) -> Result<String, OutOfMemory>
+    ensures { IfOk result (λ s. string_bytes s ≡ form_text form (text_view text.now)) }
+{
+    match form {
+        TextForm::MarkedUp => text.value.to_serialized(alloc),
+        TextForm::Plain => Ok(format!(in alloc; "{text}")?),
+        TextForm::Short => Ok(format!(in alloc; "{}", text.select(LongShortForm::Short))?),
     }
 }
 

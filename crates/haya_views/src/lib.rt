@@ -5,7 +5,7 @@
 //! ```
 //! let hit = next_hit(alloc, &library, &selector, 0)?;         // the first entry that it picks
 //! let parent = parent_of(alloc, &library, &id, 0)?;           // the number of its first parent
-//! let text = field_text(alloc, entry, "title")?;
+//! let text = field_text(alloc, entry, "title", TextForm::Short)?;
 //! ```
 #![tactic(auto)]
 
@@ -17,6 +17,7 @@ mod hits;
 mod in_order;
 mod names;
 mod persons;
+mod text_form;
 mod type_names;
 
 pub use entries::{entry_at, entry_of_key, parent_of};
@@ -26,4 +27,5 @@ pub use field_texts::field_text;
 pub use hits::{Found, bound_id, next_hit, step_of};
 pub use names::names_of;
 pub use persons::{Credit, credit_at, credits_len};
+pub use text_form::TextForm;
 pub use type_names::type_name;

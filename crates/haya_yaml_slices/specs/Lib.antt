@@ -1,2 +1,3 @@
 pub mod Breaks
+pub mod Joined
 pub mod Members

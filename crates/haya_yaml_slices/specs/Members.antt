@@ -2,7 +2,7 @@
 use Rattle.std.specs.Prelude.{◌≡◌, ℕ, List, [], ◌∷◌, ◌++◌, ⊤}
 use Rattle.std.specs.List.{AllZip, concat}
 use Rattle.json.specs.Json.{Json, Members, document, member, no_members, object}
-use Rattle.haya_elements.specs.declared.place.Brackets.TheVariants.{Curly}
+use Rattle.haya_json_elements.specs.declared.place.Brackets.TheVariants.{Curly}
 use Rattle.haya_slices.specs.Layout.{IsLaidOut}
 use Rattle.haya_yaml.specs.Says.{IsJsonFor, says_if}
 
@@ -26,13 +26,17 @@ pub record IsDividedTo (text : List ℕ) (parts : List (List ℕ)) : Type 0 wher
   pub back : List ℕ
   pub is : text ≡ front ++ (concat parts ++ back)
 
--- The text says in YAML an object of as many members as there are parts of it, in order, of which
--- each alone says the member at its place, and no other.
-pub record AreMemberParts (text : List ℕ) (parts : List (List ℕ)) : Type 0 where
+-- The text says in YAML an object of as many members as there are parts, in order, of which each
+-- part alone says the member at its place, and no other.
+pub record SaysParts (text : List ℕ) (parts : List (List ℕ)) : Type 0 where
   pub members : List (List ℕ)
-  pub divided : IsDividedTo text parts
   pub said : SaysMembers text members
   pub each : AllZip SaysMember parts members
+
+-- the same of parts of the text itself, byte for byte
+pub record AreMemberParts (text : List ℕ) (parts : List (List ℕ)) : Type 0 where
+  pub divided : IsDividedTo text parts
+  pub same : SaysParts text parts
 
 -- each text says an object of the member at its place, alone
 abbrev pub SayEach : List (List ℕ) → Members → Type 0

@@ -2,8 +2,8 @@
 //! caller's proof.
 ghost use Rattle.std.specs.Prelude.{◌≡◌, ℕ, List};
 ghost use Rattle.json.specs.Json.{Json, Members, object};
-ghost use Rattle.haya_elements.specs.Elements.{AreMembers};
-ghost use Rattle.haya_yaml_slices.specs.Members.{AreMemberParts, SayEach, Says, SaysMembers};
+ghost use Rattle.haya_json_elements.specs.Elements.{AreMembers};
+ghost use Rattle.haya_yaml_slices.specs.Members.{SayEach, Says, SaysMembers, SaysParts};
 
 use haya_slices::laws::{brackets_tell, slices_are_elements, slices_make_documents};
 
@@ -20,10 +20,13 @@ pub fn members_are_said()
     slices_make_documents();
 }
 
-/// Each part of a text says the member at its place of the object that the text says, alone.
+/// Where a text says what parts say, each part says the member at its place of the object that the
+/// text says, alone; and the text says the object of the members that the parts say alone.
 pub fn parts_are_members()
-    ensures { (text : List ℕ) (parts : List (List ℕ)) (ms : Members) →
-        AreMemberParts text parts → Says text (object ms) → SayEach parts ms }
+    ensures each { (text : List ℕ) (parts : List (List ℕ)) (ms : Members) →
+        SaysParts text parts → Says text (object ms) → SayEach parts ms }
+    ensures text { (text : List ℕ) (parts : List (List ℕ)) (ms : Members) →
+        SaysParts text parts → SayEach parts ms → Says text (object ms) }
 {
     slices_are_elements();
     slices_make_documents();

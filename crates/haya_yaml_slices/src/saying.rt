@@ -4,7 +4,7 @@ ghost use Rattle.std.specs.Str.{IsUtf8};
 ghost use Rattle.haya_yaml.specs.Says.{IsJsonFor};
 ghost use Rattle.haya_yaml_slices.specs.Members.{SaysMembers};
 
-use haya_elements::Brackets;
+use haya_json_elements::Brackets;
 use haya_slices::element_slices;
 use haya_yaml::error::YamlError;
 use haya_yaml::reader::to_json_text;

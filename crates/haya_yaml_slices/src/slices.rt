@@ -1,11 +1,11 @@
 //! The members of a text.
 ghost use Rattle.std.specs.Prelude.{◌≡◌, IfOk, IfSome, IsTrue, map};
 ghost use Rattle.std.specs.List.{AllZip};
-ghost use Rattle.haya_yaml_slices.specs.Members.{AreMemberParts, SaysMember};
+ghost use Rattle.haya_yaml_slices.specs.Members.{AreMemberParts, SaysMember, SaysParts};
 
 use crate::dividing::divided;
 use crate::saying::{json_of, says_members};
-use haya_elements::Brackets;
+use haya_json_elements::Brackets;
 use haya_slices::element_slices;
 use std::alloc::{AllocError, Global};
 
@@ -55,4 +55,21 @@ fn say_each(alloc: Global, parts: &[&str], members: &[&str]) -> Result<bool, All
         at += 1;
     }
     Ok(true)
+}
+
+/// Whether a text says what these parts say, each alone, in this order. `false` says nothing of it.
+pub(crate) fn says_parts(alloc: Global, text: &str, parts: &[&str]) -> Result<bool, AllocError>
+    ensures { IfOk result (λ said. IsTrue said →
+        SaysParts text.now (map (λ s. s.now) parts.now)) }
+{
+    let Some(json) = json_of(alloc, text)? else {
+        return Ok(false);
+    };
+    let Ok(said) = str::from_utf8(json.as_slice()) else {
+        return Ok(false);
+    };
+    match element_slices(alloc, Brackets::Curly, said)? {
+        Some(members) => say_each(alloc, parts, members.as_slice()),
+        None => Ok(false),
+    }
 }

@@ -1,6 +1,5 @@
 pub mod Appended
 pub mod ContentBox
-pub mod Copied
 pub mod Handed
 pub mod NextHit
 pub mod NoMemory

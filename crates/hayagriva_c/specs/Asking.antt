@@ -1,5 +1,5 @@
 -- What is answered of a library and of its entries.
-use Rattle.std.specs.Prelude.{◌≡◌, ◌⊎◌, ℕ, Bool, false, List, Option, None, Some, length}
+use Rattle.std.specs.Prelude.{◌≡◌, ◌⊎◌, ◌==◌, ℕ, Bool, false, List, Option, None, Some, if◌then◌else◌, length}
 use Rattle.std.specs.Str.{IsUtf8}
 use Rattle.haya_entry.specs.Names.{has_name}
 use Rattle.haya_entry.specs.Tree.{Tree, parents}
@@ -8,6 +8,8 @@ use Rattle.hayagriva.specs.Library.{get}
 use Rattle.haya_views.specs.FieldTexts.{field_text}
 use Rattle.haya_views.specs.InOrder.{entry_at, parent_at}
 use Rattle.haya_views.specs.declared.entry_id.EntryId.{EntryId}
+use Rattle.haya_views.specs.declared.text_form.TextForm.{TextForm}
+use Rattle.haya_views.specs.declared.text_form.TextForm.TheVariants.{MarkedUp, Plain, Short}
 use Rattle.hayagriva_c.specs.Room.{filled}
 use Rattle.hayagriva_c.specs.declared.content.Asked.{Asked}
 
@@ -68,12 +70,21 @@ NoteGives None code len old new before after = Leaves 3 code len old new × (aft
 NoteGives (Some row) code len old new before after =
     IsWritten row.0 code len old new × (after ≡ row.1)
 
--- the text of the field with a name, which is none that isn't UTF-8, or out of memory
-abbrev pub TextGives : Option Tree → List ℕ → ℕ → ℕ → List ℕ → List ℕ → Type 0
-TextGives None name code len old new = Leaves 2 code len old new
-TextGives (Some t) name code len old new =
+-- the form with a number
+abbrev pub text_form : ℕ → Option TextForm
+text_form n =
+    if n == 0 then Some MarkedUp else
+    if n == 1 then Some Plain else
+    if n == 2 then Some Short else None
+
+-- the text, in what may be a form, of the field with a name, which is none that isn't UTF-8, or out of
+-- memory
+abbrev pub TextGives : Option TextForm → Option Tree → List ℕ → ℕ → ℕ → List ℕ → List ℕ → Type 0
+TextGives None t name code len old new = Leaves 7 code len old new
+TextGives (Some form) None name code len old new = Leaves 2 code len old new
+TextGives (Some form) (Some t) name code len old new =
     Leaves 6 code len old new
-    ⊎ ((IsUtf8 name × NameGives (field_text t name) code len old new)
+    ⊎ ((IsUtf8 name × NameGives (field_text t name form) code len old new)
     ⊎ (¬ IsUtf8 name × Leaves 3 code len old new))
 
 -- ---- tests

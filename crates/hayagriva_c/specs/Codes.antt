@@ -22,7 +22,7 @@ message_of code =
     if code == 4 then codes "another kind of pointer" else
     if code == 5 then codes "not UTF-8" else
     if code == 6 then codes "out of memory" else
-    if code == 7 then codes "no such format" else
+    if code == 7 then codes "no such format or form" else
     if code == 8 then codes "parentheses that nest too deep" else
     if code == 9 then codes "not one entry" else
     if code == 10 then codes "no such part" else

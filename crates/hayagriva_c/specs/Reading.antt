@@ -11,9 +11,9 @@ use Rattle.haya_entry.specs.Tree.{Tree}
 use Rattle.haya_formats.specs.Formats.{format_of}
 use Rattle.haya_formats.specs.declared.format.Format.{Format as Guess}
 use Rattle.haya_formats.specs.declared.format.Format.TheVariants as guess
-use Rattle.haya_input.specs.Input.{Describes as LinesDescribe, rows_read}
-use Rattle.haya_input.specs.TextReading.{FaultInText}
-use Rattle.haya_input.specs.declared.error.InputError.{InputError}
+use Rattle.haya_line_library.specs.Input.{Describes as LinesDescribe, rows_read}
+use Rattle.haya_line_library.specs.TextReading.{FaultInText}
+use Rattle.haya_line_library.specs.declared.error.InputError.{InputError}
 use Rattle.haya_json.specs.JsonLines as json_lines
 use Rattle.haya_json.specs.Libraries as json
 use Rattle.haya_json.specs.declared.error.JsonLineError.{JsonLineError}

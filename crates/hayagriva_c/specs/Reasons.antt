@@ -4,8 +4,8 @@ use Rattle.std.specs.Fmt.{decimal}
 use Rattle.haya_bibtex.specs.Messages as bibtex_messages
 use Rattle.haya_bibtex.specs.declared.error.BibtexReadError.{BibtexReadError}
 use Rattle.haya_bibtex.specs.declared.error.BibtexReadError.TheVariants as bibtex
-use Rattle.haya_input.specs.declared.error.InputError.{InputError}
-use Rattle.haya_input.specs.declared.error.InputError.TheVariants as input
+use Rattle.haya_line_library.specs.declared.error.InputError.{InputError}
+use Rattle.haya_line_library.specs.declared.error.InputError.TheVariants as input
 use Rattle.haya_json.specs.Messages.{error_text, line_error_text, pointer}
 use Rattle.haya_json.specs.Refusal.{step_view}
 use Rattle.haya_json.specs.declared.error.JsonLineError.{JsonLineError}

@@ -5,7 +5,7 @@ ghost use Rattle.haya_entry.specs.EntryType.{type_name};
 ghost use Rattle.haya_entry.specs.Tree.{fields, view};
 ghost use Rattle.hayagriva_c.specs.Asking.{HasName, KeyGives, MatchGives, NameGives, NoteGives};
 ghost use Rattle.hayagriva_c.specs.Asking.{ParentGives, TextGives, WrittenOf, count_of_parents};
-ghost use Rattle.hayagriva_c.specs.Asking.{size_of};
+ghost use Rattle.hayagriva_c.specs.Asking.{size_of, text_form};
 ghost use Rattle.hayagriva_c.specs.Content.{names_of};
 ghost use Rattle.hayagriva_c.specs.Noted.{noted_row};
 
@@ -14,7 +14,7 @@ use crate::content::{Asked, Shelf};
 use crate::notes::Noted;
 use crate::room::fill;
 use haya_entry::{Entry, Steps};
-use haya_views::{EntryId, entry_of_key, field_text, parent_of, type_name};
+use haya_views::{EntryId, TextForm, entry_of_key, field_text, parent_of, type_name};
 use std::alloc::Global;
 
 /// How many entries a library has.
@@ -124,24 +124,40 @@ pub fn entry_has(entry: Option<(&Entry, Global)>, name: &[u8]) -> bool
     }
 }
 
-/// The text of an entry's field with a name.
+/// The form with this number.
+pub fn text_form(number: u32) -> Option<TextForm>
+    ensures { result ≡ text_form number }
+{
+    match number {
+        0 => Some(TextForm::MarkedUp),
+        1 => Some(TextForm::Plain),
+        2 => Some(TextForm::Short),
+        _ => None,
+    }
+}
+
+/// The text of an entry's field with a name, in what may be a form.
 pub fn entry_text(
     entry: Option<(&Entry, Global)>,
     name: &[u8],
+    form: Option<TextForm>,
     room: &mut [u8],
     len: &mut usize,
 ) -> u32
-    ensures { TextGives (option_map (λ e. view e.0.now) entry.entry) name.now
+    ensures { TextGives form (option_map (λ e. view e.0.now) entry.entry) name.now
         result len.new room.old room.new }
 {
     *len = 0;
+    let Some(form) = form else {
+        return codes::NO_FORMAT;
+    };
     let Some((entry, alloc)) = entry else {
         return codes::NO_ENTRY;
     };
     let Ok(name) = str::from_utf8(name) else {
         return codes::NO_FIELD;
     };
-    match field_text(alloc, entry, name) {
+    match field_text(alloc, entry, name, form) {
         Ok(Some(text)) => {
             *len = fill(text.as_bytes(), room);
             codes::OK

@@ -1,10 +1,11 @@
 //! What is asked of a library or a selector behind a pointer. Nothing here changes either.
-ghost use Rattle.std.specs.Prelude.{◌≡◌, length, slice_get};
+ghost use Rattle.std.specs.Prelude.{◌≡◌, Some, length, slice_get};
 ghost use Rattle.haya_entry.specs.EntryType.{type_name};
 ghost use Rattle.haya_entry.specs.Tree.{fields};
+ghost use Rattle.haya_views.specs.declared.text_form.TextForm.TheVariants.{MarkedUp};
 ghost use Rattle.hayagriva_c.specs.Asking.{HasName, KeyGives, MatchGives, NameGives, NoteGives};
 ghost use Rattle.hayagriva_c.specs.Asking.{ParentGives, TextGives, WrittenOf, count_of_parents};
-ghost use Rattle.hayagriva_c.specs.Asking.{size_of};
+ghost use Rattle.hayagriva_c.specs.Asking.{size_of, text_form};
 ghost use Rattle.hayagriva_c.specs.Content.{entry_in, library_in, names_of, notes_in};
 ghost use Rattle.hayagriva_c.specs.Content.{selector_in};
 ghost use Rattle.hayagriva_c.specs.Hits.{NextGives};
@@ -16,7 +17,7 @@ use crate::content::{Content, entry_in, library_in, notes_in, selector_in};
 use crate::fault::Written;
 use crate::values::{DateParts, Pages};
 use crate::{answers, hits, values, writing};
-use haya_views::EntryId;
+use haya_views::{EntryId, TextForm};
 
 /// How many entries a library has: 0 of what is none.
 pub fn library_len(library: &Content) -> usize
@@ -118,7 +119,7 @@ pub fn entry_has(library: &Content, entry: &EntryId, name: &[u8]) -> bool
     answers::entry_has(entry_in(library, entry), name)
 }
 
-/// The text of an entry's field with a name.
+/// The text of an entry's field with a name, marked up.
 pub fn entry_text(
     library: &Content,
     entry: &EntryId,
@@ -126,10 +127,27 @@ pub fn entry_text(
     room: &mut [u8],
     len: &mut usize,
 ) -> u32
-    ensures { TextGives (entry_in library.now entry.now) name.now
+    ensures { TextGives (Some MarkedUp) (entry_in library.now entry.now) name.now
         result len.new room.old room.new }
 {
-    answers::entry_text(entry_in(library, entry), name, room, len)
+    let form = Some(TextForm::MarkedUp);
+    answers::entry_text(entry_in(library, entry), name, form, room, len)
+}
+
+/// The text of an entry's field with a name, in the form with a number.
+pub fn entry_text_as(
+    library: &Content,
+    entry: &EntryId,
+    name: &[u8],
+    form: u32,
+    room: &mut [u8],
+    len: &mut usize,
+) -> u32
+    ensures { TextGives (text_form form) (entry_in library.now entry.now) name.now
+        result len.new room.old room.new }
+{
+    let form = answers::text_form(form);
+    answers::entry_text(entry_in(library, entry), name, form, room, len)
 }
 
 /// How many persons the field with a name has.

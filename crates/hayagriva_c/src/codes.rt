@@ -25,7 +25,7 @@ pub const NOT_TEXT: u32 = 5;
 /// An allocation failed, which says nothing of what was asked.
 pub const OUT_OF_MEMORY: u32 = 6;
 
-/// No format has this number.
+/// No format or form has this number.
 pub const NO_FORMAT: u32 = 7;
 
 /// More than a thousand parentheses of a selector are open somewhere.
@@ -111,7 +111,7 @@ pub fn message(code: u32) -> &'static str
         WRONG_KIND => "another kind of pointer",
         NOT_TEXT => "not UTF-8",
         OUT_OF_MEMORY => "out of memory",
-        NO_FORMAT => "no such format",
+        NO_FORMAT => "no such format or form",
         TOO_DEEP => "parentheses that nest too deep",
         NOT_ONE => "not one entry",
         NO_PART => "no such part",

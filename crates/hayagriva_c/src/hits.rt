@@ -80,6 +80,9 @@ fn put_bound(
     ensures { OnOk result (AreSlots shelf.now.library found.now
         (map string_bytes asked.now.names.items) bound.old bound.new) }
 {
+    if asked.names.is_empty() {
+        return Ok(());
+    }
     let mut k = 0;
     'slots: while k < bound.len() && k < asked.names.len() {
         let name = &asked.names[k];

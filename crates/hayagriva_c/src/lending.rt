@@ -1,11 +1,12 @@
 //! The calls that read through a pointer of C's, and write nothing there.
-ghost use Rattle.std.specs.Prelude.{◌≡◌, length, slice_get};
+ghost use Rattle.std.specs.Prelude.{◌≡◌, Some, length, slice_get};
 ghost use Rattle.std.specs.Borrow.{sem};
 ghost use Rattle.haya_entry.specs.EntryType.{type_name};
 ghost use Rattle.haya_entry.specs.Tree.{fields};
+ghost use Rattle.haya_views.specs.declared.text_form.TextForm.TheVariants.{MarkedUp};
 ghost use Rattle.hayagriva_c.specs.Asking.{HasName, KeyGives, MatchGives, NameGives, NoteGives};
 ghost use Rattle.hayagriva_c.specs.Asking.{ParentGives, TextGives, WrittenOf, count_of_parents};
-ghost use Rattle.hayagriva_c.specs.Asking.{size_of};
+ghost use Rattle.hayagriva_c.specs.Asking.{size_of, text_form};
 ghost use Rattle.hayagriva_c.specs.Content.{entry_in, library_in, names_of, notes_in};
 ghost use Rattle.hayagriva_c.specs.Content.{selector_in};
 ghost use Rattle.hayagriva_c.specs.Hits.{NextGives};
@@ -171,7 +172,7 @@ pub unsafe extern "C" fn haya_entry_has(library: *const u8, entry: &EntryId, nam
     asking::entry_has(&*library.cast::<Content>(), entry, name)
 }
 
-/// The text of an entry's field with a name.
+/// The text of an entry's field with a name, marked up.
 #[unsafe(no_mangle)]
 pub unsafe extern "C" fn haya_entry_text(
     library: *const u8,
@@ -183,10 +184,29 @@ pub unsafe extern "C" fn haya_entry_text(
     ghost loan: { Loan }
     requires* { sem 𝓛 (lent library loan) }
     ensures* { sem 𝓛 (token loan)
-        ∗ ⌜ TextGives (entry_in loan.value entry.now) name.now
+        ∗ ⌜ TextGives (Some MarkedUp) (entry_in loan.value entry.now) name.now
         result len.new room.old room.new ⌝ }
 {
     asking::entry_text(&*library.cast::<Content>(), entry, name, room, len)
+}
+
+/// The text of an entry's field with a name, in the form with a number.
+#[unsafe(no_mangle)]
+pub unsafe extern "C" fn haya_entry_text_as(
+    library: *const u8,
+    entry: &EntryId,
+    name: &[u8],
+    form: u32,
+    room: &mut [u8],
+    len: &mut usize,
+) -> u32
+    ghost loan: { Loan }
+    requires* { sem 𝓛 (lent library loan) }
+    ensures* { sem 𝓛 (token loan)
+        ∗ ⌜ TextGives (text_form form) (entry_in loan.value entry.now) name.now
+        result len.new room.old room.new ⌝ }
+{
+    asking::entry_text_as(&*library.cast::<Content>(), entry, name, form, room, len)
 }
 
 /// How many persons the field with a name has.

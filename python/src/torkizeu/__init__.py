@@ -8,7 +8,7 @@ a On it 1987 Lee in Things
 """
 from ._errors import Error, OutOfMemory, ParseError, SelectorError
 from ._library import Entry, Format, Hit, Library, Selector
-from ._values import Date, Person
+from ._values import Date, Person, TextForm
 
 __version__ = "0.2.0"
 __all__ = [
@@ -23,5 +23,6 @@ __all__ = [
     "SelectorError",
     "OutOfMemory",
     "Format",
+    "TextForm",
     "__version__",
 ]

@@ -12,7 +12,7 @@ from typing import Any, Dict, Iterator, List, Mapping, MutableMapping, Optional,
 
 from . import _native as n
 from ._errors import Error, OutOfMemory, parse_failed, selector_failed
-from ._values import Date, Person, listed, text_of
+from ._values import FORMED, Date, Person, TextForm, formed, listed, text_of
 
 #: The names of the formats, as those of the command `haya`.
 Format = str
@@ -124,8 +124,13 @@ class Entry(Mapping[str, Any]):
 
     @property
     def title(self) -> Optional[str]:
-        """The title without markup."""
-        return text_of(self._data.get("title"))
+        """The title as it is shown, without markup."""
+        return self.text("title")
+
+    @property
+    def short_title(self) -> Optional[str]:
+        """The title's short form as it is shown, or the title where it has none."""
+        return self.text("title", "short")
 
     @property
     def authors(self) -> Tuple[Person, ...]:
@@ -160,9 +165,20 @@ class Entry(Mapping[str, Any]):
             return text_of(numbers.get(scheme))
         return text_of(numbers) if scheme == "serial" else None
 
-    def text(self, name: str) -> Optional[str]:
-        """The text of a field without markup, None where it isn't set."""
-        return text_of(self._data.get(name))
+    def text(self, name: str, form: TextForm = "plain") -> Optional[str]:
+        """The text of a field, None where it isn't set or is a list. It is `plain`, as it is shown, with dollars around formulas alone;
+        `marked-up`, as in hayagriva's file format; or the `short` form as it is shown, and the long one where there is none. What isn't
+        marked up, as an address or a number, has one text in all forms.
+
+        >>> title = {"value": "The {ACM} of $x$", "short": "{ACM}"}
+        >>> entry = Library.parse(json.dumps({"a": {"type": "book", "title": title}}))["a"]
+        >>> entry.text("title"), entry.text("title", "marked-up"), entry.text("title", "short"), entry.text("note")
+        ('The ACM of $x$', 'The {ACM} of $x$', 'ACM', None)
+        """
+        if form not in ("plain", "marked-up", "short"):
+            raise ValueError(f"no form {form!r}: there are plain, marked-up and short")
+        value = self._data.get(name)
+        return formed(value, form) if name in FORMED else text_of(value)
 
     @property
     def parents(self) -> Tuple[Entry, ...]:

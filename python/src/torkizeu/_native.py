@@ -9,6 +9,7 @@ from typing import Any, Callable, Tuple
 
 OK, END, NO_ENTRY, NO_FIELD, WRONG_KIND, NOT_TEXT, OUT_OF_MEMORY, NO_FORMAT, TOO_DEEP, NOT_ONE_ENTRY = range(10)
 GUESSED, LINES, JSON, CSL, JSON_LINES, YAML, BIBTEX = range(7)
+MARKED_UP, PLAIN, SHORT = range(3)
 NOWHERE = c_size_t(-1).value
 VERSION = 2
 
@@ -93,6 +94,11 @@ selector_names = _call("selector_names", c_size_t, c_void_p)
 selector_name = _call("selector_name", c_uint32, c_void_p, c_size_t, POINTER(c_char), c_size_t, _LEN)
 entry_matches = _call("entry_matches", c_uint32, c_void_p, c_void_p, _PLACE, POINTER(c_bool))
 entry_has = _call("entry_has", c_bool, c_void_p, _PLACE, c_char_p, c_size_t)
+entry_text_as = _call(
+    "entry_text_as",
+    c_uint32,
+    *(c_void_p, _PLACE, c_char_p, c_size_t, c_uint32, POINTER(c_char), c_size_t, _LEN),
+)
 fault_free = _call("fault_free", None, POINTER(Fault))
 
 if not version_least() <= VERSION <= version():

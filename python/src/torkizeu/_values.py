@@ -2,7 +2,7 @@
 from __future__ import annotations
 
 import re
-from typing import Any, Dict, NamedTuple, Optional, Tuple
+from typing import Any, Dict, Literal, NamedTuple, Optional, Tuple
 
 
 class Person(NamedTuple):
@@ -99,28 +99,47 @@ class Date(NamedTuple):
         return "-".join(parts)
 
 
+#: In which form a text is asked for.
+TextForm = Literal["plain", "marked-up", "short"]
+
+#: The fields whose texts have a form of each; any other has one text in all of them.
+FORMED = frozenset(
+    "title location organization archive archive-location call-number note abstract genre publisher".split()
+)
+
+
 def text_of(value: Any) -> Optional[str]:
-    """The text of a value that may be an object of it, a number, or a text that keeps chunks in braces."""
-    if value is None:
-        return None
-    if isinstance(value, str):
-        return plain(value)
+    """The text of a value that is one, or a number, or an object of either; None of a list."""
     if isinstance(value, dict):
         inner: Dict[str, Any] = value
         return text_of(inner.get("value", inner.get("name")))
-    return plain(str(value))
+    return None if value is None or isinstance(value, list) else str(value)
+
+
+def formed(value: Any, form: TextForm) -> Optional[str]:
+    """The text of a value that keeps chunks by signs, or of an object of it, of its short form, or of a publisher's name.
+
+    >>> [formed({"value": "The {ACM} of $x$", "short": "{ACM}"}, form) for form in ("plain", "marked-up", "short")]
+    ['The ACM of $x$', 'The {ACM} of $x$', 'ACM']
+    """
+    if isinstance(value, dict) and ("name" in value or "location" in value):
+        return formed(value.get("name"), form)
+    text = text_of(value)
+    if form == "short" and isinstance(value, dict):
+        text = value.get("short", text)
+    return text if text is None or form == "marked-up" else plain(text)
 
 
 def plain(text: str) -> str:
-    r"""A text of the file format without its markup: `{..}` keeps its case, `$..$` is a formula, and a backslash
-    stands before a brace, a dollar or a backslash that means itself.
+    r"""A text of the file format as it is shown: `{..}` keeps its case, `$..$` is a formula, which is shown between its dollars, and a
+    backslash stands before a brace, a dollar or a backslash that means itself.
 
-    >>> plain(r"The {ACM} and \{braces\}")
-    'The ACM and {braces}'
+    >>> plain(r"The {ACM} and \{braces\} of $x$")
+    'The ACM and {braces} of $x$'
     """
-    if "{" not in text and "\\" not in text and "$" not in text and "}" not in text:
+    if "{" not in text and "\\" not in text and "}" not in text:
         return text
-    return re.sub(r"\\(.)|[{}$]", lambda at: at[1] or "", text)
+    return re.sub(r"\\(.)|[{}]", lambda at: at[1] or "", text)
 
 
 def listed(value: Any) -> Tuple[Any, ...]:

@@ -1,5 +1,5 @@
 //! The elements of texts in JSON, each on a line of its own.
-use haya_elements::{Brackets, ElementLines};
+use haya_json_elements::{Brackets, ElementLines};
 use std::io::Read;
 use std::process::Abort;
 

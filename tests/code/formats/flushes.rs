@@ -6,7 +6,7 @@ use haya_command::{
 };
 use haya_csl::ItemKey;
 use haya_formats::Format;
-use haya_stream::{WriteError, write_text};
+use haya_line_stream::{WriteError, write_text};
 use hayagriva::HashKeys;
 use std::io;
 use std::io::{Read, Write};

@@ -1,5 +1,5 @@
 //! Rows: lines that are taken one after another, and the entries that they close.
-use haya_input::OpenEntries;
+use haya_line_library::OpenEntries;
 use hayagriva::Entry;
 use std::process::Abort;
 

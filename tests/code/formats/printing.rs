@@ -1,6 +1,6 @@
 //! Rows: lines that are read and printed again, and entries that no lines say.
 use haya_entry::{Entry, EntryType};
-use haya_input::read_library;
+use haya_line_library::read_library;
 use haya_printing::{PrintableLines, entry_lines, printable_lines};
 use haya_text::{ChunkedString, FormatString, ReadText};
 use haya_time::Date;

@@ -1,5 +1,5 @@
 //! That a list is never taken for none, which no contract says, and that it is printed.
-use haya_elements::Brackets;
+use haya_json_elements::Brackets;
 use haya_slices::{element_slices, list_text};
 use std::alloc::Global;
 use std::process::Abort;

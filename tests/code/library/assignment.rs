@@ -141,31 +141,31 @@ const ROWS: &[Row] = &[
         rows: &["TT", "TF"],
         parents: 2,
         answer: Ok(&[1, 0]),
-        looks: 45,
+        looks: 25,
     },
     Row {
         rows: &["TF", "TF"],
         parents: 2,
         answer: Err(&[0, 1]),
-        looks: 45,
+        looks: 25,
     },
     Row {
         rows: &["FF"],
         parents: 2,
         answer: Err(&[0]),
-        looks: 9,
+        looks: 12,
     },
     Row {
         rows: &["TTT", "TTT", "TFF"],
         parents: 3,
         answer: Ok(&[1, 2, 0]),
-        looks: 280,
+        looks: 70,
     },
     Row {
         rows: &[],
         parents: 3,
         answer: Ok(&[]),
-        looks: 1,
+        looks: 4,
     },
     Row {
         rows: &[
@@ -174,13 +174,13 @@ const ROWS: &[Row] = &[
         ],
         parents: 20,
         answer: Err(&[18, 19]),
-        looks: 3208401,
+        looks: 16441,
     },
     Row {
         rows: &[""],
         parents: 0,
         answer: Err(&[0]),
-        looks: 1,
+        looks: 2,
     },
 ];
 

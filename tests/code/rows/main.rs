@@ -1,11 +1,10 @@
 //! Answers rows of tests: the word says of what, and each row of standard input is answered by a line
 //! or two. A row of values is a line, and any other ends before the next U+001E. `refused` makes calls
-//! whose requests for memory are refused, and `calls`, which `tests/try.sh` writes, runs tests.
+//! whose requests for memory are refused.
 #![tactic(auto)]
 
 mod bibtex;
 mod bibtex_library;
-mod calls;
 mod questions;
 mod refused;
 mod values;
@@ -32,10 +31,6 @@ fn main(rt: HostRuntime) -> ExitCode {
         "refused" => {
             let name = words.next();
             refused::main(&rt, name.as_ref().map(|name| name.as_str()))
-        }
-        "calls" => {
-            let name = words.next();
-            calls::main(&rt, name.as_ref().map(|name| name.as_str()))
         }
         _ => ExitCode::from(2),
     }

@@ -12,7 +12,7 @@ mod texts;
 mod times;
 mod values;
 
-use haya_stream::{read_all, write_text};
+use haya_line_stream::{read_all, write_text};
 use row::{Row, RowError};
 use std::alloc::Global;
 use std::io::{Read, Write};

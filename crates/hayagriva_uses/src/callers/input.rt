@@ -1,9 +1,9 @@
-//! The caller of `crates/haya_input/CALLING.md`.
+//! The caller of `crates/haya_line_library/CALLING.md`.
 ghost use Rattle.std.specs.Prelude.{◌≡◌, IfOk, List, length};
 ghost use Rattle.haya_entry.specs.Tree.{Tree};
-ghost use Rattle.haya_input.specs.Input.{Describes};
+ghost use Rattle.haya_line_library.specs.Input.{Describes};
 
-use haya_input::{InputError, read_library};
+use haya_line_library::{InputError, read_library};
 use hayagriva::HashKeys;
 use std::alloc::Global;
 

@@ -2,7 +2,7 @@
 use crate::questions::Question;
 use crate::questions::error::RowError;
 use haya_asked::{duplicate_hits, parse_places, parse_sort_keys, unique_hits};
-use haya_input::read_library;
+use haya_line_library::read_library;
 use haya_questions::{Place, SortKey, Table, Test, columns_text, sort_hits, values};
 use hayagriva::{HashKeys, Hit, Library, Steps};
 use std::alloc::Global;

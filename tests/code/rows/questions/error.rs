@@ -1,5 +1,5 @@
 //! Why a question has no answer.
-use haya_input::InputError;
+use haya_line_library::InputError;
 use haya_text::OutOfMemory;
 use hayagriva::SelectorError;
 use std::alloc::{AllocError, AllocFailed};

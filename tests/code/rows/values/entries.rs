@@ -2,7 +2,7 @@
 use crate::values::fields::put_fields;
 use crate::values::row::{Row, RowError, put as put_column, put_debugged, put_fault, put_maybe};
 use haya_entry::{Entry, EntryType, FieldName};
-use haya_input::{InputError, read_library};
+use haya_line_library::{InputError, read_library};
 use haya_lines::{LineError, read_line};
 use hayagriva::{HashKeys, Library};
 use std::alloc::Global;

@@ -8,6 +8,6 @@ invariant-members l =
     record {
       as_many : length l.positions.items ≡ l.member;
       placed : IsPlaced (accepts (rows l.table)) l.positions.items;
-      least : l.fn.steps + l.member ≤ l.steps;
-      most : l.steps ≤ l.fn.steps + l.member * (length l.table * l.parents);
+      least : l.fn.steps + l.member ≤ l.steps + length l.fn.start.items;
+      most : l.steps + length l.fn.start.items * (length l.table * l.parents) ≤ l.fn.steps + l.member * (length l.table * l.parents);
     }

@@ -1,9 +1,10 @@
-use Rattle.std.proofs.Common.{◌≡◌, ◌∙◌, sym, length, drop, arith}
+use Rattle.std.proofs.Common.{◌≡◌, ◌<◌, ◌≤◌, ◌∙◌, inl, inr, sym, length, drop, arith, rules}
+use Rattle.std.specs.Prelude.{◌⊎◌}
 use Rattle.std.proofs.lemmas.List.{length-map, take_at}
 use Rattle.haya_assignment.specs.Assignment.{rows}
 use Rattle.haya_assignment.proofs.Bridging.{least_from}
 use Rattle.haya_assignment.proofs.LawsOfLists.{greedy_is_least}
-use Rattle.haya_assignment.proofs.Lowering.{looks_of_all}
+use Rattle.haya_assignment.proofs.Lowering.{looks_of_all, placed_few, some_begin}
 use Rattle.haya_assignment.proofs.assignment.least_assignment.Goals as goal
 
 pub returns-in_ok-lower-in-Found-clause-answer : goal.returns-in_ok-lower-in-Found-clause-answer
@@ -20,13 +21,45 @@ returns-in_ok-lower-in-Found-clause-answer c =
     rw (take_at new (drop (length new) old.items) old.len (omega arith))
     (least_from (rows table) new (long ∙ sym as_many) c.in_ok-lower-in-Found.ensures.placed (rw as_many least))
 
-pub returns-in-Some-clause-answer : goal.returns-in-Some-clause-answer
-returns-in-Some-clause-answer c =
-    let table = rows c.args.table.now in
-    greedy_is_least table c.in-Some.taken.items (sym (rw c.in-Some.is at c.in_ok-taken.ensures.answer))
+pub returns-then-len-table-clause-answer : goal.returns-then-len-table-clause-answer
+returns-then-len-table-clause-answer c =
+    let all : length c.in_ok-first.first.items ≡ length c.args.table.now = search rules in
+    greedy_is_least (rows c.args.table.now) c.in_ok-first.first.items (c.in_ok-first.ensures.answer all)
+
+pub complete-requires-clause-fewer : goal.complete-requires-clause-fewer
+complete-requires-clause-fewer c = elim c.longer.ensures.either [
+  | inl e ↦ rw e c.in_ok-first.ensures.fewer
+  | inr e ↦ rw e c.in_ok-last.ensures.fewer
+]
+
+pub complete-requires-clause-placed : goal.complete-requires-clause-placed
+complete-requires-clause-placed c = elim c.longer.ensures.either [
+  | inl e ↦ rw e c.in_ok-first.ensures.placed
+  | inr e ↦ rw e c.in_ok-last.ensures.placed
+]
 
 pub returns-in_err-lower-in-Found-clause-at_most : goal.returns-in_err-lower-in-Found-clause-at_most
-returns-in_err-lower-in-Found-clause-at_most c = looks_of_all (length c.args.table.now) c.args.parents c.args.steps.now c.take_in_turn.new.steps c.complete.new.steps c.lower.new.steps c.take_in_turn.ensures.at_most c.complete.ensures.at_most c.lower.ensures.at_most
+returns-in_err-lower-in-Found-clause-at_most c =
+    let table = c.args.table.now in
+    let p = c.args.parents in
+    let m = length table in
+    let completed = rw c.in-Found.is at c.in_ok-positions.ensures.answer in
+    let few : length c.in-Found.positions.items ≤ p = placed_few table p c.in-Found.positions.items c.requires.width completed.1 in
+    let many : length (rows table) ≡ m = length-map table (λ row. row.items) in
+    let fits : m ≤ p = omega (arith, completed.0) in
+    let some : (m ≡ 0) ⊎ (0 < length c.longer.result.items) = some_begin table c.longer.result.items c.in-Found.positions.items c.in_ok-last.last.items completed.0 completed.1 c.longer.ensures.long c.in_ok-last.ensures.first in
+    looks_of_all m p (length c.longer.result.items) c.args.steps.now c.take_in_turn.new.steps c.take_last_in_turn.new.steps c.complete.new.steps c.lower.new.steps fits some
+    c.take_in_turn.ensures.at_most c.take_last_in_turn.ensures.at_most c.complete.ensures.at_most c.lower.ensures.at_most
 
 pub returns-in_ok-lower-in-Found-clause-at_most : goal.returns-in_ok-lower-in-Found-clause-at_most
-returns-in_ok-lower-in-Found-clause-at_most c = looks_of_all (length c.args.table.now) c.args.parents c.args.steps.now c.take_in_turn.new.steps c.complete.new.steps c.lower.new.steps c.take_in_turn.ensures.at_most c.complete.ensures.at_most c.lower.ensures.at_most
+returns-in_ok-lower-in-Found-clause-at_most c =
+    let table = c.args.table.now in
+    let p = c.args.parents in
+    let m = length table in
+    let completed = rw c.in-Found.is at c.in_ok-positions.ensures.answer in
+    let few : length c.in-Found.positions.items ≤ p = placed_few table p c.in-Found.positions.items c.requires.width completed.1 in
+    let many : length (rows table) ≡ m = length-map table (λ row. row.items) in
+    let fits : m ≤ p = omega (arith, completed.0) in
+    let some : (m ≡ 0) ⊎ (0 < length c.longer.result.items) = some_begin table c.longer.result.items c.in-Found.positions.items c.in_ok-last.last.items completed.0 completed.1 c.longer.ensures.long c.in_ok-last.ensures.first in
+    looks_of_all m p (length c.longer.result.items) c.args.steps.now c.take_in_turn.new.steps c.take_last_in_turn.new.steps c.complete.new.steps c.lower.new.steps fits some
+    c.take_in_turn.ensures.at_most c.take_last_in_turn.ensures.at_most c.complete.ensures.at_most c.lower.ensures.at_most

@@ -1,27 +1,11 @@
-use Rattle.std.proofs.Common.{◌≡◌, ◌+◌, ◌<◌, ◌∙◌, [], ◌∷◌, ◌++◌, None, Some, true, false, get_or, drop, length, reverse, ap, sym, arith}
+use Rattle.std.proofs.Common.{◌≡◌, ℕ, subst, ◌+◌, ◌<◌, ◌∙◌, [], ◌∷◌, ◌++◌, Some, true, false, get_or, drop, length, reverse, ap, sym, arith}
 use Rattle.std.specs.Prelude.{slice_get}
-use Rattle.std.proofs.lemmas.List.{drop_more, length-map, length-set, reverse-append}
+use Rattle.std.proofs.lemmas.List.{drop_more, length-map, length_push, length-set, reverse-append}
 use Rattle.haya_assignment.specs.Assignment.{not_taken, rows, true_positions}
 use Rattle.haya_assignment.specs.Placed.{accepts}
-use Rattle.haya_assignment.proofs.InTurn.{first_is, flags_more, greedy_more, greedy_none, none_is}
+use Rattle.haya_assignment.proofs.InTurn.{first_is, flags_more, greedy_more, held_push, none_there, placed_push}
 use Rattle.haya_assignment.proofs.Listing.{IsFree}
-use Rattle.haya_assignment.proofs.Reaching.{accepts_within}
 use Rattle.haya_assignment.proofs.greedy.take_in_turn.Goals as goal
-
-pub returns-in_default-clause-answer : goal.returns-in_default-clause-answer
-unfolding accepts
-returns-in_default-clause-answer c =
-    let table = rows c.args.table.now in
-    let m = c.members.member in
-    let row = get_or table m [] in
-    let taken = reverse c.members.positions.items in
-    let left : drop m table ≡ row ∷ drop (m + 1) table = drop_more table m [] (omega (arith, length-map c.args.table.now (λ row. row.items))) in
-    let none : slice_get (not_taken taken (true_positions row)) 0 ≡ None = none_is taken row (λ k ok free.
-    let within = accepts_within c.args.table.now c.args.parents m k c.requires.width ok in
-    let set : get_or c.members.taken.items k false ≡ true = rw c.deref.ensures.value at (c.in_default.ensures.none k within ok) in
-    let flag = c.members.invariant.flags k (omega (arith, within, c.members.invariant.as_many)) in
-    absurd (let no : true ≡ false = sym set ∙ flag ∙ free in cc)) in
-    sym (greedy_none taken c.members.positions.items row (drop (m + 1) table) none) ∙ (rw left at c.members.invariant.answer)
 
 pub members-preserved : goal.members-preserved
 unfolding accepts
@@ -44,6 +28,9 @@ members-preserved c =
     let turned : reverse c.push.new.self.items ≡ i ∷ taken = ap reverse pushed ∙ reverse-append places (i ∷ []) in
     record {
       as_many = length-set c.members.taken.items i true ∙ was.as_many;
+      many = rw pushed (omega (arith, length_push places i, was.many));
+      placed = rw pushed (placed_push (accepts table) places i was.placed (subst (λ (n : ℕ). accepts table n i ≡ true) (sym was.many) c.in-Some.ensures.accepted) (none_there c.members.taken.items places i (rw c.deref.ensures.value at c.in-Some.ensures.left) was.held));
+      held = rw pushed (held_push c.members.taken.items places i within was.held);
       flags = rw turned (flags_more taken c.members.taken.items i within was.flags);
       answer = rw (turned, pushed) (sym (greedy_more taken places row (drop (m + 1) table) i first) ∙ (rw left at was.answer));
       least = omega (arith, was.least, c.in-Some.ensures.at_least);

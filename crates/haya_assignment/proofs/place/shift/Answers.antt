@@ -1,4 +1,4 @@
-use Rattle.std.proofs.Common.{◌≡◌, ◌≢◌, ℕ, ◌<◌, ◌≤◌, ◌∙◌, sym, subst, length, get_or, arith}
+use Rattle.std.proofs.Common.{◌≡◌, ◌≢◌, ℕ, ◌<◌, ◌∙◌, true, false, sym, subst, length, get_or, arith}
 use Rattle.std.proofs.lemmas.List.{get_or_read, length-set, get_or-set_other}
 use Rattle.haya_assignment.specs.Shift.{IsChain, IsReady}
 use Rattle.haya_assignment.proofs.Shifting.{ready_step, ready_end}
@@ -23,19 +23,19 @@ back-preserved c =
     record {
       in_reached = omega arith;
       as_long = length-set ps c.index-moved.result.now c.back.position ∙ long;
-      fixed = λ first h after k l.
-          let later : first ≤ get_or ms t 0 = after t moves in_ms in
-          let ne : k ≢ get_or ms t 0 = omega arith in
-          rw member (c.back.invariant.fixed first h after k l ∙ sym (get_or-set_other ps (get_or ms t 0) k c.back.position 0 ne));
+      kept = λ stays all u stay.
+          let no : get_or stays (get_or ms t 0) false ≡ false = all t moves in_ms in
+          let ne : u ≢ get_or ms t 0 = λ e. let yes : get_or stays (get_or ms t 0) false ≡ true = rw (← e) stay in absurd (cc) in
+          rw member (c.back.invariant.kept stays all u stay ∙ sym (get_or-set_other ps (get_or ms t 0) u c.back.position 0 ne));
       ready = λ A bound h.
           let chain : IsChain c.args.member (length ps) r = subst (λ (n : ℕ). IsChain c.args.member n r) (sym long) links in
           rw (member, from) (ready_step A bound c.args.member ps r t c.back.position chain in_ms moves (c.back.invariant.ready A bound h));
     }
 
-pub returns-clause-fixed : goal.returns-clause-fixed
-returns-clause-fixed c = λ first h after k l.
-    let ne : k ≢ c.args.member = omega arith in
-    c.back.invariant.fixed first h after k l ∙ sym (get_or-set_other c.back.positions c.args.member k c.back.position 0 ne)
+pub returns-clause-kept : goal.returns-clause-kept
+returns-clause-kept c = λ stays no all u stay.
+    let ne : u ≢ c.args.member = λ e. let yes : get_or stays c.args.member false ≡ true = rw (← e) stay in absurd (cc) in
+    c.back.invariant.kept stays all u stay ∙ sym (get_or-set_other c.back.positions c.args.member u c.back.position 0 ne)
 
 pub returns-clause-placed : goal.returns-clause-placed
 returns-clause-placed c = λ A bound h.

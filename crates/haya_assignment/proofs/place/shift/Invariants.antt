@@ -1,6 +1,5 @@
-use Rattle.std.proofs.Common.{◌≡◌, ℕ, Bool, ◌<◌, ◌≤◌, length, get_or}
-use Rattle.haya_assignment.specs.Placed.{SameBelow}
-use Rattle.haya_assignment.specs.Shift.{IsReady}
+use Rattle.std.proofs.Common.{◌≡◌, ℕ, Bool, List, false, ◌<◌, length, get_or}
+use Rattle.haya_assignment.specs.Shift.{AreKept, IsReady}
 use Rattle.haya_assignment.proofs.place.shift.Given as goal
 
 abbrev pub invariant-back : goal.invariant-back
@@ -8,8 +7,8 @@ invariant-back l =
     record {
       in_reached : l.at < length l.reached.members.items;
       as_long : length l.positions ≡ length l.fn.positions;
-      fixed : (first : ℕ) → first ≤ l.member → ((t : ℕ) → 0 < t → t < length l.reached.members.items → first ≤ get_or l.reached.members.items t 0) →
-          SameBelow first l.fn.positions l.positions;
+      kept : (stays : List Bool) → ((t : ℕ) → 0 < t → t < length l.reached.members.items → get_or stays (get_or l.reached.members.items t 0) false ≡ false) →
+          AreKept stays l.fn.positions l.positions;
       ready : (A : ℕ → ℕ → Bool) (bound : ℕ) → IsReady A bound l.member l.fn.positions l.reached l.fn.at l.fn.position → IsReady A bound l.member l.positions l.reached l.at l.position;
     }
 

@@ -43,7 +43,7 @@ members-preserved c =
       grows = grows_trans _ c.members.reached.members.items _ was.grows ok.grows;
       as_long = omega (arith, ok.as_long);
       early = λ bound h. ok.early bound (was.early bound h);
-      searched = searched_more (accepts (rows c.args.table.now)) c.args.first c.members.at c.args.holders.now c.members.reached.members.items _ here ok.grows was.searched
+      searched = searched_more (accepts (rows c.args.table.now)) c.args.stays.now c.members.at c.args.holders.now c.members.reached.members.items _ here ok.grows was.searched
           (rw c.in_default.is at ok.closed);
       later = omega arith;
       from_start = omega arith;

@@ -8,11 +8,11 @@ abbrev pub invariant-members : goal.invariant-members
 invariant-members l =
     let A = accepts (rows l.table) in
     record {
-      reaches : Reaches A l.first l.holders l.reached;
+      reaches : Reaches A l.stays l.holders l.reached;
       grows : Grows l.fn.reached.members.items l.reached.members.items;
       as_long : length l.reached.seen.items ≡ length l.fn.reached.seen.items;
       early : (bound : ℕ) → IsEarly bound l.holders l.fn.reached → IsEarly bound l.holders l.reached;
-      searched : IsSearched A l.first l.at l.holders l.reached.members.items;
+      searched : IsSearched A l.stays l.at l.holders l.reached.members.items;
       later : 0 < l.at;
       from_start : l.start ≤ l.at;
       within : l.at ≤ length l.reached.members.items;

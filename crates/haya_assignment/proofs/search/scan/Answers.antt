@@ -15,7 +15,7 @@ positions-preserved c =
       grows = grows_trans _ c.positions.reached.members.items _ was.grows ok.grows;
       as_long = omega (arith, ok.as_long);
       early = λ bound h. ok.early bound (λ z. absurd (omega arith)) (was.early bound h);
-      closed = closed_more (accepts (rows c.args.table.now)) c.args.first c.args.holders.now c.positions.reached.members.items _ _ c.positions.position ok.grows was.closed
+      closed = closed_more (accepts (rows c.args.table.now)) c.args.stays.now c.args.holders.now c.positions.reached.members.items _ _ c.positions.position ok.grows was.closed
           (λ yes. ok.closed c.if-branch.false (rw (← same) yes));
       onward = omega arith;
       most = omega arith;

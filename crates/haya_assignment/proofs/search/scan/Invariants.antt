@@ -8,11 +8,11 @@ abbrev pub invariant-positions : goal.invariant-positions
 invariant-positions l =
     let A = accepts (rows l.table) in
     record {
-      reaches : Reaches A l.first l.holders l.reached;
+      reaches : Reaches A l.stays l.holders l.reached;
       grows : Grows l.fn.reached.members.items l.reached.members.items;
       as_long : length l.reached.seen.items ≡ length l.fn.reached.seen.items;
       early : (bound : ℕ) → IsEarly bound l.holders l.fn.reached → IsEarly bound l.holders l.reached;
-      closed : (j : ℕ) → j < l.position → A (get_or l.fn.reached.members.items l.at 0) j ≡ true → IsClosed l.first l.holders l.reached.members.items j;
+      closed : (j : ℕ) → j < l.position → A (get_or l.fn.reached.members.items l.at 0) j ≡ true → IsClosed l.stays l.holders l.reached.members.items j;
       onward : l.fn.steps ≤ l.steps;
       most : l.steps ≤ l.fn.steps + l.position;
     }

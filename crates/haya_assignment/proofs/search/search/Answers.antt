@@ -1,10 +1,10 @@
-use Rattle.std.proofs.Common.{◌≡◌, ℕ, ◌+◌, ◌*◌, ◌<◌, ◌≤◌, ◌∙◌, subst, length, arith, rules}
+use Rattle.std.proofs.Common.{◌≡◌, ℕ, ◌+◌, ◌*◌, ◌<◌, ◌≤◌, ◌∙◌, subst, get_or, length, arith, rules}
 use Rattle.std.proofs.Math.Nat.{mul-le-mul_left}
 use Rattle.haya_assignment.specs.Assignment.{rows}
 use Rattle.haya_assignment.specs.Placed.{accepts}
 use Rattle.haya_assignment.specs.Search.{IsFree}
 use Rattle.haya_assignment.proofs.Numbers.{grows_trans}
-use Rattle.haya_assignment.proofs.Reaching.{early_weaker, reached_few, searched_below_more, searched_grows}
+use Rattle.haya_assignment.proofs.Reaching.{early_weaker, layers_grow, layers_low, layers_more, reached_few, searched_below_more, searched_grows}
 use Rattle.haya_assignment.proofs.search.search.Goals as goal
 
 pub returns-in_err-try_position-clause-at_most : goal.returns-in_err-try_position-clause-at_most
@@ -50,7 +50,7 @@ pub follow-requires-clause-searched : goal.follow-requires-clause-searched
 follow-requires-clause-searched c =
     let ms = c.positions.reached.members.items in
     let len : c.len-start.result ≡ length ms = search rules in
-    rw len (searched_grows (accepts (rows c.args.table.now)) c.args.first (length ms) c.args.holders.now ms _ (omega arith) c.in_ok-try_position.ensures.grows c.positions.invariant.searched.later)
+    rw len (searched_grows (accepts (rows c.args.table.now)) c.args.stays.now (length ms) c.args.holders.now ms _ (omega arith) c.in_ok-try_position.ensures.grows c.positions.invariant.searched.later)
 
 pub returns-in-Some-clause-grows : goal.returns-in-Some-clause-grows
 returns-in-Some-clause-grows c =
@@ -88,13 +88,32 @@ positions-preserved c =
     let most : c.follow.new.steps + c.len-start.result * p ≤ c.try_position.new.steps + length c.follow.new.reached.members.items * p = rw c.in_default.is at next.none_at_most in
     let most' : c.follow.new.steps + length ms * p ≤ c.try_position.new.steps + length c.follow.new.reached.members.items * p = rw (← start) most in
     let before : c.positions.steps + p ≤ c.args.steps.now + c.positions.position + length ms * p = was.most in
+    let after = c.follow.new.reached.members.items in
+    let ls = c.positions.layers.items in
+    let ls' = c.fill.new.layers.items in
+    let filled = c.in_ok-fill.ensures in
+    let long : length ls' ≡ length after = search rules in
+    let new : (t : ℕ) → length ls ≤ t → t < length after → get_or ls' t 0 ≡ c.positions.position = λ t a b. filled.filled t a (omega (arith, filled.as_many)) in
     record {
       reaches = next.reaches;
       grows = grows_trans _ ms _ was.grows (grows_trans _ c.try_position.new.reached.members.items _ ok.grows next.grows);
       as_long = next.as_long ∙ ok.as_long ∙ was.as_long;
       early = next.early (c.positions.position + 1) (ok.early (c.positions.position + 1) (λ z. omega arith) (early_weaker c.positions.position c.args.holders.now _ _ was.early));
-      searched = searched_below_more (accepts (rows c.args.table.now)) c.args.first c.positions.position c.args.holders.now ms c.try_position.new.reached.members.items _ some ok.grows next.grows was.searched
+      searched = searched_below_more (accepts (rows c.args.table.now)) c.args.stays.now c.positions.position c.args.holders.now ms c.try_position.new.reached.members.items _ some ok.grows next.grows was.searched
           (ok.closed c.if-branch.false) (rw c.in_default.is at next.searched);
+      layered = layers_more (accepts (rows c.args.table.now)) c.args.stays.now c.args.holders.now after ls ls' c.positions.position long filled.grows new was.low
+          (layers_grow (accepts (rows c.args.table.now)) c.args.stays.now c.args.holders.now ms after ls (grows_trans ms c.try_position.new.reached.members.items after ok.grows next.grows) was.layered)
+          (rw c.in_default.is at next.searched);
+      low = layers_low ls ls' c.positions.position filled.grows (λ t a b. new t a (omega arith)) was.low;
       onward = omega arith;
       most = omega arith;
     }
+
+pub returns-then-branch-clause-layered : goal.returns-then-branch-clause-layered
+returns-then-branch-clause-layered c =
+    layers_grow (accepts (rows c.args.table.now)) c.args.stays.now c.args.holders.now c.positions.reached.members.items _ c.positions.layers.items c.in_ok-try_position.ensures.grows c.positions.invariant.layered
+
+pub returns-in-Some-clause-layered : goal.returns-in-Some-clause-layered
+returns-in-Some-clause-layered c =
+    layers_grow (accepts (rows c.args.table.now)) c.args.stays.now c.args.holders.now c.positions.reached.members.items _ c.positions.layers.items
+    (grows_trans _ c.try_position.new.reached.members.items _ c.in_ok-try_position.ensures.grows c.in_ok-end.ensures.grows) c.positions.invariant.layered

@@ -1,9 +1,7 @@
-use Rattle.std.proofs.Common.{◌≡◌, ◌++◌, [], ◌∷◌, ap, subst, ◌∙◌, inl, inr}
+use Rattle.std.proofs.Common.{◌≡◌, ◌++◌, [], ◌∷◌, ap, ◌∙◌}
 use Rattle.std.specs.Prelude.{string_bytes}
 use Rattle.std.proofs.lemmas.List.{map-append}
-use Rattle.std.proofs.lemmas.Result.{err_from_is_err_and}
 use Rattle.haya_json.specs.Notes.{notes_view}
-use Rattle.haya_command.specs.Reading.{IsAgain}
 use Rattle.haya_command.specs.Told.{told_names, told_views}
 use Rattle.haya_command.proofs.CollectedTexts.{part_told}
 use Rattle.haya_command.proofs.reading.add_part.Goals as goal

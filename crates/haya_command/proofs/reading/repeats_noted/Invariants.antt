@@ -1,6 +1,6 @@
 use Rattle.std.proofs.Common.{◌≡◌, map}
 use Rattle.std.specs.Vec.Iter.{into_iter_items}
-use Rattle.haya_input.specs.Repeats.{repeat_view, repeats_view}
+use Rattle.haya_line_library.specs.Repeats.{repeat_view, repeats_view}
 use Rattle.haya_json.specs.Notes.{all_kept, kept_of, notes_view}
 use Rattle.haya_command.specs.Reading.{again_note}
 use Rattle.haya_command.proofs.reading.repeats_noted.Given as goal

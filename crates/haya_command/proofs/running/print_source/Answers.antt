@@ -1,5 +1,5 @@
-use Rattle.std.proofs.Common.{◌≡◌, ◌++◌, List, Ok, ap, inr, subst, sym, ◌∙◌, ℕ}
-use Rattle.std.specs.Io.KnownBytes.{Appends, Keeps}
+use Rattle.std.proofs.Common.{◌≡◌, ◌++◌, List, Ok, inr, subst, sym, ◌∙◌, ℕ}
+use Rattle.std.specs.Io.KnownBytes.{Appends}
 use Rattle.std.specs.Prelude.{IfOk, string_bytes}
 use Rattle.haya_command.specs.Source.{IsSourceAnswer}
 use Rattle.haya_command.proofs.Sourced.{beside_fault, keeps_twice}

@@ -1,22 +1,11 @@
-use Rattle.std.proofs.Common.{◌≡◌, ◌≢◌, ◌⊎◌, None, Option, Some, inl, inr, refl, subst, sym, true, ◌∙◌}
+use Rattle.std.proofs.Common.{◌≡◌, ◌≢◌, ◌⊎◌, inl, inr, subst, sym, true, ◌∙◌}
 use Rattle.std.specs.Option.{option_eq}
 use Rattle.haya_source.specs.contracts.kind.ElementKindPartialEq.TheImpl.{eq-value}
-use Rattle.haya_source.specs.declared.kind.ElementKind.{ElementKind}
-use Rattle.haya_source.specs.declared.kind.ElementKind.TheVariants as kind
-use Rattle.haya_csl.specs.declared.item_key.ItemKey.TheVariants as key
 use Rattle.haya_command.specs.Source.{IsKindError, IsKindFault, IsSourceFault}
 use Rattle.haya_command.specs.SourceForm.{kind_in}
 use Rattle.haya_command.specs.declared.error.CommandError.TheVariants as fault
+use Rattle.haya_command.proofs.SameKinds.{same_as_itself}
 use Rattle.haya_command.proofs.sources.check_kind.Goals as goal
-
--- a kind is the same as itself
-same_as_itself : (o : Option ElementKind) → option_eq eq-value.it o o ≡ true
-same_as_itself None = refl
-same_as_itself (Some (kind.Items key.CitationKey)) = refl
-same_as_itself (Some (kind.Items key.Id)) = refl
-same_as_itself (Some kind.Members) = refl
-same_as_itself (Some kind.JsonLines) = refl
-same_as_itself (Some kind.Lines) = refl
 
 pub returns-clause-fault : goal.returns-clause-fault
 returns-clause-fault c = case c.source_fault.ensures

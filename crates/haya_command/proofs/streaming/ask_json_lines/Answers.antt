@@ -1,7 +1,7 @@
 use Rattle.std.proofs.Common.{inl, inr, refl, ◌∙◌, sym, append-nil, []}
 use Rattle.std.specs.Str.Lines.{lines}
 use Rattle.haya_json.specs.Notes.{notes_view}
-use Rattle.haya_list.specs.Listed.{entries_of, printed_of}
+use Rattle.haya_entry_stream.specs.Listed.{entries_of, printed_of}
 use Rattle.haya_command.specs.AskedLines.{IsJsonLineErrorFor}
 use Rattle.haya_formats.specs.declared.format.Format.TheVariants.{JsonLines}
 use Rattle.haya_command.proofs.EntryLists.{begins_list, first_of_all, line_error, line_kept, lines_too_many, loss_tells, loss_why, reads_list, stream_tells, told_kept}

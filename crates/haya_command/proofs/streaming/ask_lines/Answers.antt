@@ -1,7 +1,7 @@
 use Rattle.std.proofs.Common.{inl, inr, refl, sym, ap}
 use Rattle.std.specs.Str.Lines.{lines}
 use Rattle.haya_json.specs.Notes.{kept_of, none_kept}
-use Rattle.haya_list.specs.Lines.{BeginsList, IsFaultOf, IsListOf}
+use Rattle.haya_entry_stream.specs.Lines.{BeginsList, IsFaultOf, IsListOf}
 use Rattle.haya_formats.specs.declared.format.Format.TheVariants.{Lines}
 use Rattle.haya_command.proofs.EntryLists.{none_told}
 use Rattle.haya_command.proofs.Streams.{asks_enough, asks_input, asks_part, options_kept, selector_kept, stream_why}

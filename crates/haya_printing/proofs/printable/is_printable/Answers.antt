@@ -1,7 +1,7 @@
 use Rattle.std.proofs.Common.{◌≡◌, ◌∷◌, [], ◌∙◌, true, false, subst, sym}
 use Rattle.std.proofs.lemmas.Result.{IfOk-weaker}
 use Rattle.haya_entry.specs.Tree.{view}
-use Rattle.haya_input.specs.Input.{Describes}
+use Rattle.haya_line_library.specs.Input.{Describes}
 use Rattle.haya_printing.specs.LeftOut.{IsPrintable}
 use Rattle.haya_printing.specs.Printed.{entry_text}
 use Rattle.haya_printing.proofs.printable.is_printable.Goals as goal

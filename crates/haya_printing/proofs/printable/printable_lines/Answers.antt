@@ -1,6 +1,6 @@
 use Rattle.std.proofs.Common.{◌∷◌, [], ◌∙◌, subst, sym}
 use Rattle.haya_entry.specs.Tree.{view}
-use Rattle.haya_input.specs.Input.{Describes}
+use Rattle.haya_line_library.specs.Input.{Describes}
 use Rattle.haya_printing.proofs.Saying.{all_lines, lines_said}
 use Rattle.haya_printing.proofs.printable.printable_lines.Goals as goal
 

@@ -1,7 +1,7 @@
 use Rattle.std.proofs.Common.{◌≡◌, ◌+◌, ◌++◌, Some, true, ap, arith, drop, get_or, refl, sym, take, rules, ◌∙◌}
-use Rattle.haya_elements.specs.Steps.{step}
-use Rattle.haya_elements.specs.declared.place.Mode.TheVariants.{Between, Text}
-use Rattle.haya_elements.specs.declared.place.Place.TheVariants.{Element}
+use Rattle.haya_json_elements.specs.Steps.{step}
+use Rattle.haya_json_elements.specs.declared.place.Mode.TheVariants.{Between, Text}
+use Rattle.haya_json_elements.specs.declared.place.Place.TheVariants.{Element}
 use Rattle.haya_slices.specs.Layout.{inside, within}
 use Rattle.haya_slices.proofs.Strings.{white_leads}
 use Rattle.haya_slices.proofs.Scanned.{ends_there, inside_from_start, leads_more, leads_on}

@@ -1,6 +1,6 @@
 use Rattle.std.proofs.Common.{◌≡◌, ◌++◌, ◌-◌, ◌≤◌, ℕ, List, length, take}
 use Rattle.std.specs.Prelude.{IsTrue}
-use Rattle.haya_elements.specs.declared.place.Mode.TheVariants.{Between}
+use Rattle.haya_json_elements.specs.declared.place.Mode.TheVariants.{Between}
 use Rattle.haya_slices.specs.Layout.{inside, is_outside_string}
 use Rattle.haya_slices.proofs.element.element_len.Given as goal
 

@@ -1,6 +1,6 @@
 use Rattle.std.proofs.Common.{◌∙◌, sym, ap}
 use Rattle.json.specs.Lex.{class}
-use Rattle.haya_elements.specs.Steps.{element_step}
+use Rattle.haya_json_elements.specs.Steps.{element_step}
 use Rattle.haya_slices.specs.Layout.{within}
 use Rattle.haya_slices.proofs.element.passed.Goals as goal
 

@@ -1,6 +1,6 @@
 use Rattle.std.proofs.Common.{◌≡◌, ◌≢◌, ◌+◌, ◌<◌, ◌++◌, ℕ, false, ap, arith, drop, get_or, length, sym, take, ◌∙◌}
 use Rattle.std.proofs.lemmas.Bool.{false_from_ne_true, ne_eqb}
-use Rattle.haya_elements.specs.declared.place.Mode.TheVariants.{Between, Text}
+use Rattle.haya_json_elements.specs.declared.place.Mode.TheVariants.{Between, Text}
 use Rattle.haya_slices.specs.Layout.{inside}
 use Rattle.haya_slices.proofs.Scanned.{leads_on}
 use Rattle.haya_slices.proofs.Strings.{escaped, is_mark, other_mark, quoted}

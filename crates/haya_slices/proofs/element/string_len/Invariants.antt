@@ -1,6 +1,6 @@
 use Rattle.std.proofs.Common.{◌≡◌, ◌++◌, ◌-◌, ◌≤◌, ℕ, List, length, take}
-use Rattle.haya_elements.specs.declared.place.Brackets.{Brackets}
-use Rattle.haya_elements.specs.declared.place.Mode.TheVariants.{Text}
+use Rattle.haya_json_elements.specs.declared.place.Brackets.{Brackets}
+use Rattle.haya_json_elements.specs.declared.place.Mode.TheVariants.{Text}
 use Rattle.haya_slices.specs.Layout.{inside}
 use Rattle.haya_slices.proofs.element.string_len.Given as goal
 

@@ -1,6 +1,6 @@
 use Rattle.std.proofs.Common.{sym}
-use Rattle.haya_elements.specs.Elements.{elements}
-use Rattle.haya_elements.specs.declared.place.Brackets.TheVariants.{Curly, Square}
+use Rattle.haya_json_elements.specs.Elements.{elements}
+use Rattle.haya_json_elements.specs.declared.place.Brackets.TheVariants.{Curly, Square}
 use Rattle.haya_slices.proofs.Lines.{same_tokens}
 use Rattle.haya_slices.proofs.Same.{same_items, same_members}
 use Rattle.haya_slices.proofs.laws.slices_make_documents.Goals as goal

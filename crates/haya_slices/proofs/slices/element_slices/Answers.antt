@@ -1,6 +1,6 @@
 use Rattle.std.proofs.Common.{sym, subst, rules, true, false}
 use Rattle.std.specs.Prelude.{map}
-use Rattle.haya_elements.specs.Steps.{closing_bracket, opening_bracket}
+use Rattle.haya_json_elements.specs.Steps.{closing_bracket, opening_bracket}
 use Rattle.haya_slices.specs.Layout.{IsLaidOut}
 use Rattle.haya_slices.specs.Scan.{BeginsByte, BeginsWith}
 use Rattle.haya_slices.proofs.Listed.{IsLaidOutBut, kept, last_found, no_elements, none_found, one_found}

@@ -5,8 +5,8 @@ use Rattle.std.proofs.lemmas.Iterator.{YieldsList}
 use Rattle.std.proofs.lemmas.Iterator.Consumers.{YieldsList-turn, YieldsList-end}
 use Rattle.std.proofs.lemmas.Iterator.Splits.{YieldsList-from_lines}
 use Rattle.std.proofs.lemmas.List.{take_all, take_more}
-use Rattle.haya_elements.specs.Elements.{nonempty_lines}
-use Rattle.haya_elements.proofs.NonemptyLines.{nonempty_lines-append}
+use Rattle.haya_json_elements.specs.Elements.{nonempty_lines}
+use Rattle.haya_json_elements.proofs.NonemptyLines.{nonempty_lines-append}
 use Rattle.haya_source.proofs.dividing.filled_lines.Goals as goal
 
 pub lines-preserved : goal.lines-preserved

@@ -2,7 +2,7 @@ use Rattle.std.proofs.Common.{◌≡◌, ◌∷◌, [], Some, ap, refl, ◌∙�
 use Rattle.std.specs.Prelude.{slice_get}
 use Rattle.haya_entry.specs.Tree.{view}
 use Rattle.hayagriva.specs.Library.{key_of}
-use Rattle.haya_input.specs.Input.{Describes}
+use Rattle.haya_line_library.specs.Input.{Describes}
 use Rattle.haya_source.proofs.keyed.lines_key.Goals as goal
 
 pub returns-in-Some : goal.returns-in-Some

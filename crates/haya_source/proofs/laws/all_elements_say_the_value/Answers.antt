@@ -1,5 +1,5 @@
 use Rattle.std.proofs.Common.{Some, ap, sym, ◌∙◌}
-use Rattle.haya_elements.specs.declared.place.Brackets.TheVariants.{Curly, Square}
+use Rattle.haya_json_elements.specs.declared.place.Brackets.TheVariants.{Curly, Square}
 use Rattle.haya_slices.specs.Layout.{list_text}
 use Rattle.haya_source.proofs.laws.all_elements_say_the_value.Goals as goal
 

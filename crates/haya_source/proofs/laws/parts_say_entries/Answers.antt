@@ -2,8 +2,9 @@ use Rattle.std.proofs.Common.{ℕ, List}
 use Rattle.haya_entry.specs.Tree.{Tree}
 use Rattle.haya_source.specs.Elements.{Describes, IsDivided}
 use Rattle.haya_source.specs.declared.kind.ElementKind.{ElementKind}
-use Rattle.haya_source.specs.declared.kind.ElementKind.TheVariants.{Items, JsonLines, Lines, Members}
+use Rattle.haya_source.specs.declared.kind.ElementKind.TheVariants.{Items, JsonLines, Lines, Members, Yaml}
 use Rattle.haya_source.proofs.Divided.{HaveSaid, entries_divided, items_divided, lines_divided, members_divided}
+use Rattle.haya_source.proofs.Yaml.{yaml_divided}
 use Rattle.haya_source.proofs.laws.parts_say_entries.Goals as goal
 
 pub returns : goal.returns
@@ -23,3 +24,6 @@ returns c = by
     by Lines text parts library are describes =
         entries_divided text parts library
         (λ entries rows. c.parts_are_entries.ensures text parts entries are rows) describes
+    by Yaml text parts library are describes =
+        yaml_divided text parts are.same.members library are.same.said
+        (λ ms. c.parts_are_members.ensures.each text parts ms are.same) describes

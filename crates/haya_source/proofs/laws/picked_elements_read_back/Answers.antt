@@ -1,7 +1,9 @@
-use Rattle.haya_elements.specs.declared.place.Brackets.TheVariants.{Curly, Square}
+use Rattle.haya_json_elements.specs.declared.place.Brackets.TheVariants.{Curly, Square}
 use Rattle.haya_slices.specs.Layout.{IsElement, list_text}
 use Rattle.haya_source.specs.Elements.{parts_of}
 use Rattle.haya_source.proofs.Divided.{items_back, members_back, picked_elements}
+use Rattle.haya_source.proofs.Says.{all_contained}
+use Rattle.haya_source.proofs.Yaml.{SaysEntry, yaml_back}
 use Rattle.haya_source.proofs.laws.picked_elements_read_back.Goals as goal
 
 pub returns-clause-items : goal.returns-clause-items
@@ -21,3 +23,9 @@ returns-clause-members c text es picked are among distinct =
     members_back text printed es picked
     (λ ms. c.slices_make_documents.ensures.members printed (parts_of picked) ms laid)
     are among distinct
+
+pub returns-clause-yaml : goal.returns-clause-yaml
+returns-clause-yaml c text es picked printed are among distinct is =
+    yaml_back printed is.same.members picked is.same.said
+    (λ ms. c.parts_are_members.ensures.text printed (parts_of picked) ms is.same)
+    (all_contained (λ e. SaysEntry e.0 e.1) es picked among are.each) distinct

@@ -1,4 +1,4 @@
-use Rattle.std.proofs.Common.{◌≡◌, ◌<◌, None, Some, length, subst, ◌∙◌, arith}
+use Rattle.std.proofs.Common.{◌<◌, length, subst, ◌∙◌, arith}
 use Rattle.haya_selectors.specs.Applied.{AreBindings}
 use Rattle.haya_views.specs.Hits.{IsFoundAt}
 use Rattle.haya_views.proofs.NextHits.{found, missed}

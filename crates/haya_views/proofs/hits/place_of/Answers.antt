@@ -1,10 +1,8 @@
-use Rattle.std.proofs.Common.{◌≡◌, ℕ, ◌<◌, ◌+◌, Some, true, length, map, ap, sym, subst, ◌∙◌, below_more, arith}
-use Rattle.std.specs.Borrow.{Bor}
-use Rattle.std.specs.Prelude.{option_map, slice_get, unwrap_or}
+use Rattle.std.proofs.Common.{◌≡◌, ◌<◌, Some, length, map, ap, sym, subst, ◌∙◌, below_more, arith}
+use Rattle.std.specs.Prelude.{slice_get, unwrap_or}
 use Rattle.std.proofs.lemmas.List.{length-map}
-use Rattle.std.proofs.lemmas.Option.{slice_get-get_or, slice_get-map, slice_get_within}
-use Rattle.haya_entry.specs.Tree.{Tree, view}
-use Rattle.haya_entry.specs.declared.entry.Entry.{Entry}
+use Rattle.std.proofs.lemmas.Option.{slice_get_within}
+use Rattle.haya_entry.specs.Tree.{view}
 use Rattle.haya_views.proofs.Orders.{seen, seen_item}
 use Rattle.haya_views.proofs.hits.place_of.Goals as goal
 

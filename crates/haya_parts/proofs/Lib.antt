@@ -1,0 +1,4 @@
+mod LineEnds
+mod Lists
+mod Moving
+mod Stopping

@@ -1,0 +1,4 @@
+pub mod Answered
+pub mod Divided
+pub mod LineParts
+pub mod ListParts

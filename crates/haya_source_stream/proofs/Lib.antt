@@ -1,0 +1,4 @@
+mod Hits
+mod Inputs
+mod Texts
+mod Turns

@@ -1,0 +1,6 @@
+pub mod Answers
+pub mod Asked
+pub mod Enough
+pub mod Kinds
+pub mod Parts
+pub mod Printed
