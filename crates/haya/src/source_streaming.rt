@@ -154,7 +154,7 @@ impl<'o> Elements<'o> {
         };
         let kind = kind_behind(alloc, name, self.form, first, format)?;
         let Some(kind) = StreamedKind::streamed(kind) else {
-            return Err(not_streamed(alloc, name, whole_name(format)));
+            return Err(not_streamed(alloc, name, format.name()));
         };
         if self.asked.is_none() {
             let asker = asker_of(alloc, self.keys, self.options, kind)?;
@@ -199,14 +199,6 @@ fn asker_of<'o>(
     Ok(SourceAsker::new(alloc, keys, asking))
 }
 
-// What a format is called whose elements are printed as they are only where a whole text is there.
-fn whole_name(format: Format) -> &'static str {
-    match format {
-        Format::Lines => "lines to print as they are",
-        _ => format.name(),
-    }
-}
-
 // The fault that the input that is called so is in a format whose elements aren't asked one by one.
 fn not_streamed(alloc: Global, name: &str, format: &'static str) -> CommandError {
     match String::from_str(alloc, name) {
@@ -248,6 +240,9 @@ fn fault_of(alloc: Global, name: &str, fault: StreamError<PartError>) -> Command
         }
         StreamError::Refused(PartError::Line(error)) => {
             CommandError::Input(name, LibraryError::JsonLines(error))
+        }
+        StreamError::Refused(PartError::Lines(error)) => {
+            CommandError::Input(name, LibraryError::Lines(error))
         }
         StreamError::Refused(PartError::OutOfMemory) => CommandError::OutOfMemory,
         StreamError::CannotWrite(fault) => CommandError::from(fault),

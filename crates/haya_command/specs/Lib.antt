@@ -7,6 +7,7 @@ pub mod Printed
 pub mod Reading
 pub mod Run
 pub mod SelectorText
+pub mod BibtexSource
 pub mod Source
 pub mod SourceForm
 pub mod SourceKinds

@@ -17,6 +17,7 @@ use Rattle.haya_source.specs.Elements.{AreElementsOf, Element, Says}
 use Rattle.haya_source.specs.Places.{part_for}
 use Rattle.haya_source.specs.Printed.{IsTextOf}
 use Rattle.haya_source.specs.declared.kind.ElementKind.{ElementKind}
+use Rattle.haya_command.specs.BibtexSource.{AreBibtex, PrintsBibtex, PrintsBibtexPart}
 use Rattle.haya_command.specs.Picks.{wanted}
 use Rattle.haya_command.specs.Reading.{AreReadAs, format_in}
 use Rattle.haya_command.specs.Run.{Prints, Stands}
@@ -114,19 +115,34 @@ pub record PrintsSourcePart (options : Options) (form : SourceForm) (texts : Lis
   pub answers : AnswersSource options form texts (first ++ rest) found
   pub prints : Appends before after first
 
--- what a run leaves on the output that is answered: hits in a form or a table, or elements
+-- what a run leaves on the output that is answered: hits in a form or a table, or elements, or
+-- items of `.bib` texts
 abbrev pub Answered : Option SourceForm → Options → List (List ℕ) → Option (List ℕ)
     → Option (List ℕ) → Bool → Type 0
 Answered None options texts before after found = Prints options texts before after found
 Answered (Some form) options texts before after found =
     PrintsSource options form texts before after found
+    ⊎ ((form ≡ Source) × AreBibtex options texts × PrintsBibtex options texts before after found)
 
--- what one that ends with a fault leaves there: nothing more than was there, or a part
+-- what one leaves there that ends with a fault in front of elements or among them: nothing more
+-- than was there, or a part
+abbrev pub HaltedInSource : SourceForm → Options → List (List ℕ) → Option (List ℕ)
+    → Option (List ℕ) → Type 0
+HaltedInSource form options texts before after =
+    Keeps before after ⊎ PrintsSourcePart options form texts before after
+
+-- the same among items of `.bib` texts
+abbrev pub HaltedInBibtex : Options → List (List ℕ) → Option (List ℕ) → Option (List ℕ) → Type 0
+HaltedInBibtex options texts before after =
+    Keeps before after ⊎ PrintsBibtexPart options texts before after
+
+-- what any one leaves there that ends with a fault
 abbrev pub Halted : Option SourceForm → Options → List (List ℕ) → Option (List ℕ)
     → Option (List ℕ) → Type 0
 Halted None options texts before after = Stands options texts before after
 Halted (Some form) options texts before after =
-    Keeps before after ⊎ PrintsSourcePart options form texts before after
+    HaltedInSource form options texts before after
+    ⊎ ((form ≡ Source) × AreBibtex options texts × HaltedInBibtex options texts before after)
 
 -- ---- faults
 

@@ -129,6 +129,10 @@ pub enum CommandError {
     /// The elements of the hits, one behind the other, say something else than each alone.
     #[error("these entries aren't indented alike: --to keys, lines, hayagriva, yaml or json-lines")]
     NotTogether,
+    /// The entries of the hits, put together, say something else than in their `.bib` texts.
+    #[error("these entries say something else together, as their strings or parents differ: \
+        --to keys, lines, hayagriva, yaml or json-lines")]
+    OtherTogether,
     /// Hits are to be sorted, or told from others that share their values, which can't be said of one
     /// before the last is there.
     #[error("--stream takes no --sort, --unique or --duplicates, which wait for the last entry")]

@@ -3,6 +3,7 @@
 
 mod answering;
 mod asker;
+mod bibtex_answering;
 mod bound;
 mod element_readers;
 mod error;

@@ -5,9 +5,12 @@ ghost use Rattle.std.specs.Io.KnownBytes.{Keeps};
 ghost use Rattle.haya_command.specs.Reading.{texts};
 ghost use Rattle.haya_command.specs.Run.{Prints, Stands};
 ghost use Rattle.haya_command.specs.SelectorText.{IsOneSelector};
-ghost use Rattle.haya_command.specs.Source.{Answered, Halted, PrintsSource};
+ghost use Rattle.haya_command.specs.BibtexSource.{PrintsBibtex};
+ghost use Rattle.haya_command.specs.Source.{Answered, Halted, HaltedInBibtex, HaltedInSource};
+ghost use Rattle.haya_command.specs.Source.{PrintsSource};
 
 use crate::answering::{Answer, ask};
+use crate::bibtex_answering::{are_bibtex, ask_bibtex};
 use crate::error::CommandError;
 use crate::hints::{parents_hint, warnings};
 use crate::notes::fault_text;
@@ -47,7 +50,7 @@ pub fn run<W: Write, E: Write>(
         Keeps (E.contents err.old) (E.contents err.new) }
 {
     let printed = match options.source {
-        Some(form) => print_source(alloc, keys, options, form, inputs, out, err),
+        Some(form) => print_as_source(alloc, keys, options, form, inputs, out, err),
         None => print_answer(alloc, keys, options, inputs, out, err),
     };
     match printed {
@@ -113,6 +116,70 @@ fn print_answer<W: Write, E: Write>(
     Ok(answer.found)
 }
 
+// Prints the answer as the inputs have it, in this form, and says whether an entry is found: by items
+// of `.bib` texts where all are such, and otherwise by elements.
+fn print_as_source<W: Write, E: Write>(
+    alloc: Global,
+    keys: HashKeys,
+    options: &Options,
+    form: SourceForm,
+    inputs: &[Input],
+    out: &mut W,
+    err: &mut E,
+) -> Result<bool, CommandError>
+    ensures answer { IfOk result (λ found. Answered (Some form) options.now (texts inputs.now)
+        (W.contents out.old) (W.contents out.new) found) }
+    ensures fault { OnErr result (Halted (Some form) options.now (texts inputs.now)
+        (W.contents out.old) (W.contents out.new)) }
+    ensures alone { OnOk result (IsOneSelector (string_bytes options.now.selector)) }
+    ensures quiet { IsTrue options.now.quiet →
+        Keeps (E.contents err.old) (E.contents err.new) }
+{
+    if let SourceForm::Source = form {
+        if are_bibtex(alloc, options, inputs)? {
+            return match print_bibtex(alloc, keys, options, inputs, out, err) {
+                Ok(found) => Ok(found),
+                Err(fault) => Err(fault),
+            };
+        }
+    }
+    match print_source(alloc, keys, options, form, inputs, out, err) {
+        Ok(found) => Ok(found),
+        Err(fault) => Err(fault),
+    }
+}
+
+// Prints the answer as `.bib` inputs have it, and says whether an entry is found.
+fn print_bibtex<W: Write, E: Write>(
+    alloc: Global,
+    keys: HashKeys,
+    options: &Options,
+    inputs: &[Input],
+    out: &mut W,
+    err: &mut E,
+) -> Result<bool, CommandError>
+    ensures answer { IfOk result (λ found. PrintsBibtex options.now (texts inputs.now)
+        (W.contents out.old) (W.contents out.new) found) }
+    ensures fault { OnErr result (HaltedInBibtex options.now (texts inputs.now)
+        (W.contents out.old) (W.contents out.new)) }
+    ensures alone { OnOk result (IsOneSelector (string_bytes options.now.selector)) }
+    ensures quiet { IsTrue options.now.quiet →
+        Keeps (E.contents err.old) (E.contents err.new) }
+{
+    check_selector(alloc, options.selector.as_str())?;
+    let Collected { library, told } = read_inputs(alloc, keys, options, inputs)?;
+    let asked = ask_bibtex(alloc, keys, &library, options, inputs);
+    let hint = hint_for(alloc, options, &library, &asked);
+    mem::forget(library);
+    let Answer { text, found, .. } = asked?;
+    let notes = told_text(alloc, told.as_slice())?;
+    tell_notes(options, notes.as_str(), err);
+    warn(alloc, options, err);
+    tell_notes(options, hint.as_str(), err);
+    write_text(out, text.as_str())?;
+    Ok(found)
+}
+
 // Prints the answer as the inputs have it, in this form, and says whether an entry is found.
 fn print_source<W: Write, E: Write>(
     alloc: Global,
@@ -125,7 +192,7 @@ fn print_source<W: Write, E: Write>(
 ) -> Result<bool, CommandError>
     ensures answer { IfOk result (λ found. PrintsSource options.now form (texts inputs.now)
         (W.contents out.old) (W.contents out.new) found) }
-    ensures fault { OnErr result (Halted (Some form) options.now (texts inputs.now)
+    ensures fault { OnErr result (HaltedInSource form options.now (texts inputs.now)
         (W.contents out.old) (W.contents out.new)) }
     ensures alone { OnOk result (IsOneSelector (string_bytes options.now.selector)) }
     ensures quiet { IsTrue options.now.quiet →

@@ -5,7 +5,8 @@ use std::fmt;
 /// Why the entries of a text aren't printed as it has them.
 #[derive(Clone, Copy, Debug, Drop, PartialEq, Eq)]
 pub enum SourceError {
-    /// The entries of texts in this format can't be told apart.
+    /// The entries of texts in this format aren't printed as they come, since a later one may say more
+    /// of them.
     NoSource(Format),
     /// The text is in this format, and items of CSL-JSON are asked for.
     NoItems(Format),
@@ -21,7 +22,7 @@ impl fmt::Display for SourceError {
         match self {
             SourceError::NoSource(format) => {
                 let name = format.name();
-                write!(f, "--to source prints no {name}: {}", MADE)
+                write!(f, "--stream prints no {name} as it is: leave it out")
             }
             SourceError::NoItems(format) => {
                 let name = format.name();

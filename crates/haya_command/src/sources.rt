@@ -50,8 +50,12 @@ pub(crate) fn kind_of_inputs(
     Ok(kind)
 }
 
-// The format of an input.
-fn format_of(alloc: Global, options: &Options, input: &Input) -> Result<Format, OutOfMemory>
+/// The format of an input.
+pub(crate) fn format_of(
+    alloc: Global,
+    options: &Options,
+    input: &Input,
+) -> Result<Format, OutOfMemory>
     ensures { IfOk result (λ format.
         format ≡ format_in options.now (string_bytes input.now.text)) }
 {
@@ -100,8 +104,8 @@ pub(crate) fn no_kind(form: SourceForm, format: Format) -> SourceError
     }
 }
 
-// The fault of an input that this is the error of.
-fn source_fault(alloc: Global, input: &Input, error: SourceError) -> CommandError
+/// The fault of an input that this is the error of.
+pub(crate) fn source_fault(alloc: Global, input: &Input, error: SourceError) -> CommandError
     ensures { (result ≡ CommandError.OutOfMemory) ⊎ IsSourceFault error input.now result }
 {
     match String::from_str(alloc, input.name.as_str()) {

@@ -11,11 +11,11 @@ use Rattle.haya_line_slices.specs.Scan.{EndsAt, IsEnd, IsPartedTo, behind_first}
 use Rattle.haya_line_slices.proofs.FirstLines.{IsSome, NoneWithin, all-lines, lines-some, none-later}
 use Rattle.haya_line_slices.proofs.Starts.{begins-line, begins-none, first_of}
 
-last-behind : (xs : List ℕ) (x : ℕ) (o : _) → last_or o (xs ++ x ∷ []) ≡ Some x
+pub last-behind : (xs : List ℕ) (x : ℕ) (o : _) → last_or o (xs ++ x ∷ []) ≡ Some x
 last-behind [] x o = refl
 last-behind (y ∷ xs) x o = last-behind xs x (Some y)
 
-drop-all : (xs : List ℕ) → drop (length xs) xs ≡ []
+pub drop-all : (xs : List ℕ) → drop (length xs) xs ≡ []
 drop-all [] = refl
 drop-all (x ∷ xs) = drop-all xs
 
@@ -159,6 +159,13 @@ one-more text ps rest n parted long e = record {
     begins : (rest ≡ []) ⊎ (begins_entry rest ≡ true) → begins_entry rest ≡ true
     begins (inl none) = absurd (let l = ap length none in omega (arith, l, long))
     begins (inr h) = h
+
+-- the front stays
+pub front-stays : (text : List ℕ) (ps : List (List ℕ)) (rest : List ℕ) (n : ℕ)
+    (parted : IsPartedTo text ps rest) (long : 0 < length rest) (e : EndsAt rest n)
+    → (one-more text ps rest n parted long e).front ≡ parted.front
+unfolding one-more
+front-stays text ps rest n parted long e = refl
 
 pub all-parted : (text : List ℕ) (ps : List (List ℕ)) (rest : List ℕ) → IsPartedTo text ps rest → rest ≡ []
     → AreEntryParts text ps

@@ -265,3 +265,13 @@ parts-list text parts entries are h =
     let skipped = front-skipped 1 (lines are.front) (flat_map lines parts) _ are.before
     (ap (rows_read 1 0) (sym are.whole) ∙ h) in
     entries-of-parts parts skipped.0 0 entries are.each skipped.1
+
+-- ---- a line alone
+
+-- a line that begins no entry lists none
+pub none-listed : (line : List ℕ) (entry : Tree) → lines line ≡ line ∷ [] → begins_entry line ≡ false
+    → IsEntryOf line entry → ⊥
+none-listed line (node f ps) one none h =
+    let skipped = front-skipped 1 (line ∷ []) [] _ (none, tt) (ap (rows_read 1 0) (sym one) ∙ h) in
+    let same = ok-rows [] _ skipped.1 in
+    cc (same)

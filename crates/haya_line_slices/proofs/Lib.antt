@@ -1,5 +1,8 @@
 mod Starts
 mod FirstLines
 mod Ends
+mod EntryEnds
 mod Rows
 mod Entries
+pub mod PlainLines
+mod EntryRows

@@ -1,3 +1,4 @@
+pub mod Coming
 pub mod EntryLines
 pub mod Printed
 pub mod Scan

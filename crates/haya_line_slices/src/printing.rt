@@ -17,8 +17,8 @@ pub fn entries_text(alloc: Global, parts: &[&str]) -> Result<String, AllocError>
     Ok(text)
 }
 
-// Puts an entry behind a text.
-fn push_entry(text: &mut String, part: &str) -> Result<(), AllocError>
+/// Puts an entry behind a text, as it is. A line feed is put behind one that has none at its end.
+pub fn push_entry(text: &mut String, part: &str) -> Result<(), AllocError>
     ensures { OnOk result
         (string_bytes text.new ≡ string_bytes text.old ++ (part.now ++ end_for part.now)) }
 {

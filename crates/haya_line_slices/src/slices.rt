@@ -44,7 +44,7 @@ fn push<'t>(slices: &mut Vec<&'t str>, slice: &'t str) -> Result<(), AllocError>
 }
 
 // How many bytes there are up to the next line that begins an entry, the first line aside.
-fn entry_len(bytes: &[u8]) -> usize
+pub(crate) fn entry_len(bytes: &[u8]) -> usize
     ensures { EndsAt bytes.now result }
 {
     let mut at = 0;

@@ -1,4 +1,4 @@
-mod LineEnds
+pub mod LineEnds
 mod Lists
 mod Moving
 mod Stopping

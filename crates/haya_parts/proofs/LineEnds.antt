@@ -69,7 +69,7 @@ none_taken : (bytes : List ℕ) → HasNoFeed (take 0 bytes)
 none_taken bytes = λ k d within. absurd (omega arith)
 
 -- bytes without a line feed are a line
-held_line : (piece : List ℕ) → HasNoFeed piece → 0 < length piece → lines piece ≡ piece ∷ []
+pub held_line : (piece : List ℕ) → HasNoFeed piece → 0 < length piece → lines piece ≡ piece ∷ []
 held_line [] none some = absurd (omega arith)
 held_line (b ∷ piece) none some =
     let long : (length (b ∷ piece) == 0) ≡ false = grind (arith, nat_tests) in

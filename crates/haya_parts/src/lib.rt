@@ -14,6 +14,6 @@ mod parts;
 
 pub use divider::{Divider, Last, Next, Split};
 pub use enclosed::{Enclosed, InCurly, InSquare};
-pub use line_parts::LineParts;
+pub use line_parts::{LineParts, line_end, without_return};
 pub use list_parts::ListParts;
 pub use parts::answer_parts;

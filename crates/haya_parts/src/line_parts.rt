@@ -25,8 +25,8 @@ impl LineParts {
     }
 }
 
-// The place of the first line feed, of which there is none in so many of the first bytes.
-fn line_end(held: &[u8], looked: usize) -> Option<usize>
+/// The place of the first line feed, of which there is none in so many of the first bytes.
+pub fn line_end(held: &[u8], looked: usize) -> Option<usize>
     requires within { looked ≤ length held.now }
     requires none { HasNoFeed (take looked held.now) }
     ensures feed { IfSome result (IsLineEnd held.now) }
@@ -39,8 +39,8 @@ fn line_end(held: &[u8], looked: usize) -> Option<usize>
     }
 }
 
-// The line without the carriage return at its end, if it has one.
-fn without_return(line: &[u8]) -> &[u8]
+/// The line without the carriage return at its end, if it has one.
+pub fn without_return(line: &[u8]) -> &[u8]
     ensures { result.now ≡ strip_carriage_return line.now }
 {
     match line.split_last() {

@@ -1,30 +1,55 @@
 -- What parts that are answered say of an input.
-use Rattle.std.proofs.Common.{◌≡◌, ◌⊎◌, inl, inr, ℕ, ◌==◌, false, cond, List, [], ◌∷◌, ◌++◌, Option, length, refl, sym, ap, ◌∙◌, subst, arith}
+use Rattle.std.proofs.Common.{◌≡◌, ◌⊎◌, inl, inr, ℕ, ◌==◌, false, cond, List, [], ◌∷◌, ◌++◌, ◌+◌, Option, length, refl, zero-add, sym, ap, ◌∙◌, subst, arith}
 use Rattle.std.specs.Prelude.{not}
 use Rattle.std.specs.List.{AllByRecursion}
 use Rattle.std.proofs.lemmas.Bool.Decides.{nat_tests}
-use Rattle.std.proofs.lemmas.List.{length-map}
+use Rattle.std.proofs.lemmas.List.Elements.{filter-append}
 use Rattle.haya_json_elements.specs.Elements.{nonempty_lines}
 use Rattle.haya_json_elements.specs.declared.place.Brackets.{Brackets}
 use Rattle.haya_json.proofs.NotesKept.{kept_from_none}
 use Rattle.haya_json.specs.Notes.{all_kept, kept_of, none_kept, notes_view}
 use Rattle.haya_parts.specs.Answered.{AnswersAll, AnswersEnough, AnswersPart as Stopped, AnswersUnwritten, IsWriteFault, Replies, Why as PartWhy, parts_of as reply_parts, printed_of}
 use Rattle.haya_parts.specs.Divided.{Begins, IsRefused}
+use Rattle.std.specs.Str.Lines.{lines}
+use Rattle.haya_line_slices.proofs.PlainLines.{none-in-front}
+use Rattle.haya_line_slices.specs.Coming.{AreLineParts}
+use Rattle.haya_line_slices.specs.EntryLines.{AreEntryParts, IsEntryPart}
 use Rattle.haya_slices.specs.Layout.{IsElement, IsLaidOut}
-use Rattle.haya_source.specs.Elements.{Element, IsDivided, parts_of}
+use Rattle.haya_source.specs.Elements.{Element, IsDivided, SayEntries, parts_of}
+use Rattle.haya_source.specs.declared.kind.ElementKind.TheVariants as element
 use Rattle.haya_source_stream.specs.Asked.{AnswersTurn, AsksFirst, AsksPart, AsksSource, AsksUnwritten, AsksUpTo, IsKept, RefusesTurn, Why}
 use Rattle.haya_source_stream.specs.Kinds.{element_kind}
-use Rattle.haya_source_stream.specs.Parts.{AreParts, BeginParts, IsPartError, IsRefusedPart, parts_told}
+use Rattle.haya_source_stream.specs.Parts.{AreParts, BeginParts, IsPartError, IsRefusedPart, counted, parts_told}
 use Rattle.haya_source_stream.specs.declared.asker.SourceAsker.{SourceAsker}
 use Rattle.haya_source_stream.specs.declared.asking.Asking.{Asking}
 use Rattle.haya_source_stream.specs.declared.error.PartError.{PartError}
 use Rattle.haya_source_stream.specs.declared.kind.StreamedKind.{StreamedKind}
-use Rattle.haya_source_stream.specs.declared.kind.StreamedKind.TheVariants.{Items, JsonLines, Members}
+use Rattle.haya_source_stream.specs.declared.kind.StreamedKind.TheVariants.{Items, JsonLines, Lines, Members}
 use Rattle.haya_line_stream.specs.declared.error.StreamError.{StreamError}
 use Rattle.haya_line_stream.specs.declared.error.StreamError.TheVariants.{CannotRead, CannotWrite, NotText, OutOfMemory, Refused}
 use Rattle.haya_source_stream.proofs.Turns.{Ran, is_done, ran}
 
 -- ---- elements among the parts
+
+-- no entry in lines is empty
+filled_entries : (parts : List (List ℕ)) → AllByRecursion IsEntryPart parts → nonempty_lines parts ≡ parts
+filled_entries [] h = refl
+filled_entries ([] ∷ ps) h = absurd (let clash = h.0.is in cc)
+filled_entries ((x ∷ p) ∷ ps) h =
+    let some : (length (x ∷ p) == 0) ≡ false = grind (arith, nat_tests) in
+    ap (λ c. cond (not c) ((x ∷ p) ∷ nonempty_lines ps) (nonempty_lines ps)) some
+    ∙ ap (λ l. (x ∷ p) ∷ l) (filled_entries ps h.1)
+
+-- the entries of a text in lines are all that its parts say
+entries_divided : (text : List ℕ) (parts : List (List ℕ)) (es : List Element) → AreLineParts text parts
+    → parts_of es ≡ nonempty_lines parts → SayEntries element.Lines es → AreEntryParts text (parts_of es)
+entries_divided text parts es are is each =
+    let front = lines are.are.front in
+    let split : parts_of es ≡ nonempty_lines front ++ are.entries =
+    is ∙ ap nonempty_lines are.all ∙ filter-append (λ line. not (length line == 0)) front are.entries
+    ∙ ap (λ l. nonempty_lines front ++ l) (filled_entries are.entries are.are.each) in
+    let none = none-in-front are.are.front are.are.before es are.entries split each in
+    subst (AreEntryParts text) (sym (split ∙ ap (λ l. l ++ are.entries) none)) are.are
 
 -- no element is empty
 filled : (b : Brackets) (parts : List (List ℕ)) → AllByRecursion (IsElement b) parts
@@ -38,12 +63,13 @@ filled b ((x ∷ p) ∷ ps) h =
 
 divided : (kind : StreamedKind) (text : List ℕ) (parts : List (List ℕ)) (es : List Element)
     → AreParts kind text parts → parts_of es ≡ nonempty_lines parts
-    → IsDivided (element_kind kind) text (parts_of es)
-divided (Items by) text parts es are is =
+    → SayEntries (element_kind kind) es → IsDivided (element_kind kind) text (parts_of es)
+divided (Items by) text parts es are is each =
     subst (IsLaidOut _ text) (sym (is ∙ filled _ parts are.elements)) are
-divided Members text parts es are is =
+divided Members text parts es are is each =
     subst (IsLaidOut _ text) (sym (is ∙ filled _ parts are.elements)) are
-divided JsonLines text parts es are is = is ∙ ap nonempty_lines are
+divided JsonLines text parts es are is each = is ∙ ap nonempty_lines are
+divided Lines text parts es are is each = entries_divided text parts es are is each
 
 -- ---- an input
 
@@ -77,7 +103,7 @@ module _ {D : Type 0} (divides : D → List ℕ → List (List ℕ) → List ℕ
             at_end = a.at_end;
             are = record {
               divided = divided s.asking.kind a.text (reply_parts a.replies) r.es
-                  (whole a.text (reply_parts a.replies) a.are) r.are;
+                  (whole a.text (reply_parts a.replies) a.are) r.are r.each;
               each = r.each;
             };
             asks = r.asks;
@@ -101,7 +127,7 @@ module _ {D : Type 0} (divides : D → List ℕ → List (List ℕ) → List ℕ
             at_end = a.at_end;
             are = record {
               divided = divided s.asking.kind a.text (reply_parts a.replies) r.es
-                  (whole a.text (reply_parts a.replies) a.are) r.are;
+                  (whole a.text (reply_parts a.replies) a.are) r.are r.each;
               each = r.each;
             };
             asks = rw a.parts at r.asks;
@@ -139,14 +165,14 @@ module _ {D : Type 0} (divides : D → List ℕ → List (List ℕ) → List ℕ
         (held : List ℕ) where
       why : (fault : StreamError PartError)
           → PartWhy divides are_parts RefusesTurn d held last t fault
-          → Why s.asking.kind (length (reply_parts replies)) held fault
+          → Why s.asking.kind (counted s.asking.kind (reply_parts replies)) held fault
       why (CannotRead e) w = tt
       why (CannotWrite e) w = tt
       why NotText w = (w.0, refused d held w.0 w.1, w.2)
       why (Refused e) w =
-          let long = length-map replies (λ p. p.0) in
-          let behind : last.number ≡ length (reply_parts replies) =
-          omega (arith, long, number, r.number_is) in (
+          let behind : last.number ≡ counted s.asking.kind (reply_parts replies) =
+          r.number_is ∙ ap (λ n. n + counted s.asking.kind (reply_parts replies)) number
+          ∙ zero-add (counted s.asking.kind (reply_parts replies)) in (
             w.0,
             refused d held w.0 w.1,
             subst (λ n. IsPartError s.asking.kind n w.0 e) behind

@@ -3,13 +3,14 @@ use Rattle.std.proofs.Common.{◌≡◌, ℕ, ◌+◌, ◌==◌, Bool, false, Li
 use Rattle.std.proofs.lemmas.Bool.Decides.{nat_tests}
 use Rattle.haya_json_elements.specs.declared.place.Brackets.{Brackets}
 use Rattle.haya_json_elements.specs.declared.place.Brackets.TheVariants.{Curly, Square}
+use Rattle.haya_line_slices.specs.Printed.{end_for, entries_text}
 use Rattle.haya_lines.specs.Signs.{line_feed}
 use Rattle.haya_slices.specs.Layout.{element_text, end_text, text_from}
 use Rattle.haya_source.specs.Printed.{lines_text, printed_text}
 use Rattle.haya_source_stream.specs.Kinds.{element_kind}
 use Rattle.haya_source_stream.specs.Printed.{part_text, parts_text, tail_text}
 use Rattle.haya_source_stream.specs.declared.kind.StreamedKind.{StreamedKind}
-use Rattle.haya_source_stream.specs.declared.kind.StreamedKind.TheVariants.{Items, JsonLines, Members}
+use Rattle.haya_source_stream.specs.declared.kind.StreamedKind.TheVariants.{Items, JsonLines, Lines, Members}
 
 -- parts behind others
 pub parts_text-append : (kind : StreamedKind) (n : ℕ) (ps qs : List (List ℕ))
@@ -44,6 +45,10 @@ lines_from : (n : ℕ) (ps : List (List ℕ)) → parts_text JsonLines n ps ≡ 
 lines_from n [] = refl
 lines_from n (p ∷ ps) = ap (λ l. (p ++ line_feed ∷ []) ++ l) (lines_from (n + 1) ps)
 
+entries_from : (n : ℕ) (ps : List (List ℕ)) → parts_text Lines n ps ≡ entries_text ps
+entries_from n [] = refl
+entries_from n (p ∷ ps) = ap (λ l. (p ++ end_for p) ++ l) (entries_from (n + 1) ps)
+
 -- all parts, and what is behind them
 pub all_text : (kind : StreamedKind) (ps : List (List ℕ))
     → parts_text kind 0 ps ++ tail_text kind (length ps == 0) ≡ printed_text (element_kind kind) ps
@@ -54,3 +59,4 @@ all_text Members ps =
     ap (λ k. parts_text Members 0 ps ++ tail_text Members (k == 0)) (omega arith)
     ∙ list_from Members Curly (λ f p. refl) (λ e. refl) 0 ps
 all_text JsonLines ps = append-nil (parts_text JsonLines 0 ps) ∙ lines_from 0 ps
+all_text Lines ps = append-nil (parts_text Lines 0 ps) ∙ entries_from 0 ps

@@ -1,10 +1,11 @@
 -- Elements that are asked one after another.
-use Rattle.std.proofs.Common.{◌≡◌, ℕ, ◌+◌, ◌<◌, ◌≤◌, ◌==◌, Bool, true, false, cond, List, [], ◌∷◌, ◌++◌, Option, None, Some, length, length-append, map, refl, sym, ap, ◌∙◌, subst, append-nil, arith}
+use Rattle.std.proofs.Common.{add_assoc, ◌≡◌, ℕ, ◌+◌, ◌<◌, ◌≤◌, ◌==◌, Bool, true, false, cond, List, [], ◌∷◌, ◌++◌, Option, None, Some, length, length-append, map, refl, sym, ap, ◌∙◌, subst, append-nil, arith}
 use Rattle.std.specs.Prelude.{MatchBool, filter, not}
 use Rattle.std.proofs.lemmas.Bool.{or_parts}
 use Rattle.std.proofs.lemmas.Bool.Decides.{nat_tests}
 use Rattle.std.proofs.lemmas.List.{length-map, map-append}
 use Rattle.std.proofs.lemmas.List.Elements.{filter-append}
+use Rattle.std.proofs.lemmas.List.Sums.{sum_by-cons}
 use Rattle.std.proofs.lemmas.Slice.Zip.{AllZip-long}
 use Rattle.hayagriva.proofs.Parts.{AllZip-append}
 use Rattle.hayagriva.specs.Holds.{holds}
@@ -23,7 +24,7 @@ use Rattle.haya_source.specs.Elements.{Element, SayEntries, parts_of}
 use Rattle.haya_source_stream.specs.Asked.{AnswersPart, AnswersTurn, AreFound, AsksElements, Found, TellsElements, TellsHit, found_parts, passing}
 use Rattle.haya_source_stream.specs.Enough.{IsWithin, has_enough, is_told, reaches}
 use Rattle.haya_source_stream.specs.Kinds.{element_kind}
-use Rattle.haya_source_stream.specs.Parts.{PartSays, part_told, parts_told}
+use Rattle.haya_source_stream.specs.Parts.{PartSays, count_of, counted, part_told, parts_told}
 use Rattle.haya_source_stream.specs.Printed.{told_text}
 use Rattle.haya_source_stream.specs.declared.asker.SourceAsker.{SourceAsker}
 use Rattle.haya_source_stream.specs.declared.asking.Asking.{Asking}
@@ -132,7 +133,7 @@ pub record Ran (s t : SourceAsker) (replies : Replies) : Type 0 where
   pub asks : AsksElements s.asking s.hits t.hits es (printed_of replies)
   pub notes : notes_view t.notes
       ≡ all_kept (parts_told s.asking.kind (parts_of es)) (notes_view s.notes)
-  pub number_is : t.number ≡ s.number + length replies
+  pub number_is : t.number ≡ s.number + counted s.asking.kind (reply_parts replies)
   pub same : t.asking ≡ s.asking
 
 none_ran : (s : SourceAsker) → Ran s s []
@@ -170,11 +171,15 @@ module _ (s u t : SourceAsker) (part printed : List ℕ) (replies : Replies)
   rest_each : SayEntries (element_kind s.asking.kind) rest.es
   rest_each = subst (λ x. SayEntries (element_kind x.kind) rest.es) a.same rest.each
 
-  numbers : t.number ≡ s.number + length ((part, printed) ∷ replies)
+  numbers : t.number ≡ s.number + counted s.asking.kind (part ∷ reply_parts replies)
   numbers =
-      let here : u.number ≡ s.number + 1 = a.number in
-      let more : t.number ≡ u.number + length replies = rest.number_is in
-      omega arith
+      let one = count_of s.asking.kind part in
+      let others = counted s.asking.kind (reply_parts replies) in
+      let here : u.number ≡ s.number + one = a.number in
+      let more : t.number ≡ u.number + others =
+      subst (λ x. t.number ≡ u.number + counted x.kind (reply_parts replies)) a.same rest.number_is in
+      more ∙ ap (λ n. n + others) here ∙ add_assoc s.number one others
+      ∙ ap (λ n. s.number + n) (sym (sum_by-cons (count_of s.asking.kind) part (reply_parts replies)))
 
   passed_over : (length part == 0) ≡ true
       → (printed ≡ []) × (u.hits ≡ s.hits) × (notes_view u.notes ≡ notes_view s.notes)

@@ -17,7 +17,7 @@ use Rattle.haya_questions.specs.Test.{test_view}
 use Rattle.haya_source.specs.Elements.{AreElementsOf, Element, SayEntries, parts_of}
 use Rattle.haya_source_stream.specs.Enough.{IsWithin, has_enough}
 use Rattle.haya_source_stream.specs.Kinds.{element_kind}
-use Rattle.haya_source_stream.specs.Parts.{BeginParts, IsOutOfMemory, IsPartError, IsRefusedPart, PartSays, part_told, parts_told}
+use Rattle.haya_source_stream.specs.Parts.{BeginParts, IsOutOfMemory, IsPartError, IsRefusedPart, PartSays, count_of, counted, part_told, parts_told}
 use Rattle.haya_source_stream.specs.Printed.{told_text}
 use Rattle.haya_source_stream.specs.declared.asker.SourceAsker.{SourceAsker}
 use Rattle.haya_source_stream.specs.declared.asking.Asking.{Asking}
@@ -77,7 +77,7 @@ pub record AnswersPart (s : SourceAsker) (part printed : List ℕ) (t : SourceAs
       ((entry : Tree) × PartSays s.asking.kind part entry
       × TellsElements s.asking s.hits t.hits ((part, entry) ∷ []) printed
       × (notes_view t.notes ≡ all_kept (part_told s.asking.kind part) (notes_view s.notes)))
-  pub number : t.number ≡ s.number + 1
+  pub number : t.number ≡ s.number + count_of s.asking.kind part
   pub same : t.asking ≡ s.asking
 
 abbrev pub AnswersTurn : SourceAsker → Option (List ℕ) → List ℕ → SourceAsker → Type 0
@@ -133,8 +133,8 @@ pub record AsksFirst (asking : Asking) (hits : ℕ) (t : SourceAsker)
   pub same : t.asking ≡ asking
   pub prints : Appends before after printed
 
--- What a fault says of what is held behind so many parts. Nothing is said where memory is out, or a
--- read or a write fails.
+-- What a fault says of what is held behind parts of which so many are counted. Nothing is said where
+-- memory is out, or a read or a write fails.
 abbrev pub Why : StreamedKind → ℕ → List ℕ → StreamError PartError → Type 0
 Why kind n held (CannotRead e) = Unit {0}
 Why kind n held (CannotWrite e) = Unit {0}
@@ -164,7 +164,7 @@ pub record AsksUpTo (asking : Asking) (hits : ℕ) (t : SourceAsker)
   pub read : Consumes unread left text
   pub begin : BeginElements asking.kind text es held
   pub asks : AsksElements asking hits count es (written ++ unwritten)
-  pub why : Why asking.kind (length begin.parts) held fault
+  pub why : Why asking.kind (counted asking.kind begin.parts) held fault
   pub kept : IsKept asking.kind (parts_of es) (notes_view t.notes) fault
   pub all_written : IsUnwritten unwritten fault
   pub prints : Appends before after written

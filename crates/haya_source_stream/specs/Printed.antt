@@ -1,18 +1,20 @@
 -- What is printed of elements as they come.
 use Rattle.std.specs.Prelude.{ℕ, ◌+◌, ◌==◌, Bool, List, [], ◌∷◌, ◌++◌, decimal}
 use Rattle.haya_json_elements.specs.declared.place.Brackets.TheVariants.{Curly, Square}
+use Rattle.haya_line_slices.specs.Printed.{end_for}
 use Rattle.haya_lines.specs.Signs.{line_feed}
 use Rattle.haya_slices.specs.Layout.{element_text, end_text}
 use Rattle.haya_source_stream.specs.declared.asking.Shown.{Shown}
 use Rattle.haya_source_stream.specs.declared.asking.Shown.TheVariants.{Elements, Nothing, Number}
 use Rattle.haya_source_stream.specs.declared.kind.StreamedKind.{StreamedKind}
-use Rattle.haya_source_stream.specs.declared.kind.StreamedKind.TheVariants.{Items, JsonLines, Members}
+use Rattle.haya_source_stream.specs.declared.kind.StreamedKind.TheVariants.{Items, JsonLines, Lines, Members}
 
 -- an element, the first that is printed or a later one
 abbrev pub part_text : StreamedKind → Bool → List ℕ → List ℕ
 part_text (Items by) is_first part = element_text Square is_first part
 part_text Members is_first part = element_text Curly is_first part
 part_text JsonLines is_first part = part ++ line_feed ∷ []
+part_text Lines is_first part = part ++ end_for part
 
 -- elements, behind so many that are printed
 abbrev pub parts_text : StreamedKind → ℕ → List (List ℕ) → List ℕ
@@ -24,6 +26,7 @@ abbrev pub tail_text : StreamedKind → Bool → List ℕ
 tail_text (Items by) is_empty = end_text Square is_empty
 tail_text Members is_empty = end_text Curly is_empty
 tail_text JsonLines is_empty = []
+tail_text Lines is_empty = []
 
 -- what is printed of elements, behind so many
 abbrev pub told_text : Shown → StreamedKind → ℕ → List (List ℕ) → List ℕ

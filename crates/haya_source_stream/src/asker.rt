@@ -9,7 +9,7 @@ ghost use Rattle.haya_source_stream.specs.Printed.{told_text};
 use crate::asking::{Asking, Shown};
 use crate::error::PartError;
 use crate::printing::push_part;
-use crate::reading::read_part;
+use crate::reading::{count_of, read_part};
 use haya_asked::passes;
 use haya_json::Notes;
 use haya_line_stream::Answerer;
@@ -27,7 +27,8 @@ pub struct SourceAsker<'q> {
     pub asking: Asking<'q>,
     /// How many hits there were that are asked for.
     pub hits: usize,
-    /// How many parts of the input were taken: elements, and lines that are empty.
+    /// How many parts of the input were taken, elements and lines that are empty; of entries in
+    /// lines how many lines.
     pub number: usize,
     // What an element is read in.
     scratch: Scratch,
@@ -148,7 +149,7 @@ impl<'q> Answerer for SourceAsker<'q> {
 
     fn answer(&mut self, part: &str, printed: &mut String) -> Result<(), PartError> {
         let place = self.number;
-        let Some(number) = place.checked_add(1) else {
+        let Some(number) = place.checked_add(count_of(self.asking.kind, part)) else {
             return Err(PartError::OutOfMemory);
         };
         self.number = number;

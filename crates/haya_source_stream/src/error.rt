@@ -1,5 +1,6 @@
 //! Why an element isn't asked.
 use haya_json::{ElementError, JsonLineError};
+use haya_line_library::InputError;
 use haya_text::OutOfMemory;
 
 /// Why an element isn't asked.
@@ -7,8 +8,10 @@ use haya_text::OutOfMemory;
 pub enum PartError {
     /// It is an item, or a member, that says no entry.
     Element(ElementError),
-    /// It is a line that says none.
+    /// It is a line of JSON that says none.
     Line(JsonLineError),
+    /// It is lines of which one has this fault, by its number in the input.
+    Lines(InputError),
     /// An allocation failed that isn't told by the errors above.
     OutOfMemory,
 }

@@ -14,6 +14,8 @@ pub enum StreamedKind {
     Members,
     /// Lines of JSON.
     JsonLines,
+    /// Entries in lines, each with those of its parents.
+    Lines,
 }
 
 impl StreamedKind {
@@ -25,6 +27,7 @@ impl StreamedKind {
             ElementKind::Items(by) => Some(StreamedKind::Items(by)),
             ElementKind::Members => Some(StreamedKind::Members),
             ElementKind::JsonLines => Some(StreamedKind::JsonLines),
+            ElementKind::Lines => Some(StreamedKind::Lines),
             _ => None,
         }
     }

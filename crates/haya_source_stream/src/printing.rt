@@ -5,6 +5,7 @@ ghost use Rattle.haya_source_stream.specs.Printed.{last_text, part_text, tail_te
 use crate::asking::Shown;
 use crate::kind::StreamedKind;
 use haya_json_elements::Brackets;
+use haya_line_slices::push_entry;
 use haya_slices::{push_element, push_end};
 use haya_text::OutOfMemory;
 use std::alloc::Global;
@@ -23,6 +24,7 @@ pub(crate) fn push_part(
         StreamedKind::Items(_) => push_element(text, Brackets::Square, is_first, part)?,
         StreamedKind::Members => push_element(text, Brackets::Curly, is_first, part)?,
         StreamedKind::JsonLines => push_line(text, part)?,
+        StreamedKind::Lines => push_entry(text, part)?,
     }
     Ok(())
 }
@@ -61,7 +63,7 @@ fn tail(alloc: Global, kind: StreamedKind, is_empty: bool) -> Result<String, Out
     match kind {
         StreamedKind::Items(_) => push_end(&mut text, Brackets::Square, is_empty)?,
         StreamedKind::Members => push_end(&mut text, Brackets::Curly, is_empty)?,
-        StreamedKind::JsonLines => {}
+        StreamedKind::JsonLines | StreamedKind::Lines => {}
     }
     Ok(text)
 }

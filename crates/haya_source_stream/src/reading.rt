@@ -1,18 +1,45 @@
 //! The entry that an element says.
-ghost use Rattle.std.specs.Prelude.{◌≡◌, ◌⊎◌, ◌+◌, ◌<◌, ◌^◌, IfErr, IfOk, OnOk};
+ghost use Rattle.std.specs.Prelude.{◌≡◌, ◌⊎◌, ◌+◌, ◌<◌, ◌≤◌, ◌^◌, IfErr, IfOk, OnOk, length};
+ghost use Rattle.std.specs.Str.Lines.{lines};
 ghost use Rattle.hayagriva.specs.Tree.{view};
 ghost use Rattle.haya_json.specs.Notes.{all_kept, notes_view};
-ghost use Rattle.haya_source_stream.specs.Parts.{IsOutOfMemory, IsPartError, PartSays, part_told};
+ghost use Rattle.haya_source_stream.specs.Parts.{IsOutOfMemory, IsPartError, PartSays, count_of, part_told};
 
 use crate::error::PartError;
 use crate::kind::StreamedKind;
 use haya_csl::{ItemKey, read_item_line};
 use haya_json::{ElementError, JsonLineError, Notes, read_entry_line, read_member_line};
+use haya_line_library::InputError;
+use haya_line_slices::read_entry_lines;
 use hayagriva::Entry;
 use json::Scratch;
 use std::alloc::Global;
 
-/// The entry that a part of this kind says, behind so many others. What is lost of it is noted.
+/// How many are counted for a part, as faults have their number: one, or of entries in lines as many
+/// as it has.
+pub(crate) fn count_of(kind: StreamedKind, part: &str) -> usize
+    ensures count { result ≡ count_of kind part.now }
+    ensures some { 1 ≤ result }
+{
+    match kind {
+        StreamedKind::Lines => line_count(part).max(1),
+        StreamedKind::Items(_) | StreamedKind::Members | StreamedKind::JsonLines => 1,
+    }
+}
+
+// How many lines a part has.
+fn line_count(part: &str) -> usize
+    ensures { result ≡ length (lines part.now) }
+{
+    let mut count = 0;
+    'lines: for _ in part.lines() {
+        count += 1;
+    }
+    count
+}
+
+/// The entry that a part of this kind says, behind those of which so many are counted. What is lost
+/// of it is noted.
 pub(crate) fn read_part(
     alloc: Global,
     kind: StreamedKind,
@@ -33,6 +60,7 @@ pub(crate) fn read_part(
         StreamedKind::Items(by) => read_item(alloc, by, place, part, scratch, notes),
         StreamedKind::Members => read_member(alloc, place, part, scratch, notes),
         StreamedKind::JsonLines => read_line(alloc, place, part, scratch, notes),
+        StreamedKind::Lines => read_lines(alloc, place, part),
     }
 }
 
@@ -103,5 +131,20 @@ fn read_line(
     match read_entry_line(alloc, part, scratch, notes) {
         Ok(entry) => Ok(entry),
         Err(error) => Err(PartError::Line(JsonLineError { line, error })),
+    }
+}
+
+// The entry of lines, of which nothing is lost.
+fn read_lines(alloc: Global, place: usize, part: &str) -> Result<Entry, PartError>
+    ensures says { IfOk result (λ entry. PartSays StreamedKind.Lines part.now (view entry)) }
+    ensures error { IfErr result (IsPartError StreamedKind.Lines place part.now) }
+{
+    match read_entry_lines(alloc, part) {
+        Ok(entry) => Ok(entry),
+        Err(InputError::Line(line, error)) => match place.checked_add(line) {
+            Some(number) => Err(PartError::Lines(InputError::Line(number, error))),
+            None => Err(PartError::OutOfMemory),
+        },
+        Err(InputError::OutOfMemory) => Err(PartError::OutOfMemory),
     }
 }

@@ -11,6 +11,7 @@ use crate::asker::SourceAsker;
 use crate::error::PartError;
 use crate::kind::StreamedKind;
 use crate::printing::last;
+use haya_line_slices::EntryParts;
 use haya_line_stream::{StreamError, write_text};
 use haya_parts::{Divider, InCurly, InSquare, LineParts, ListParts, answer_parts};
 use std::io::{Read, Write};
@@ -37,6 +38,7 @@ pub fn ask_elements<R: Read, W: Write>(
         StreamedKind::Items(_) => ask_parts(asker, ListParts::<InSquare>::new(), input, out),
         StreamedKind::Members => ask_parts(asker, ListParts::<InCurly>::new(), input, out),
         StreamedKind::JsonLines => ask_parts(asker, LineParts::new(), input, out),
+        StreamedKind::Lines => ask_parts(asker, EntryParts::new(), input, out),
     }
 }
 

@@ -9,3 +9,7 @@ ask_parts-requires-clause-begin g c = λ d taken held parts begins.
 pub ask_parts-requires-in-Members-clause-begin : goal.ask_parts-requires-in-Members-clause-begin
 ask_parts-requires-in-Members-clause-begin g c = λ d taken held parts begins.
     subst (λ k. BeginParts k taken parts held) (sym c.in-Members.is) (d, begins)
+
+pub ask_parts-requires-in-Lines-clause-begin : goal.ask_parts-requires-in-Lines-clause-begin
+ask_parts-requires-in-Lines-clause-begin g c = λ d taken held parts begins.
+    subst (λ k. BeginParts k taken parts held) (sym c.in-Lines.is) (d, begins)

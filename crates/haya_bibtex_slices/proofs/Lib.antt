@@ -1,0 +1,4 @@
+pub mod InOrder
+pub mod Picked
+pub mod PickedHits
+pub mod PartsOf
