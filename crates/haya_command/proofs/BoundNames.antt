@@ -5,7 +5,7 @@ use Rattle.std.proofs.lemmas.List.{reverse-append}
 use Rattle.std.specs.Option.{option_map_or}
 use Rattle.std.specs.Str.{bytes_eq}
 use Rattle.std.proofs.lemmas.Slice.Eq.{bytes_eq-Decides}
-use Rattle.hayagriva.specs.Binds.{Pairs, binds, binds_on, bound_to, each_binds, first_binds, first_binds_on, last_of, pair_of_first, pairs_at, pairs_at_first}
+use Rattle.hayagriva.specs.Binds.{Pairs, binds, binds_on, each_binds, first_binds, first_binds_on, last_of, pair_of_first, pairs_at}
 use Rattle.hayagriva.specs.Holds.{candidates, holds}
 use Rattle.hayagriva.specs.Places.{at_place}
 use Rattle.hayagriva.specs.Query.{IsHit, hit_bound}

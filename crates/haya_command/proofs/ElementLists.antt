@@ -1,5 +1,5 @@
 -- The elements of an input whose bytes are known, as they are asked.
-use Rattle.std.proofs.Common.{◌≡◌, ◌≢◌, ◌⊎◌, inl, inr, IsTrue, ℕ, Bool, List, [], Option, None, Some, refl, sym, ◌∙◌, subst, append-nil, IsFalse}
+use Rattle.std.proofs.Common.{◌≡◌, ◌≢◌, ◌⊎◌, inl, inr, IsTrue, ℕ, List, [], Option, None, Some, refl, sym, ◌∙◌, subst, append-nil, IsFalse}
 use Rattle.haya_command.specs.Form.{is_library}
 use Rattle.std.specs.List.{AllZip}
 use Rattle.std.specs.Io.KnownBytes.{Consumes, IsAtEnd}
