@@ -1,5 +1,6 @@
 //! A text in lines, divided into its entries as it comes.
-ghost use Rattle.std.specs.Prelude.{◌≡◌, ◌≤◌, ◌<◌, ◌+◌, [], ℕ, List, IfNone, IfSome, IsFalse, IsTrue, length};
+ghost use Rattle.std.specs.Prelude.{◌≡◌, ◌≤◌, ◌<◌, ◌+◌, [], ℕ, List, IfNone, IfSome};
+ghost use Rattle.std.specs.Prelude.{IsFalse, IsTrue, length};
 ghost use Rattle.haya_parts.specs.Divided.{Begins, Begun, IsSplitNext, TakesLast, TakesNext};
 ghost use Rattle.haya_line_slices.specs.Coming.{AreLineParts, EntriesDivide, IsEntryEnd, NeverBefore};
 ghost use Rattle.haya_line_slices.specs.EntryLines.{begins_entry};
