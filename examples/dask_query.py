@@ -31,6 +31,9 @@ except ImportError as lacking:
 # An entry begins behind the first line feed of these bytes.
 ENTRY = {"lines": b"\n0\t", "json-lines": b"\n"}
 
+# How many bytes are read at once.
+PIECE = 1 << 20
+
 
 class Fault(Exception):
     """What ends the run with status 2: a message, or nothing where it was told."""
@@ -69,11 +72,13 @@ def next_entry(file, place, entry):
 
 
 def text_of(part, entry):
-    """A part's whole lines: those of all parts of a file, joined, are the file."""
+    """A part's whole lines, piece by piece: those of all parts of a file, joined, are the file."""
     with part.system.open(part.path, "rb") as file:
         start, end = next_entry(file, part.start, entry), next_entry(file, part.end, entry)
         file.seek(start)
-        return file.read(end - start)
+        while piece := file.read(min(end - start, PIECE)):
+            start += len(piece)
+            yield piece
 
 
 # ---- what a worker does
@@ -82,12 +87,23 @@ def text_of(part, entry):
 Answer = collections.namedtuple("Answer", "status out said lines")
 
 
-def run(command, text=b""):
-    """Runs `haya` over a text. Where it is killed there is no answer, and Dask tries the call again."""
-    ran = subprocess.run(command, input=text, capture_output=True, check=False)
+def new_file():
+    """A file without a name, in memory where the system has such: `haya` reads it in its own blocks, and a pipe in few kilobytes each."""
+    return os.fdopen(os.memfd_create("part"), "w+b") if hasattr(os, "memfd_create") else tempfile.TemporaryFile()
+
+
+def run(command, pieces=()):
+    """Runs `haya` over a text in pieces. Where it is killed there is no answer, and Dask tries the call again."""
+    lines = 0
+    with new_file() as text:
+        for piece in pieces:
+            text.write(piece)
+            lines += piece.count(b"\n")
+        text.seek(0)
+        ran = subprocess.run(command, stdin=text, capture_output=True, check=False)
     if ran.returncode not in (0, 1, 2):
         raise ChildProcessError(f"{command[0]} ended with status {ran.returncode}: {ran.stderr.decode(errors='replace')}")
-    return Answer(ran.returncode, ran.stdout, ran.stderr, text.count(b"\n"))
+    return Answer(ran.returncode, ran.stdout, ran.stderr, lines)
 
 
 def ask(part, entry, command):
@@ -100,7 +116,7 @@ def sort(part, entry, pick, order):
     picked = ask(part, entry, pick)
     if picked.status == 2:
         return picked
-    ordered = of_hits(run(order, picked.out))
+    ordered = of_hits(run(order, [picked.out]))
     return ordered._replace(said=picked.said + ordered.said, lines=picked.lines)
 
 
@@ -126,7 +142,7 @@ def sample(answer, distance):
 
 def choose_marks(order, size, *samples):
     """Of the samples of all parts, in order, those that separate all hits into ranges of about so many bytes."""
-    chosen = run(order, b"".join(hits for _, hits in samples)).out.splitlines()
+    chosen = run(order, (hits for _, hits in samples)).out.splitlines()
     number = min(sum(length for length, _ in samples) // size, len(chosen))
     marks = [json.loads(chosen[len(chosen) * at // (number + 1)]) for at in range(1, number + 1)]
     return [json.dumps(mark | {"key": mark["key"] + "\0"}).encode() + b"\n" for mark in marks]
@@ -138,8 +154,8 @@ def cut(answer, marks, order):
     A mark is a hit with a key that no entry has. It is read first, so in every part it comes before the hits that it ties with.
     """
     hits, marks = answer.out.splitlines(keepends=True), b"".join(marks)
-    marked = set(keys_in(run(order, marks).out))
-    ordered = keys_in(run(order, marks + answer.out).out)
+    marked = set(keys_in(run(order, [marks]).out))
+    ordered = keys_in(run(order, [marks, answer.out]).out)
     if len(ordered) != len(hits) + len(marked):
         raise ValueError("the hits of a part can't be cut: one has the key of a mark")
     pieces, rest = [[]], iter(hits)
@@ -158,7 +174,7 @@ def keys_in(hits):
 
 def merge(command, *pieces):
     """What `haya` prints of sorted pieces in the order of their parts: of hits that tie, the earlier comes first."""
-    return of_hits(run(command, b"".join(pieces)))
+    return of_hits(run(command, pieces))
 
 
 def keys_of(part, entry, command, number):
