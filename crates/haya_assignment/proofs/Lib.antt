@@ -9,3 +9,4 @@ mod Lowering
 mod Ranking
 mod LawsOfLists
 mod InTurn
+mod SameRows

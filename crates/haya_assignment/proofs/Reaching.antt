@@ -1,12 +1,13 @@
 -- Members that a search has reached.
-use Rattle.std.proofs.Common.{◌≡◌, ◌≢◌, ℕ, ◌+◌, ◌<◌, ◌≤◌, Bool, true, false, List, [], ◌∷◌, ◌++◌, length, get_or, set, arith, refl, sym, ◌∙◌, subst, inl, inr, vec_len, below_more, Vec}
+use Rattle.std.proofs.Common.{◌≡◌, ◌≢◌, ℕ, ◌+◌, ◌<◌, ◌≤◌, Bool, true, false, List, [], ◌∷◌, ◌++◌, length, get_or, set, arith, refl, ap, sym, ◌∙◌, subst, inl, inr, vec_len, below_more, Vec}
 use Rattle.std.specs.Prelude.{All, Option, Some, slice_get, replicate}
 use Rattle.std.proofs.lemmas.Bool.{cases_lt, cases_eq}
 use Rattle.std.proofs.lemmas.List.{get_or_append_left, get_or_push, length_push, get_or-set_same, get_or-set_other, length-set, get_or-map, get_or_default, get_or_past, length-replicate, get_or-replicate}
 use Rattle.std.proofs.lemmas.List.Elements.{All-map, Contains-append_left, Contains-push}
 use Rattle.haya_assignment.specs.Assignment.{Table, rows}
 use Rattle.haya_assignment.specs.Placed.{accepts, Grows}
-use Rattle.haya_assignment.specs.Search.{AreLayers, IsClosed, IsReached, IsSearched, IsSearchedBelow}
+use Rattle.haya_assignment.specs.Search.{AreAlike, AreLayers, AreScanned, IsClosed, IsReached, IsSearched, IsSearchedBelow}
+use Rattle.haya_assignment.specs.declared.search.Reached.{Reached}
 use Rattle.haya_assignment.proofs.Numbers.{at_more, at_most, contains_at, contains_grows}
 
 -- ---- the table
@@ -56,6 +57,29 @@ searched_grows A stays end hs ms ms' le g s t j z h ok =
 pub closed_more : (A : ℕ → ℕ → Bool) (stays : List Bool) (hs : List (Option ℕ)) (ms ms' : List ℕ) (i k : ℕ) → Grows ms ms' → ((j : ℕ) → j < k → A i j ≡ true → IsClosed stays hs ms j) → (A i k ≡ true → IsClosed stays hs ms' k) → (j : ℕ) → j < k + 1 → A i j ≡ true → IsClosed stays hs ms' j
 closed_more A stays hs ms ms' i k g below here =
     below_more (λ j. A i j ≡ true → IsClosed stays hs ms' j) k (λ j h ok. closed_grows stays hs ms ms' j g (below j h ok)) here
+
+-- ---- members that are alike
+pub scanned_grows : (A : ℕ → ℕ → Bool) (stays : List Bool) (hs : List (Option ℕ)) (alike : List ℕ) (r r' : Reached)
+    → r'.scanned.items ≡ r.scanned.items → length r'.seen.items ≡ length r.seen.items → Grows r.members.items r'.members.items
+    → AreScanned A stays hs alike r → AreScanned A stays hs alike r'
+scanned_grows A stays hs alike r r' kept long g was = record {
+  as_many = omega (arith, ap length kept, long, was.as_many);
+  closed = λ u j h flag ok. closed_grows stays hs r.members.items r'.members.items j g (was.closed u j h (rw (← kept) flag) ok);
+}
+
+-- the positions were gone through for one more member
+pub scanned_more : (A : ℕ → ℕ → Bool) (stays : List Bool) (hs : List (Option ℕ)) (alike : List ℕ) (r r' : Reached) (m : ℕ)
+    → r'.scanned.items ≡ set r.scanned.items (get_or alike m 0) true → length r'.seen.items ≡ length r.seen.items → r'.members.items ≡ r.members.items
+    → m < length alike → AreAlike A alike → ((j : ℕ) → A m j ≡ true → IsClosed stays hs r.members.items j)
+    → AreScanned A stays hs alike r → AreScanned A stays hs alike r'
+scanned_more A stays hs alike r r' m is long same in_alike likes here was =
+    let like = get_or alike m 0 in record {
+      as_many = omega (arith, ap length is, length-set r.scanned.items like true, long, was.as_many);
+      closed = λ u j h flag ok. rw same (elim (cases_eq (get_or alike u 0) like) [
+        | inl e ↦ here j (sym (likes.same m j in_alike) ∙ (ap (λ k. A k j) (sym e) ∙ (likes.same u j h ∙ ok)))
+        | inr ne ↦ was.closed u j h (sym (get_or-set_other r.scanned.items like (get_or alike u 0) true false ne) ∙ (ap (λ xs. get_or xs (get_or alike u 0) false) (sym is) ∙ flag)) ok
+      ]);
+    }
 
 -- one more member that is searched
 pub searched_more : (A : ℕ → ℕ → Bool) (stays : List Bool) (n : ℕ) (hs : List (Option ℕ)) (ms ms' : List ℕ) → n < length ms → Grows ms ms' → IsSearched A stays n hs ms → ((j : ℕ) → A (get_or ms n 0) j ≡ true → IsClosed stays hs ms' j) → IsSearched A stays (n + 1) hs ms'

@@ -102,3 +102,16 @@ pub record HasFound (A : ℕ → ℕ → Bool) (stays : List Bool) (holders : Li
   pub some : 0 < length before
   pub grown : Grows before r.members.items
   pub searched : IsSearchedBelow A stays bound holders before
+
+-- of each member one up to it that is accepted at the same positions
+pub record AreAlike (A : ℕ → ℕ → Bool) (alike : List ℕ) : Type 0 where
+  pub known : (u : ℕ) → u < length alike → get_or alike u 0 ≤ u
+  pub same : (u j : ℕ) → u < length alike → A (get_or alike u 0) j ≡ A u j
+
+-- the positions are closed where those members are accepted whose like is flagged
+pub record AreScanned (A : ℕ → ℕ → Bool) (stays : List Bool) (holders : List (Option ℕ))
+    (alike : List ℕ) (r : Reached) : Type 0 where
+  pub as_many : length r.scanned.items ≡ length r.seen.items
+  pub closed : (u j : ℕ) → u < length alike →
+      get_or r.scanned.items (get_or alike u 0) false ≡ true → A u j ≡ true →
+      IsClosed stays holders r.members.items j

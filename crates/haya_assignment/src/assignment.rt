@@ -4,8 +4,10 @@ ghost use Rattle.std.specs.Prelude.{length, vec_len};
 ghost use Rattle.haya_assignment.specs.Answer.{IsAnswer, IsCompleted, OnFound};
 ghost use Rattle.haya_assignment.specs.Assignment.{rows, true_positions};
 ghost use Rattle.haya_assignment.specs.Placed.{accepts, IsLeastBelow, IsPlaced};
+ghost use Rattle.haya_assignment.specs.Search.{AreAlike};
 
-use crate::greedy::{take_in_turn, take_last_in_turn};
+use crate::alike::all_alike;
+use crate::greedy::{Order, take_in_turn};
 use crate::place::{place, place_least};
 use crate::ranks::Ranks;
 use haya_entry::Steps;
@@ -53,10 +55,13 @@ fn complete(
     alloc: Global,
     table: &[Vec<bool>],
     parents: usize,
+    alike: &[usize],
     start: Vec<usize>,
     steps: &mut Steps,
 ) -> Result<Assignment, OutOfMemory>
     requires width { All (λ row. vec_len row ≡ parents) table.now }
+    requires likes { length alike.now ≡ length table.now }
+    requires alike { AreAlike (accepts (rows table.now)) alike.now }
     requires fewer { length start.items ≤ length table.now }
     requires placed { IsPlaced (accepts (rows table.now)) start.items }
     ensures answer { IfOk result (IsCompleted (rows table.now) parents) }
@@ -69,7 +74,7 @@ fn complete(
     let mut positions = start;
     'members: for member in positions.len()..table.len() {
         positions.push(0)?;
-        if let Some(reached) = place(alloc, table, parents, member, &mut positions, steps)? {
+        if let Some(reached) = place(alloc, table, parents, alike, member, &mut positions, steps)? {
             return Ok(Assignment::Short(set_places(alloc, &reached)?));
         }
     }
@@ -82,10 +87,13 @@ fn lower(
     alloc: Global,
     table: &[Vec<bool>],
     parents: usize,
+    alike: &[usize],
     positions: &mut [usize],
     steps: &mut Steps,
 ) -> Result<(), OutOfMemory>
     requires width { All (λ row. vec_len row ≡ parents) table.now }
+    requires likes { length alike.now ≡ length table.now }
+    requires alike { AreAlike (accepts (rows table.now)) alike.now }
     requires one_each { length positions.old ≡ length table.now }
     requires placed { IsPlaced (accepts (rows table.now)) positions.old }
     ensures one_each { length positions.new ≡ length table.now }
@@ -97,7 +105,9 @@ fn lower(
 {
     let mut ranks = Ranks::new(alloc, table.len())?;
     'members: for member in 0..table.len() {
-        place_least(alloc, table, parents, member, positions, &mut ranks, steps)?;
+        place_least(
+            alloc, table, parents, alike, member, positions, &mut ranks, steps,
+        )?;
     }
     Ok(())
 }
@@ -107,7 +117,7 @@ fn lower(
 /// assignments the less is the one that gives the first member they place differently the lesser
 /// position. Where there is none, members that are accepted at fewer positions than they are.
 ///
-/// A tick is a look into the table.
+/// A tick is a look into the table. Beside these, each row is compared with at most 16 others.
 ///
 /// # Errors
 ///
@@ -133,14 +143,15 @@ pub fn least_assignment(
     ensures at_most { steps.new ≤ steps.old
         + (length table.now * parents + 1) * (length table.now + parents + 1) }
 {
-    let first = take_in_turn(alloc, table, parents, steps)?;
+    let first = take_in_turn(alloc, table, parents, Order::Ascending, steps)?;
     if first.len() == table.len() {
         return Ok(Assignment::Found(first));
     }
-    let last = take_last_in_turn(alloc, table, parents, steps)?;
-    match complete(alloc, table, parents, longer(first, last), steps)? {
+    let last = take_in_turn(alloc, table, parents, Order::Descending, steps)?;
+    let alike = all_alike(alloc, table)?;
+    match complete(alloc, table, parents, &alike, longer(first, last), steps)? {
         Assignment::Found(mut positions) => {
-            lower(alloc, table, parents, &mut positions, steps)?;
+            lower(alloc, table, parents, &alike, &mut positions, steps)?;
             Ok(Assignment::Found(positions))
         }
         Assignment::Short(members) => Ok(Assignment::Short(members)),

@@ -8,6 +8,7 @@
 //! ```
 #![tactic(auto)]
 
+mod alike;
 mod assignment;
 mod greedy;
 pub mod laws;

@@ -1,10 +1,12 @@
 //! A position for one member, where others make room.
-ghost use Rattle.std.specs.Prelude.{◌≡◌, ◌≢◌, ℕ, Bool, false, List, ◌+◌, ◌*◌, ◌<◌, ◌≤◌};
-ghost use Rattle.std.specs.Prelude.{get_or, length, slice_index, vec_len, All, IfNone, IfOk, IfSome, OnOk};
+ghost use Rattle.std.specs.Prelude.{◌≡◌, ◌≢◌, ℕ, Bool, false, List, [], ◌∷◌, ◌+◌, ◌*◌, ◌<◌, ◌≤◌};
+ghost use Rattle.std.specs.Prelude.{get_or, length, slice_index, vec_len, All, IfNone, IfOk};
+ghost use Rattle.std.specs.Prelude.{IfSome, IsSome, OnOk};
 ghost use Rattle.haya_assignment.specs.Assignment.{rows};
-ghost use Rattle.haya_assignment.specs.Placed.{accepts, IsPlaced, IsPlacedBut, SameBelow};
+ghost use Rattle.haya_assignment.specs.Placed.{accepts, Grows, IsPlaced, IsPlacedBut, SameBelow};
 ghost use Rattle.haya_assignment.specs.Ranked.{AreRanked};
-ghost use Rattle.haya_assignment.specs.Search.{AreHolders};
+ghost use Rattle.haya_assignment.specs.Search.{AreAlike, AreHolders, AreLayers, HasFound};
+ghost use Rattle.haya_assignment.specs.Search.{IsSearchedBelow, Reaches};
 ghost use Rattle.haya_assignment.specs.Shift.{AreKept, IsChain, IsReady, IsStuck};
 
 use crate::ranks::Ranks;
@@ -59,17 +61,88 @@ fn shift(positions: &mut [usize], reached: &Reached, member: usize, at: usize, p
     positions[member] = position;
 }
 
+/// What a search for a position of a member came to.
+#[derive(Drop)]
+struct Sought {
+    // Of each position the other member that had it when the search began.
+    held: Vec<Option<usize>>,
+    reached: Reached,
+    // Of each member reached, up to some, its layer.
+    layer: Vec<usize>,
+    // The place of the member reached that is accepted at a free position, and the position.
+    end: Option<(usize, usize)>,
+}
+
+/// Searches for a position of the member, where the others move but for those that stay.
+fn seek(
+    alloc: Global,
+    table: &[Vec<bool>],
+    parents: usize,
+    alike: &[usize],
+    member: usize,
+    stay: &[bool],
+    positions: &[usize],
+    steps: &mut Steps,
+) -> Result<Sought, OutOfMemory>
+    requires width { All (λ row. vec_len row ≡ parents) table.now }
+    requires likes { length alike.now ≡ length table.now }
+    requires alike { AreAlike (accepts (rows table.now)) alike.now }
+    requires rows { length positions.now ≤ length table.now }
+    requires member_in { member < length positions.now }
+    requires flags { length stay.now ≡ length positions.now }
+    requires placed { IsPlacedBut (accepts (rows table.now)) member positions.now }
+    ensures holders { IfOk result (λ s. AreHolders member parents positions.now s.held.items) }
+    ensures reaches { IfOk result (λ s.
+        Reaches (accepts (rows table.now)) stay.now s.held.items s.reached) }
+    ensures first { IfOk result (λ s. Grows (member ∷ []) s.reached.members.items) }
+    ensures as_long { IfOk result (λ s. length s.reached.seen.items ≡ length positions.now) }
+    ensures found { IfOk result (λ s. IfSome s.end (λ end. HasFound (accepts (rows table.now))
+        stay.now s.held.items s.reached end.0 end.1)) }
+    ensures searched { IfOk result (λ s. IfNone s.end (IsSearchedBelow (accepts (rows table.now))
+        stay.now parents s.held.items s.reached.members.items)) }
+    ensures layered { IfOk result (λ s. AreLayers (accepts (rows table.now)) stay.now
+        s.held.items s.reached.members.items s.layer.items) }
+    ensures low { IfOk result (λ s. (t : ℕ) → t < length s.layer.items →
+        slice_index s.layer.items t < parents) }
+    ensures at_least { IfOk result (λ s. IsSome s.end → steps.old + 1 ≤ steps.new) }
+    ensures onward { steps.old ≤ steps.new }
+    ensures at_most { steps.new ≤ steps.old + length table.now * parents }
+{
+    let held = holders_of(alloc, positions, member, parents)?;
+    let mut reached = Reached::new(alloc, member, positions.len())?;
+    let mut layer = Vec::new(alloc);
+    let end = search(
+        table,
+        parents,
+        stay,
+        &held,
+        alike,
+        &mut reached,
+        &mut layer,
+        steps,
+    )?;
+    Ok(Sought {
+        held,
+        reached,
+        layer,
+        end,
+    })
+}
+
 /// Gives the member a position, where the others move. `None`: it has one. `Some`: of each member
 /// whether it was reached, of members that are too many for their positions.
 pub fn place(
     alloc: Global,
     table: &[Vec<bool>],
     parents: usize,
+    alike: &[usize],
     member: usize,
     positions: &mut [usize],
     steps: &mut Steps,
 ) -> Result<Option<Vec<bool>>, OutOfMemory>
     requires width { All (λ row. vec_len row ≡ parents) table.now }
+    requires likes { length alike.now ≡ length table.now }
+    requires alike { AreAlike (accepts (rows table.now)) alike.now }
     requires rows { length positions.old ≤ length table.now }
     requires member_in { member < length positions.old }
     requires placed { IsPlacedBut (accepts (rows table.now)) member positions.old }
@@ -83,18 +156,11 @@ pub fn place(
     ensures at_most { steps.new ≤ steps.old + length table.now * parents }
 {
     let stays = vec![in alloc; false; positions.len()]?;
-    let holders = holders_of(alloc, positions, member, parents)?;
-    let mut reached = Reached::new(alloc, member, positions.len())?;
-    let mut layers = Vec::new(alloc);
-    match search(
-        table,
-        parents,
-        &stays,
-        &holders,
-        &mut reached,
-        &mut layers,
-        steps,
-    )? {
+    let sought = seek(
+        alloc, table, parents, alike, member, &stays, positions, steps,
+    )?;
+    let reached = sought.reached;
+    match sought.end {
         Some((at, position)) => {
             shift(positions, &reached, member, at, position);
             Ok(None)
@@ -109,12 +175,15 @@ pub fn place_least(
     alloc: Global,
     table: &[Vec<bool>],
     parents: usize,
+    alike: &[usize],
     member: usize,
     positions: &mut [usize],
     ranks: &mut Ranks,
     steps: &mut Steps,
 ) -> Result<(), OutOfMemory>
     requires width { All (λ row. vec_len row ≡ parents) table.now }
+    requires likes { length alike.now ≡ length table.now }
+    requires alike { AreAlike (accepts (rows table.now)) alike.now }
     requires rows { length positions.old ≤ length table.now }
     requires member_in { member < length positions.old }
     requires placed { IsPlaced (accepts (rows table.now)) positions.old }
@@ -132,22 +201,13 @@ pub fn place_least(
     ensures at_most { steps.new ≤ steps.old + length table.now * parents }
 {
     let stays = ranks.below(alloc, member)?;
-    let holders = holders_of(alloc, positions, member, parents)?;
-    let mut reached = Reached::new(alloc, member, positions.len())?;
-    let mut layers = Vec::new(alloc);
-    let found = search(
-        table,
-        parents,
-        &stays,
-        &holders,
-        &mut reached,
-        &mut layers,
-        steps,
+    let sought = seek(
+        alloc, table, parents, alike, member, &stays, positions, steps,
     )?;
-    ranks.rank(member, &reached.members, &layers, parents);
+    ranks.rank(member, &sought.reached.members, &sought.layer, parents);
     ranks.ranks[member] = 0;
-    if let Some((at, position)) = found {
-        shift(positions, &reached, member, at, position);
+    if let Some((at, position)) = sought.end {
+        shift(positions, &sought.reached, member, at, position);
     }
     Ok(())
 }

@@ -1,11 +1,12 @@
 //! The search for a position that a member can have, where others move to make room.
-ghost use Rattle.std.specs.Prelude.{◌≡◌, ℕ, ◌+◌, ◌*◌, ◌<◌, ◌≤◌, true, false, length};
-ghost use Rattle.std.specs.Prelude.{slice_get, slice_index, vec_len, All, IfNone, IfOk, IfSome};
-ghost use Rattle.std.specs.Prelude.{OnOk, IsSome, Some, None};
+ghost use Rattle.std.specs.Prelude.{◌≡◌, ◌⊎◌, ℕ, ◌+◌, ◌*◌, ◌<◌, ◌≤◌, true, false, length};
+ghost use Rattle.std.specs.Prelude.{get_or, slice_index, vec_len, All, IfNone, IfOk};
+ghost use Rattle.std.specs.Prelude.{IfSome, OnOk, IsSome, Some, None};
 ghost use Rattle.haya_assignment.specs.Assignment.{rows};
 ghost use Rattle.haya_assignment.specs.Placed.{accepts, Grows};
-ghost use Rattle.haya_assignment.specs.Search.{AreBelow, AreLayers, HasFound, IsClosed, IsEarly};
-ghost use Rattle.haya_assignment.specs.Search.{IsFree, IsSearched, IsSearchedBelow, Reaches};
+ghost use Rattle.haya_assignment.specs.Search.{AreAlike, AreBelow, AreLayers, AreScanned};
+ghost use Rattle.haya_assignment.specs.Search.{HasFound, IsClosed, IsEarly, IsFree, IsSearched};
+ghost use Rattle.haya_assignment.specs.Search.{IsSearchedBelow, Reaches};
 
 use haya_entry::Steps;
 use haya_text::OutOfMemory;
@@ -37,6 +38,8 @@ pub struct Reached {
     pub from: Vec<usize>,
     // For each member of the table whether it was reached.
     pub seen: Vec<bool>,
+    // For each whether the positions were gone through for it, or for one like it.
+    pub scanned: Vec<bool>,
 }
 
 impl Reached {
@@ -49,6 +52,7 @@ impl Reached {
         ensures members { IfOk result (λ r. r.members.items ≡ member ∷ []) }
         ensures from { IfOk result (λ r. r.from.items ≡ 0 ∷ []) }
         ensures seen { IfOk result (λ r. r.seen.items ≡ set (replicate count false) member true) }
+        ensures scanned { IfOk result (λ r. r.scanned.items ≡ replicate count false) }
     {
         let mut members = Vec::new(alloc);
         members.push(member)?;
@@ -60,6 +64,7 @@ impl Reached {
             members,
             from,
             seen,
+            scanned: vec![in alloc; false; count]?,
         })
     }
 
@@ -71,12 +76,25 @@ impl Reached {
         ensures from { OnOk result (self.new.from.items ≡ self.old.from.items ++ from ∷ []) }
         ensures seen { OnOk result
             (self.new.seen.items ≡ set self.old.seen.items member true) }
+        ensures scanned { self.new.scanned.items ≡ self.old.scanned.items }
     {
         self.members.push(member)?;
         self.from.push(from)?;
         self.seen[member] = true;
         Ok(())
     }
+}
+
+/// Whether the member can move, and wasn't reached yet.
+fn is_open(stays: &[bool], reached: &Reached, member: usize) -> bool
+    requires flag { member < length stays.now }
+    requires known { member < length reached.now.seen.items }
+    ensures moves { result ≡ true → get_or stays.now member false ≡ false }
+    ensures new { result ≡ true → get_or reached.now.seen.items member false ≡ false }
+    ensures which { result ≡ false → (get_or stays.now member false ≡ true)
+        ⊎ (get_or reached.now.seen.items member false ≡ true) }
+{
+    !stays[member] && !reached.seen[member]
 }
 
 /// Whether the position is free, and the member reached at the place `at` accepted there. Where
@@ -103,6 +121,7 @@ fn try_position(
         (Reaches (accepts (rows table.now)) stays.now holders.now reached.new) }
     ensures grows { OnOk result (Grows reached.old.members.items reached.new.members.items) }
     ensures as_long { OnOk result (length reached.new.seen.items ≡ length reached.old.seen.items) }
+    ensures scanned { reached.new.scanned.items ≡ reached.old.scanned.items }
     ensures early { (bound : ℕ) → (at ≡ 0 → position < bound) →
         IsEarly bound holders.now reached.old →
         OnOk result (IsEarly bound holders.now reached.new) }
@@ -116,18 +135,13 @@ fn try_position(
     ensures at_most { steps.new ≤ steps.old + 1 }
 {
     let member = reached.members[at];
-    match holders[position] {
-        None => Ok(look(table, parents, member, position, steps)),
-        Some(other) => {
-            if !stays[other]
-                && !reached.seen[other]
-                && look(table, parents, member, position, steps)
-            {
-                reached.push(other, at)?;
-            }
-            Ok(false)
-        }
+    let Some(other) = holders[position] else {
+        return Ok(look(table, parents, member, position, steps));
+    };
+    if is_open(stays, reached, other) && look(table, parents, member, position, steps) {
+        reached.push(other, at)?;
     }
+    Ok(false)
 }
 
 /// Goes through the positions for the member reached at the place `at`, up to one that is free
@@ -153,6 +167,7 @@ fn scan(
         (Reaches (accepts (rows table.now)) stays.now holders.now reached.new) }
     ensures grows { OnOk result (Grows reached.old.members.items reached.new.members.items) }
     ensures as_long { OnOk result (length reached.new.seen.items ≡ length reached.old.seen.items) }
+    ensures scanned { reached.new.scanned.items ≡ reached.old.scanned.items }
     ensures early { (bound : ℕ) → IsEarly bound holders.now reached.old →
         OnOk result (IsEarly bound holders.now reached.new) }
     ensures free { IfOk result (λ o. IfSome o (λ position. IsFree (accepts (rows table.now))
@@ -172,6 +187,57 @@ fn scan(
     Ok(None)
 }
 
+/// The same, unless the positions were gone through for a member like it.
+fn scan_once(
+    table: &[Vec<bool>],
+    parents: usize,
+    stays: &[bool],
+    holders: &[Option<usize>],
+    alike: &[usize],
+    reached: &mut Reached,
+    at: usize,
+    steps: &mut Steps,
+) -> Result<Option<usize>, OutOfMemory>
+    requires width { All (λ row. vec_len row ≡ parents) table.now }
+    requires as_many { length holders.now ≡ parents }
+    requires rows { length reached.old.seen.items ≤ length table.now }
+    requires held { AreBelow (length reached.old.seen.items) holders.now }
+    requires flags { length stays.now ≡ length reached.old.seen.items }
+    requires likes { length alike.now ≡ length table.now }
+    requires alike { AreAlike (accepts (rows table.now)) alike.now }
+    requires at_in { at < length reached.old.members.items }
+    requires later { 0 < at }
+    requires reaches { Reaches (accepts (rows table.now)) stays.now holders.now reached.old }
+    requires scanned { AreScanned (accepts (rows table.now)) stays.now holders.now alike.now
+        reached.old }
+    ensures reaches { OnOk result
+        (Reaches (accepts (rows table.now)) stays.now holders.now reached.new) }
+    ensures grows { OnOk result (Grows reached.old.members.items reached.new.members.items) }
+    ensures as_long { OnOk result (length reached.new.seen.items ≡ length reached.old.seen.items) }
+    ensures scanned { OnOk result (AreScanned (accepts (rows table.now)) stays.now holders.now
+        alike.now reached.new) }
+    ensures early { (bound : ℕ) → IsEarly bound holders.now reached.old →
+        OnOk result (IsEarly bound holders.now reached.new) }
+    ensures free { IfOk result (λ o. IfSome o (λ position. IsFree (accepts (rows table.now))
+        holders.now (slice_index reached.old.members.items at) position)) }
+    ensures closed { IfOk result (λ o. IfNone o ((position : ℕ) →
+        accepts (rows table.now) (slice_index reached.old.members.items at) position ≡ true →
+        IsClosed stays.now holders.now reached.new.members.items position)) }
+    ensures at_least { IfOk result (λ o. IsSome o → steps.old + 1 ≤ steps.new) }
+    ensures onward { steps.old ≤ steps.new }
+    ensures at_most { steps.new ≤ steps.old + parents }
+{
+    let like = alike[reached.members[at]];
+    if reached.scanned[like] {
+        return Ok(None);
+    }
+    if let Some(position) = scan(table, parents, stays, holders, reached, at, steps)? {
+        return Ok(Some(position));
+    }
+    reached.scanned[like] = true;
+    Ok(None)
+}
+
 /// Goes through the members reached from the place `start` on, in the order in which they were
 /// reached, up to one that is accepted at a free position: its place, and the position.
 fn follow(
@@ -179,6 +245,7 @@ fn follow(
     parents: usize,
     stays: &[bool],
     holders: &[Option<usize>],
+    alike: &[usize],
     reached: &mut Reached,
     start: usize,
     steps: &mut Steps,
@@ -188,15 +255,21 @@ fn follow(
     requires rows { length reached.old.seen.items ≤ length table.now }
     requires held { AreBelow (length reached.old.seen.items) holders.now }
     requires flags { length stays.now ≡ length reached.old.seen.items }
+    requires likes { length alike.now ≡ length table.now }
+    requires alike { AreAlike (accepts (rows table.now)) alike.now }
     requires later { 0 < start }
     requires start_in { start ≤ length reached.old.members.items }
     requires reaches { Reaches (accepts (rows table.now)) stays.now holders.now reached.old }
     requires searched { IsSearched (accepts (rows table.now)) stays.now start holders.now
         reached.old.members.items }
+    requires scanned { AreScanned (accepts (rows table.now)) stays.now holders.now alike.now
+        reached.old }
     ensures reaches { OnOk result
         (Reaches (accepts (rows table.now)) stays.now holders.now reached.new) }
     ensures grows { OnOk result (Grows reached.old.members.items reached.new.members.items) }
     ensures as_long { OnOk result (length reached.new.seen.items ≡ length reached.old.seen.items) }
+    ensures scanned { OnOk result (AreScanned (accepts (rows table.now)) stays.now holders.now
+        alike.now reached.new) }
     ensures early { (bound : ℕ) → IsEarly bound holders.now reached.old →
         OnOk result (IsEarly bound holders.now reached.new) }
     ensures free { IfOk result (λ o. IfSome o (λ end. (0 < end.0)
@@ -213,7 +286,8 @@ fn follow(
 {
     let mut at = start;
     'members: while at < reached.members.len() {
-        if let Some(position) = scan(table, parents, stays, holders, reached, at, steps)? {
+        let found = scan_once(table, parents, stays, holders, alike, reached, at, steps)?;
+        if let Some(position) = found {
             return Ok(Some((at, position)));
         }
         at += 1;
@@ -243,6 +317,7 @@ pub fn search(
     parents: usize,
     stays: &[bool],
     holders: &[Option<usize>],
+    alike: &[usize],
     reached: &mut Reached,
     layers: &mut Vec<usize>,
     steps: &mut Steps,
@@ -252,9 +327,13 @@ pub fn search(
     requires rows { length reached.old.seen.items ≤ length table.now }
     requires held { AreBelow (length reached.old.seen.items) holders.now }
     requires flags { length stays.now ≡ length reached.old.seen.items }
+    requires likes { length alike.now ≡ length table.now }
+    requires alike { AreAlike (accepts (rows table.now)) alike.now }
     requires one { length reached.old.members.items ≡ 1 }
     requires no_layer { length layers.old.items ≡ 0 }
     requires reaches { Reaches (accepts (rows table.now)) stays.now holders.now reached.old }
+    requires scanned { AreScanned (accepts (rows table.now)) stays.now holders.now alike.now
+        reached.old }
     ensures reaches { OnOk result
         (Reaches (accepts (rows table.now)) stays.now holders.now reached.new) }
     ensures grows { OnOk result (Grows reached.old.members.items reached.new.members.items) }
@@ -276,7 +355,7 @@ pub fn search(
         if try_position(table, parents, stays, holders, reached, 0, position, steps)? {
             return Ok(Some((0, position)));
         }
-        if let Some(end) = follow(table, parents, stays, holders, reached, start, steps)? {
+        if let Some(end) = follow(table, parents, stays, holders, alike, reached, start, steps)? {
             return Ok(Some(end));
         }
         fill(layers, reached.members.len(), position)?;

@@ -1,5 +1,5 @@
 -- What is read of a bibliography.
-use Rattle.std.specs.Prelude.{◌≡◌, ℕ, List, [], map}
+use Rattle.std.specs.Prelude.{◌≡◌, List, [], map}
 use Rattle.haya_bibtex_text.specs.Bibliography.{BibliographyTexts}
 use Rattle.haya_bibtex_inherited.specs.Entries.{EntryBytes}
 use Rattle.haya_bibtex_inherited.specs.Inherited.{IsLibrary}

@@ -1,5 +1,5 @@
 -- Entries of a text by their bytes.
-use Rattle.std.specs.Prelude.{ℕ, List, map, encode_utf8_all}
+use Rattle.std.specs.Prelude.{map, encode_utf8_all}
 use Rattle.haya_bibtex_text.specs.Bibliography.{EntryTexts, FieldText}
 use Rattle.haya_bibtex_inherited.specs.Entries.{EntryBytes, FieldBytes}
 

@@ -1,5 +1,5 @@
 -- The items of a text as they are in it, and what each says alone.
-use Rattle.std.specs.Prelude.{◌≡◌, ℕ, All, List, [], ◌∷◌, ◌++◌, ⊤, Option, Some, None, flat_map, map}
+use Rattle.std.specs.Prelude.{◌≡◌, ℕ, All, List, [], ◌∷◌, ◌++◌, ⊤, Option, Some, None, flat_map}
 use Rattle.std.specs.List.{AllZip}
 use Rattle.std.specs.Str.{chars}
 use Rattle.haya_bibtex_text.specs.Bibliography.{BibliographyTexts, EntryTexts}

@@ -1,5 +1,5 @@
 -- Items by value.
-use Rattle.std.specs.Prelude.{List, ℕ, Option, option_map, string_bytes}
+use Rattle.std.specs.Prelude.{option_map, string_bytes}
 use Rattle.haya_bibtex_slices.specs.Items.{Item}
 use Rattle.haya_bibtex_slices.specs.declared.item.BibtexItem.{BibtexItem}
 

@@ -16,7 +16,7 @@ use Rattle.std.proofs.lemmas.Map.Made.{AllPairs-from_IsDistinct}
 use Rattle.std.proofs.lemmas.Map.Text.{is_eq-slice_cmp}
 use Rattle.std.proofs.lemmas.Slice.Eq.{bytes_eq-Decides}
 use Rattle.json.specs.Json as json
-use Rattle.json.specs.Json.{Json, Members, max_depth}
+use Rattle.json.specs.Json.{Json, max_depth}
 use Rattle.json.specs.Print.{print, print_from}
 use Rattle.json.specs.Strict.{keys}
 use Rattle.json.specs.Token as Token

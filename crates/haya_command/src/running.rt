@@ -1,7 +1,7 @@
 //! A whole run, but for where its words and its texts come from.
-ghost use Rattle.std.specs.Prelude.{◌≡◌, ◌≤◌, false, true, IfOk, IsTrue, OnErr, OnOk, Some};
-ghost use Rattle.std.specs.Prelude.{string_bytes};
-ghost use Rattle.std.specs.Io.KnownBytes.{Keeps};
+ghost use Rattle.std.specs.Prelude.{◌≡◌, ◌≤◌, ◌++◌, ℕ, List, false, true, IfOk, IsTrue, OnErr};
+ghost use Rattle.std.specs.Prelude.{OnOk, Some, string_bytes};
+ghost use Rattle.std.specs.Io.KnownBytes.{Appends, Keeps};
 ghost use Rattle.haya_command.specs.Reading.{texts};
 ghost use Rattle.haya_command.specs.Run.{Prints, Stands};
 ghost use Rattle.haya_command.specs.SelectorText.{IsOneSelector};
@@ -20,7 +20,7 @@ use crate::selector_text::check_selector;
 use crate::source_answering::ask_source;
 use crate::source_form::SourceForm;
 use crate::sources::{Sources, kind_of_inputs, read_sources};
-use crate::told::told_text;
+use crate::told::{InputNotes, told_text};
 use haya_line_stream::write_text;
 use hayagriva::{HashKeys, Library};
 use std::alloc::Global;
@@ -107,12 +107,15 @@ fn print_answer<W: Write, E: Write>(
     // takes longer than any selector.
     mem::forget(library);
     let answer = asked?;
-    let notes = told_text(alloc, told.as_slice())?;
-    tell_notes(options, notes.as_str(), err);
-    tell_notes(options, answer.notes.as_str(), err);
-    warn(alloc, options, err);
-    tell_notes(options, hint.as_str(), err);
-    write_text(out, answer.text.as_str())?;
+    print_told(
+        alloc,
+        options,
+        told.as_slice(),
+        &answer,
+        hint.as_str(),
+        out,
+        err,
+    )?;
     Ok(answer.found)
 }
 
@@ -137,16 +140,10 @@ fn print_as_source<W: Write, E: Write>(
 {
     if let SourceForm::Source = form {
         if are_bibtex(alloc, options, inputs)? {
-            return match print_bibtex(alloc, keys, options, inputs, out, err) {
-                Ok(found) => Ok(found),
-                Err(fault) => Err(fault),
-            };
+            return print_bibtex(alloc, keys, options, inputs, out, err);
         }
     }
-    match print_source(alloc, keys, options, form, inputs, out, err) {
-        Ok(found) => Ok(found),
-        Err(fault) => Err(fault),
-    }
+    print_source(alloc, keys, options, form, inputs, out, err)
 }
 
 // Prints the answer as `.bib` inputs have it, and says whether an entry is found.
@@ -171,13 +168,17 @@ fn print_bibtex<W: Write, E: Write>(
     let asked = ask_bibtex(alloc, keys, &library, options, inputs);
     let hint = hint_for(alloc, options, &library, &asked);
     mem::forget(library);
-    let Answer { text, found, .. } = asked?;
-    let notes = told_text(alloc, told.as_slice())?;
-    tell_notes(options, notes.as_str(), err);
-    warn(alloc, options, err);
-    tell_notes(options, hint.as_str(), err);
-    write_text(out, text.as_str())?;
-    Ok(found)
+    let answer = asked?;
+    print_told(
+        alloc,
+        options,
+        told.as_slice(),
+        &answer,
+        hint.as_str(),
+        out,
+        err,
+    )?;
+    Ok(answer.found)
 }
 
 // Prints the answer as the inputs have it, in this form, and says whether an entry is found.
@@ -209,13 +210,45 @@ fn print_source<W: Write, E: Write>(
     let hint = hint_for(alloc, options, &library, &asked);
     mem::forget(library);
     mem::forget(places);
-    let Answer { text, found, .. } = asked?;
-    let notes = told_text(alloc, told.as_slice())?;
+    let answer = asked?;
+    print_told(
+        alloc,
+        options,
+        told.as_slice(),
+        &answer,
+        hint.as_str(),
+        out,
+        err,
+    )?;
+    Ok(answer.found)
+}
+
+// Tells what the inputs and the answer want told, and what was probably meant; then prints the
+// answer. Where a write fails, a first part of it is printed.
+fn print_told<W: Write, E: Write>(
+    alloc: Global,
+    options: &Options,
+    told: &[InputNotes],
+    answer: &Answer,
+    hint: &str,
+    out: &mut W,
+    err: &mut E,
+) -> Result<(), CommandError>
+    ensures written { OnOk result
+        (Appends (W.contents out.old) (W.contents out.new) (string_bytes answer.now.text)) }
+    ensures begun { OnErr result ((first : List ℕ) × (rest : List ℕ)
+        × (string_bytes answer.now.text ≡ first ++ rest)
+        × Appends (W.contents out.old) (W.contents out.new) first) }
+    ensures quiet { IsTrue options.now.quiet →
+        Keeps (E.contents err.old) (E.contents err.new) }
+{
+    let notes = told_text(alloc, told)?;
     tell_notes(options, notes.as_str(), err);
+    tell_notes(options, answer.notes.as_str(), err);
     warn(alloc, options, err);
-    tell_notes(options, hint.as_str(), err);
-    write_text(out, text.as_str())?;
-    Ok(found)
+    tell_notes(options, hint, err);
+    write_text(out, answer.text.as_str())?;
+    Ok(())
 }
 
 // What was probably meant where no entry is found. Without memory there is no hint.

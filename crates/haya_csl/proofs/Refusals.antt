@@ -2,7 +2,7 @@
 use Rattle.std.proofs.Common.{◌≡◌, inl, inr, ℕ, ◌+◌, List, [], Option, None, Some, Result, Ok, Err, refl, sym, ap}
 use Rattle.std.specs.Prelude.{codes, ok_or}
 use Rattle.json.specs.Json as json
-use Rattle.json.specs.Json.{Json, Items, Members}
+use Rattle.json.specs.Json.{Json, Items}
 use Rattle.haya_entry.specs.Tree.{Tree}
 use Rattle.hayagriva.specs.Library.{push}
 use Rattle.haya_json.specs.Parts.{bytes_of, member_of, needed_in, text_in}

@@ -1,7 +1,7 @@
 -- The library that a text says in CSL-JSON.
 use Rattle.std.specs.Prelude.{◌≡◌, ℕ, ◌+◌, List, [], Option, None, Some, Result, Ok, codes}
 use Rattle.json.specs.Json as json
-use Rattle.json.specs.Json.{Json, Items, Members, document}
+use Rattle.json.specs.Json.{Json, Items, document}
 use Rattle.json.specs.Strict.{HasUniqueKeys}
 use Rattle.haya_entry.specs.Tree.{Tree}
 use Rattle.hayagriva.specs.Library.{push}

@@ -1,5 +1,5 @@
 -- What a value says, and what is lost of it.
-use Rattle.std.specs.Prelude.{List, [], ◌∷◌, ◌++◌, Option, None, Some, map, option_map}
+use Rattle.std.specs.Prelude.{List, [], ◌∷◌, Option, None, Some, option_map}
 use Rattle.haya_json.specs.Notes.{LostView, all_behind, lost_here, losts_view, unread}
 use Rattle.haya_json.specs.Refusal.{StepView}
 use Rattle.haya_json.specs.declared.fault.Why.{Why}

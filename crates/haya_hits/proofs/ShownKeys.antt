@@ -1,5 +1,5 @@
 -- Keys as they are shown.
-use Rattle.std.proofs.Common.{◌≡◌, ◌≢◌, ℕ, suc, ◌+◌, ◌<◌, ◌≤◌, Bool, true, false, cond, List, [], ◌∷◌, ◌++◌, Option, length, get_or, flat_map, refl, sym, ap, ◌∙◌, subst, append_assoc, append-nil, rules, tests, arith}
+use Rattle.std.proofs.Common.{◌≡◌, ◌≢◌, ℕ, suc, ◌+◌, ◌<◌, Bool, true, false, cond, List, [], ◌∷◌, ◌++◌, Option, length, get_or, flat_map, refl, sym, ap, ◌∙◌, subst, append-nil, rules, tests, arith}
 use Rattle.std.specs.Prelude.{◌==◌, All}
 use Rattle.std.specs.Char.{encode_utf8}
 use Rattle.std.proofs.lemmas.List.Elements.{All-append, All-cons, All-nil}

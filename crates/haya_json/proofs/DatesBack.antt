@@ -7,7 +7,6 @@ use Rattle.std.specs.Str.{chars}
 use Rattle.std.specs.Cmp.{signed_Decides}
 use Rattle.std.proofs.lemmas.Bool.{eqb-true}
 use Rattle.json.specs.Json as json
-use Rattle.json.specs.Json.{Json}
 use Rattle.haya_time.specs.DatePrinted.{date_text}
 use Rattle.haya_time.specs.DateReading.{date_read}
 use Rattle.haya_time.specs.declared.date.Date.{Date}

@@ -4,14 +4,14 @@ use Rattle.std.specs.Prelude.{codes, if◌then◌else◌}
 use Rattle.std.specs.Str.{bytes_eq}
 use Rattle.std.proofs.lemmas.Slice.Eq.{bytes_eq-Decides}
 use Rattle.json.specs.Json as json
-use Rattle.json.specs.Json.{Json, Items, Members}
+use Rattle.json.specs.Json.{Json, Members}
 use Rattle.json.specs.Find.{is_null, get_member}
 use Rattle.haya_time.specs.DurationPrint.{duration_text, range_text}
 use Rattle.haya_entry.specs.ParentTypes.{default_parent}
 use Rattle.haya_entry.specs.Tree.{Tree, Trees, Fields, node, no_trees, one_more, fields, trees, tree_list, with_parents, new_entry}
 use Rattle.haya_entry.specs.declared.types.EntryType.{EntryType}
 use Rattle.haya_entry.specs.declared.types.EntryType.TheVariants.{Article, Chapter, Entry, Anthos, Report, Thesis, Web, Scene, Artwork, Patent, Case, Newspaper, Legislation, Manuscript, Post, Misc, Performance, Periodical, Proceedings, Book, Blog, Reference, Conference, Anthology, Repository, Thread, Video, Audio, Exhibition, Original}
-use Rattle.haya_json.specs.Refusal.{Refusal, and_then, within, to_member, to_item}
+use Rattle.haya_json.specs.Refusal.{Refusal, and_then, within, to_member}
 use Rattle.haya_json.specs.Notes.{LostView}
 use Rattle.haya_json.specs.LostParts.{date_part, format_part, many_lost, parts_lost, person_part, publisher_part, range_part, roles_part, url_part}
 use Rattle.haya_json.specs.Fields.{EntryView, FieldView, entry_alone, none_lost, read_into}

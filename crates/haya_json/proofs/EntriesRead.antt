@@ -6,9 +6,9 @@ use Rattle.json.specs.Json as json
 use Rattle.json.specs.Json.{Json, Items, Members}
 use Rattle.json.specs.Find.{is_null}
 use Rattle.haya_entry.specs.ParentTypes.{default_parent}
-use Rattle.haya_entry.specs.Tree.{Tree, Trees, node, no_trees, one_more, fields, tree_list, trees, new_entry, with_parents}
+use Rattle.haya_entry.specs.Tree.{Tree, Trees, node, no_trees, one_more, fields, tree_list, trees, with_parents}
 use Rattle.haya_entry.specs.declared.types.EntryType.{EntryType}
-use Rattle.haya_json.specs.Refusal.{Refusal, within, and_then, to_member, to_item}
+use Rattle.haya_json.specs.Refusal.{Refusal, within, to_member}
 use Rattle.haya_json.specs.Parts.{plain_of}
 use Rattle.haya_json.specs.Fields.{EntryView, entry_alone, with_field}
 use Rattle.haya_json.specs.Notes.{refusal_lost}

@@ -1,8 +1,7 @@
 -- Loops over items that are read in turn.
-use Rattle.std.proofs.Common.{◌≡◌, ℕ, List, [], ◌∷◌, ◌++◌, Result, Ok, Err, refl, ap, ◌∙◌, append_assoc}
+use Rattle.std.proofs.Common.{◌≡◌, ℕ, List, [], ◌++◌, Result, Ok, Err, refl, append_assoc}
 use Rattle.haya_json.specs.Entries.{ParentsView, item_added, with_item}
 use Rattle.haya_json.specs.Fields.{EntryView}
-use Rattle.haya_json.specs.Notes.{LostView}
 use Rattle.haya_json.specs.Refusal.{Refusal}
 
 -- these values, and then those that are read

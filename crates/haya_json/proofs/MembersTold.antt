@@ -1,5 +1,5 @@
 -- What is lost of a member is told of its entry, and few libraries are refused.
-use Rattle.std.proofs.Common.{◌≡◌, inl, inr, ℕ, List, [], ◌∷◌, ◌++◌, None, Result, Ok, Err, map, refl, sym, ap, ◌∙◌, subst}
+use Rattle.std.proofs.Common.{◌≡◌, inl, inr, ℕ, List, ◌∷◌, None, Result, Ok, Err, map, refl, sym, ap, ◌∙◌, subst}
 use Rattle.std.specs.List.{Contains}
 use Rattle.std.proofs.lemmas.List.{get_or-map, length-map}
 use Rattle.std.proofs.lemmas.List.Elements.{Contains-append_left, Contains-append_right}
@@ -13,7 +13,7 @@ use Rattle.haya_json.specs.Fields.{EntryView}
 use Rattle.haya_json.specs.Libraries.{entries_of, library_of}
 use Rattle.haya_json.specs.LostMembers.{HasMember, LosesUnder, RefusesLibrary, member_said}
 use Rattle.haya_json.specs.Notes.{LostView, all_behind, lost_behind}
-use Rattle.haya_json.specs.Refusal.{Refusal, and_then, from_outside, to_member, within}
+use Rattle.haya_json.specs.Refusal.{Refusal, and_then, to_member, within}
 use Rattle.haya_json.proofs.TextsRead.{ok_same}
 
 -- what a list contains is in its image

@@ -1,8 +1,8 @@
 -- Nothing is lost of what is printed of a value.
-use Rattle.std.proofs.Common.{◌≡◌, ℕ, ◌+◌, Bool, true, false, List, [], ◌∷◌, ◌++◌, Option, None, Some, map, refl, sym, ap, ◌∙◌}
+use Rattle.std.proofs.Common.{◌≡◌, ℕ, ◌+◌, Bool, true, false, List, [], ◌∷◌, Option, None, Some, refl, ap}
 use Rattle.std.specs.Prelude.{codes, if◌then◌else◌}
 use Rattle.json.specs.Json as json
-use Rattle.json.specs.Json.{Json, Items, Members}
+use Rattle.json.specs.Json.{Json, Members}
 use Rattle.json.specs.Find.{is_null}
 use Rattle.haya_text.specs.Chunks.{Chunk}
 use Rattle.haya_text.specs.Texts.{TextView}
@@ -15,9 +15,9 @@ use Rattle.haya_values.specs.MaybeTyped.{TypedOrText}
 use Rattle.haya_values.specs.Publisher.{PublisherView}
 use Rattle.haya_values.specs.Url.{UrlView}
 use Rattle.haya_json.specs.LostParts.{PartLoss, date_part, format_part, items_lost, many_lost, member_lost, members_lost, parts_lost, person_part, publisher_part, range_part, roles_part, url_part}
-use Rattle.haya_json.specs.Notes.{LostView, all_behind}
+use Rattle.haya_json.specs.Notes.{all_behind}
 use Rattle.haya_json.specs.Printed.{also, also_true, array_of, byte_json, date_json, date_parts, format_json, forms_json, is_year, one_or_many_json, person_json, person_parts, publisher_json, reads_as_date, reads_as_person, roles_json, season_json, typed_json, url_json, whole_json}
-use Rattle.haya_json.specs.Refusal.{to_item, to_member}
+use Rattle.haya_json.specs.Refusal.{to_member}
 
 -- ---- members
 

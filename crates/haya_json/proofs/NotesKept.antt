@@ -1,12 +1,12 @@
 -- One note more, and notes that come in turn.
-use Rattle.std.proofs.Common.{◌≡◌, ℕ, ◌+◌, ◌-◌, ◌<◌, ◌≤◌, Bool, true, false, not, List, [], ◌∷◌, ◌++◌, Option, None, Some, filter, length, take, refl, sym, ap, ◌∙◌, append_assoc, if◌then◌else◌, arith}
+use Rattle.std.proofs.Common.{◌≡◌, ℕ, ◌+◌, ◌-◌, ◌<◌, ◌≤◌, Bool, true, false, not, List, [], ◌∷◌, ◌++◌, Option, None, Some, length, take, refl, sym, ap, ◌∙◌, append_assoc, if◌then◌else◌, arith}
 use Rattle.std.specs.Prelude.{min, nat_lt, slice_get}
 use Rattle.std.proofs.lemmas.Grind.{flat_map-append}
 use Rattle.std.proofs.lemmas.List.{append-nil, length-append, length-take, take-append-le, take_all}
 use Rattle.std.proofs.lemmas.Bool.{ltb-false, ltb-true}
 use Rattle.std.proofs.lemmas.List.Elements.{filter-append}
 use Rattle.haya_json.specs.Notes.{LossView, NoteView, NotesView, again, all_kept, first_after, first_named, first_note, is_named, kept_after, kept_by, kept_of, line_kept, lines_in, name_kept, named, names_in, names_of, none_kept, unread}
-use Rattle.haya_json.specs.Tally.{Counts, all_counted, as_count, counted, tally}
+use Rattle.haya_json.specs.Tally.{Counts, as_count, counted, tally}
 use Rattle.haya_json.proofs.Tallies.{counted_in_turn}
 
 -- ---- the first note

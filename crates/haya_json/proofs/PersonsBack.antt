@@ -4,7 +4,6 @@ use Rattle.std.specs.Prelude.{if◌then◌else◌}
 use Rattle.std.specs.Result.{result_ok}
 use Rattle.std.proofs.lemmas.Slice.Eq.{bytes_eq-Decides}
 use Rattle.json.specs.Json as json
-use Rattle.json.specs.Json.{Json, Items}
 use Rattle.haya_people.specs.Person.{PersonView}
 use Rattle.haya_people.specs.Reading.{person_read}
 use Rattle.haya_json.specs.Values.{person_of, person_in, persons_of, role_of, roles_of, affiliated_of}

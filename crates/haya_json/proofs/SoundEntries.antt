@@ -3,7 +3,7 @@ use Rattle.std.proofs.Common.{◌≡◌, ◌≢◌, ◌≤◌, ℕ, List, [], �
 use Rattle.std.specs.Prelude.{codes, map, IfSome}
 use Rattle.std.specs.List.{AllPairs}
 use Rattle.json.specs.Json as json
-use Rattle.json.specs.Json.{Json, Items, Members, max_depth}
+use Rattle.json.specs.Json.{Members, max_depth}
 use Rattle.json.specs.Strict.{keys}
 use Rattle.json.specs.Tree.{depth as nesting}
 use Rattle.haya_text.specs.Texts.{TextView}

@@ -1,5 +1,5 @@
 -- A library as lines of JSON: each line an object of an entry and its key.
-use Rattle.std.specs.Prelude.{◌≡◌, ◌≢◌, ◌⊎◌, ◌==◌, ℕ, ◌+◌, false, List, [], ◌∷◌, ◌++◌, length, codes, None, Some, MatchBool, Result, Ok, if◌then◌else◌}
+use Rattle.std.specs.Prelude.{◌≡◌, ◌≢◌, ◌⊎◌, ◌==◌, ℕ, ◌+◌, List, [], ◌∷◌, ◌++◌, length, codes, None, Some, MatchBool, Result, Ok, if◌then◌else◌}
 use Rattle.std.specs.List.{AllZip}
 use Rattle.std.specs.Option.{option_map_or}
 use Rattle.std.specs.Str.Lines.{lines}
@@ -11,7 +11,7 @@ use Rattle.hayagriva.specs.Library.{from_entries, push}
 use Rattle.haya_json.specs.Entries.{entry_said}
 use Rattle.haya_json.specs.Fields.{EntryView}
 use Rattle.haya_json.specs.Libraries.{IsErrorOfReading}
-use Rattle.haya_json.specs.Parts.{member_of, needed, plain_of}
+use Rattle.haya_json.specs.Parts.{needed, plain_of}
 use Rattle.haya_json.specs.Notes.{NoteView, NotesView, all_kept, kept_of}
 use Rattle.haya_json.specs.Refusal.{Refusal, and_then}
 use Rattle.haya_json.specs.Told.{told_alone, told_first}

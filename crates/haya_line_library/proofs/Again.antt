@@ -1,28 +1,27 @@
 -- Which keys come again in the lines of a text so far.
 use Rattle.std.proofs.Common.{◌≡◌, ℕ, suc, ◌+◌, ◌<◌, Bool, true, false, cond, ◌&&◌, ◌||◌, List, [], ◌∷◌, ◌++◌, Option, None, Some, Result, Ok, Err, length, map, take, get_or, fold, zero, refl, sym, ap, ◌∙◌, subst, append_assoc, append-nil, length-append, rules, tests, arith}
-use Rattle.std.specs.Prelude.{◌==◌, IsOkAnd, MatchBool, is_some, nat_le, nat_lt, find, ok_or, option_to_list}
+use Rattle.std.specs.Prelude.{◌==◌, IsOkAnd, MatchBool, is_some, nat_le, nat_lt, option_to_list}
 use Rattle.std.specs.Char.{is_ascii_digit}
 use Rattle.std.specs.List.{list_all, list_any, zip}
 use Rattle.std.specs.Str.{bytes_eq}
 use Rattle.std.specs.Str.Lines.{lines}
 use Rattle.std.proofs.Math.Bool.{or-false, or_assoc}
-use Rattle.std.proofs.lemmas.List.{length-map, length-take-le, map-append, same_from_push, take_all, take_more}
+use Rattle.std.proofs.lemmas.List.{length-take-le, map-append, same_from_push, take_all, take_more}
 use Rattle.std.proofs.lemmas.List.Folds.{list_any-append}
 use Rattle.std.proofs.lemmas.Bool.{true≢false}
 use Rattle.std.proofs.lemmas.Slice.Eq.{bytes_eq-Decides}
 use Rattle.hayagriva.specs.Library.{from_entries, get, has_key, key_of, push, with_replacement}
 use Rattle.hayagriva.specs.Tree.{Fields, Tree, Trees, node, no_trees, one_more, trees, fields, new_entry}
-use Rattle.haya_lines.specs.FieldTable.{and_then}
 use Rattle.haya_lines.specs.Items.{items}
 use Rattle.std.specs.Str.Parse.{digits_value}
 use Rattle.hayagriva.specs.EntryType.{type_read}
 use Rattle.hayagriva.specs.declared.types.EntryType.{EntryType}
-use Rattle.haya_lines.specs.Line.{Row, depth_read, fields_read, is_depth, row_read, row_at}
+use Rattle.haya_lines.specs.Line.{Row, fields_read, is_depth, row_read, row_at}
 use Rattle.haya_lines.specs.declared.error.LineError.{LineError}
-use Rattle.haya_line_library.specs.Chain.{LastOf, TakesLine, TakesRow, chain_rows, left_rows, opened_rows}
-use Rattle.haya_line_library.specs.Input.{Describes, rows_of, rows_of_all}
+use Rattle.haya_line_library.specs.Chain.{LastOf, TakesLine, TakesRow, chain_rows, left_rows}
+use Rattle.haya_line_library.specs.Input.{rows_of, rows_of_all}
 use Rattle.haya_line_library.specs.Opened.{Opened}
-use Rattle.haya_line_library.specs.Repeats.{DescribesAgain, again, again_at, begins, begun_of, entry_numbers, repeated, repeats_of}
+use Rattle.haya_line_library.specs.Repeats.{DescribesAgain, again, again_at, begins, begun_of, entry_numbers, repeated}
 use Rattle.haya_line_library.proofs.Progress.{Progress, Progress-start, Progress-line, Progress-end}
 
 -- ---- the keys of the rows at which an entry begins

@@ -1,9 +1,9 @@
 -- Where an entry ends, its lines end.
-use Rattle.std.proofs.Common.{inl, inr, ◌≡◌, ℕ, zero, suc, ◌+◌, ◌<◌, ◌≤◌, ◌⊎◌, Bool, true, false, List, [], ◌∷◌, ◌++◌, Some, drop, get_or, length, take, refl, sym, ap, ◌∙◌, append-nil, append_assoc, subst, arith}
-use Rattle.std.specs.Prelude.{IsTrue, flat_map, slice_index}
+use Rattle.std.proofs.Common.{inl, inr, ◌≡◌, ℕ, zero, suc, ◌+◌, ◌<◌, ◌≤◌, ◌⊎◌, true, false, List, [], ◌∷◌, ◌++◌, Some, drop, length, take, refl, sym, ap, ◌∙◌, append-nil, append_assoc, arith}
+use Rattle.std.specs.Prelude.{flat_map, slice_index}
 use Rattle.std.specs.List.{AllByRecursion, concat, last_or}
 use Rattle.std.specs.Str.Lines.{lines}
-use Rattle.std.proofs.lemmas.List.{drop-drop, drop-take, get_or-take, take-append-drop, take_all, take_more}
+use Rattle.std.proofs.lemmas.List.{get_or-take, take-append-drop, take_all, take_more}
 use Rattle.haya_line_library.specs.Parts.{AreWholeLines}
 use Rattle.haya_line_library.proofs.Parts.{lines-append}
 use Rattle.haya_line_slices.specs.EntryLines.{AreEntryParts, BeginNone, IsEntryPart, begins_entry}

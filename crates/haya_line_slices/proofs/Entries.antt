@@ -1,10 +1,9 @@
 -- Each part of a text that lists entries lists one of them.
-use Rattle.std.proofs.Common.{◌≡◌, ℕ, suc, ◌+◌, ◌≤◌, Bool, true, false, List, [], ◌∷◌, ◌++◌, length, Result, Ok, Err, refl, sym, ap, ◌∙◌, append-nil, arith}
+use Rattle.std.proofs.Common.{◌≡◌, ℕ, ◌+◌, ◌≤◌, Bool, true, false, List, [], ◌∷◌, ◌++◌, length, Result, Ok, Err, refl, sym, ap, ◌∙◌, append-nil, arith}
 use Rattle.std.specs.Prelude.{◌==◌, flat_map, ⊤}
 use Rattle.std.specs.List.{AllByRecursion, AllZip}
 use Rattle.std.specs.Str.Lines.{lines}
-use Rattle.haya_entry.specs.Tree.{Fields, Tree, Trees, node, no_trees, one_more, trees}
-use Rattle.haya_lines.specs.FieldTable.{and_then}
+use Rattle.haya_entry.specs.Tree.{Tree, Trees, node, no_trees, one_more, trees}
 use Rattle.haya_lines.specs.Items.{items}
 use Rattle.haya_lines.specs.Line.{Row, row_read}
 use Rattle.haya_lines.specs.declared.error.LineError.{LineError}

@@ -5,11 +5,10 @@ use Rattle.std.specs.List.{concat, last_or}
 use Rattle.std.specs.Str.Lines.{lines, strip_carriage_return}
 use Rattle.std.proofs.Math.Seq.{take-append_seam}
 use Rattle.std.proofs.lemmas.List.{drop-append-le, get_or_append_left, take-append-drop, take-append-le, take_all, take_more}
-use Rattle.haya_line_library.specs.Parts.{AreWholeLines}
 use Rattle.haya_line_library.proofs.Parts.{lines-append}
 use Rattle.haya_line_slices.specs.Coming.{AreLineParts, EntriesDivide, IsAt, IsBehind, IsFront, NeverBefore}
 use Rattle.haya_line_slices.specs.EntryLines.{BeginNone, begins_entry}
-use Rattle.haya_line_slices.specs.Scan.{EndsAt, IsPartedTo}
+use Rattle.haya_line_slices.specs.Scan.{EndsAt}
 use Rattle.haya_line_slices.specs.declared.coming.EntryParts.{EntryParts}
 use Rattle.haya_line_slices.specs.declared.coming.EntryPlace.TheVariants.{Entry, Front}
 use Rattle.haya_line_slices.proofs.Ends.{drop-all, front-stays, last-behind, none-left, one-more}

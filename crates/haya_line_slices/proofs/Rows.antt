@@ -1,8 +1,8 @@
 -- The row of a line, and whether the line begins an entry.
-use Rattle.std.proofs.Common.{◌≡◌, ◌≢◌, ℕ, suc, ◌+◌, ◌<◌, ◌≤◌, Bool, true, false, cond, ◌&&◌, List, [], ◌∷◌, ◌++◌, length, Option, None, Some, Result, Ok, Err, refl, sym, ap, ◌∙◌, subst, arith}
+use Rattle.std.proofs.Common.{◌≡◌, ℕ, ◌+◌, ◌<◌, ◌≤◌, Bool, true, false, cond, ◌&&◌, List, [], ◌∷◌, ◌++◌, length, Option, None, Some, Result, Ok, Err, refl, sym, ap, ◌∙◌, subst, arith}
 use Rattle.std.specs.Char.{digit_value, is_ascii_digit}
-use Rattle.std.specs.Prelude.{◌==◌, ◌||◌, nat_eq, nat_le, nat_lt, ok_or}
-use Rattle.std.specs.List.{list_all, onto_first, slice_split}
+use Rattle.std.specs.Prelude.{◌==◌, nat_eq, nat_le, nat_lt, ok_or}
+use Rattle.std.specs.List.{list_all, onto_first}
 use Rattle.std.specs.Str.Parse.{digits_value}
 use Rattle.haya_lines.specs.FieldTable.{and_then}
 use Rattle.haya_lines.specs.Items.{items}

@@ -1,5 +1,5 @@
 -- Whether a text begins with few bytes, none of which ends a line.
-use Rattle.std.proofs.Common.{◌≡◌, ℕ, zero, suc, ◌+◌, ◌-◌, ◌≤◌, Bool, true, false, cond, ◌&&◌, List, [], ◌∷◌, ◌++◌, length, take, refl, sym, ap, ◌∙◌, arith}
+use Rattle.std.proofs.Common.{◌≡◌, ℕ, zero, suc, ◌+◌, ◌-◌, ◌≤◌, Bool, true, false, ◌&&◌, List, [], ◌∷◌, ◌++◌, length, take, refl, sym, ap, ◌∙◌, arith}
 use Rattle.std.specs.Prelude.{◌==◌, ◌||◌, ◌≢◌, codes, nat_eq, slice_index}
 use Rattle.std.specs.List.{AllByRecursion, onto_first, slice_split, starts_with}
 use Rattle.std.specs.Str.Lines.{lines, lines_of_parts, strip_carriage_return}

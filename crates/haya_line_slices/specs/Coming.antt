@@ -1,5 +1,5 @@
 -- A text in lines, divided into its entries as it comes.
-use Rattle.std.specs.Prelude.{◌≡◌, ◌+◌, ◌<◌, ◌≤◌, ℕ, IsFalse, IsTrue, List, [], ◌∷◌, ◌++◌, drop, length, slice_index, take}
+use Rattle.std.specs.Prelude.{◌≡◌, ◌+◌, ◌<◌, ◌≤◌, ℕ, IsFalse, IsTrue, List, ◌++◌, drop, length, slice_index, take}
 use Rattle.std.specs.Str.Lines.{lines}
 use Rattle.haya_lines.specs.Signs.{line_feed}
 use Rattle.haya_line_library.specs.Parts.{AreWholeLines}

@@ -1,5 +1,5 @@
 -- Entries, printed.
-use Rattle.std.specs.Prelude.{ℕ, List, [], ◌∷◌, ◌++◌, codes, flat_map, nat_eq, if◌then◌else◌}
+use Rattle.std.specs.Prelude.{ℕ, List, [], ◌++◌, codes, flat_map, nat_eq, if◌then◌else◌}
 use Rattle.std.specs.List.{ends_with}
 
 -- what ends an entry's last line: nothing more where a line feed does, and where a carriage return

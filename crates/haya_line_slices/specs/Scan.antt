@@ -1,5 +1,5 @@
 -- Where an entry ends in bytes, and what is in front of it.
-use Rattle.std.specs.Prelude.{◌≡◌, ◌⊎◌, ◌≤◌, ◌<◌, ◌+◌, ℕ, IsFalse, IsTrue, List, [], ◌∷◌, ◌++◌, drop, length, slice_index, take}
+use Rattle.std.specs.Prelude.{◌≡◌, ◌⊎◌, ◌≤◌, ◌<◌, ◌+◌, ℕ, IsFalse, IsTrue, List, [], ◌∷◌, ◌++◌, drop, length, slice_index}
 use Rattle.std.specs.List.{AllByRecursion, concat, flat_map}
 use Rattle.std.specs.Str.Lines.{lines}
 use Rattle.haya_lines.specs.Signs.{line_feed}

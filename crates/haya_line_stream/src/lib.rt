@@ -12,5 +12,5 @@ mod writing;
 pub use answerer::Answerer;
 pub use error::{StreamError, WriteError};
 pub use input::{ByteCounter, read_all};
-pub use stream::answer_all;
+pub use stream::{answer_all, answer_line};
 pub use writing::{write_all, write_text};

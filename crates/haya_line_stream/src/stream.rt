@@ -56,11 +56,8 @@ pub fn answer_all<A: Answerer, R: Read, W: Write>(
                 &mut printed,
                 out,
             )?,
-            Err(error) => {
-                if error.kind() != io::ErrorKind::Interrupted {
-                    return Err(StreamError::CannotRead(error));
-                }
-            }
+            Err(error) if error.kind() == io::ErrorKind::Interrupted => {}
+            Err(error) => return Err(StreamError::CannotRead(error)),
         }
     }
     if answerer.is_done() {
@@ -191,8 +188,9 @@ fn take_end<A: Answerer>(
     answer_end(answerer, line, printed)
 }
 
-// Answers a line, and puts what is printed of it behind what is.
-fn answer_line<A: Answerer>(
+/// Answers a line, and puts what is printed of it behind what is. `line` has it first, in place of
+/// what it had, so that nothing is printed of a line that is refused.
+pub fn answer_line<A: Answerer>(
     answerer: &mut A,
     bytes: &[u8],
     line: &mut String,

@@ -1,9 +1,8 @@
 //! The parts of a text, answered as it is read.
 ghost use Rattle.std.specs.Prelude.{◌≡◌, ◌⊎◌, ◌++◌, ◌-◌, ◌≤◌, ◌∷◌, [], ℕ, List, Some, IfErr};
-ghost use Rattle.std.specs.Prelude.{OnErr, OnOk, IfOk, drop, false, length, string_bytes};
+ghost use Rattle.std.specs.Prelude.{OnOk, IfOk, drop, false, length, string_bytes};
 ghost use Rattle.json.specs.Ascii as ascii;
 ghost use Rattle.std.specs.Io.KnownBytes.{Appends};
-ghost use Rattle.std.specs.Str.{IsUtf8};
 ghost use Rattle.haya_line_stream.specs.Answered.{StopsBefore};
 ghost use Rattle.haya_parts.specs.Answered.{AnswersAll, AnswersEnough, AnswersPart, Moves, MovesOn};
 ghost use Rattle.haya_parts.specs.Answered.{Stops, StopsAt};
@@ -11,10 +10,21 @@ ghost use Rattle.haya_parts.specs.Answered.{AnswersUnwritten, EndsIn, EndsParts,
 ghost use Rattle.haya_parts.specs.Divided.{Begins, Begun};
 
 use crate::divider::{Divider, Last, Next};
-use haya_line_stream::{Answerer, StreamError, write_text};
+use haya_line_stream::{Answerer, StreamError, answer_line, write_text};
 use std::alloc::Global;
 use std::io;
 use std::io::{Read, Write};
+
+// What is kept from one read to the next.
+#[derive(Drop)]
+struct Buffers {
+    // What was read, behind the parts that are answered.
+    held: Vec<u8>,
+    // What is printed of one part.
+    line: String,
+    // What is printed and not yet written.
+    printed: String,
+}
 
 /// Answers each part of the input in turn; or the parts of a first part of it, where the answerer is
 /// done with these. No more of the input is held than the bytes of a part, and of a read. What is
@@ -43,41 +53,21 @@ pub fn answer_parts<D: Divider, A: Answerer, R: Read, W: Write>(
         answerer.old (R.remaining input.old) (R.remaining input.new)
         (W.contents out.old) (W.contents out.new))) }
 {
-    let mut held = Vec::new(alloc);
-    let mut line = String::new(alloc);
-    let mut printed = String::new(alloc);
+    let mut buffers = Buffers {
+        held: Vec::new(alloc),
+        line: String::new(alloc),
+        printed: String::new(alloc),
+    };
     let mut block = [0u8; 65536];
     'reads: for _ in 0..u64::MAX {
         if answerer.is_done() {
             return Ok(());
         }
         match input.read(&mut block) {
-            Ok(0) => {
-                return answer_rest(
-                    alloc,
-                    divider,
-                    answerer,
-                    held.as_slice(),
-                    &mut line,
-                    &mut printed,
-                    out,
-                );
-            }
-            Ok(n) => answer_block(
-                alloc,
-                divider,
-                answerer,
-                &mut held,
-                &block[..n],
-                &mut line,
-                &mut printed,
-                out,
-            )?,
-            Err(error) => {
-                if error.kind() != io::ErrorKind::Interrupted {
-                    return Err(StreamError::CannotRead(error));
-                }
-            }
+            Ok(0) => return answer_rest(alloc, divider, answerer, &mut buffers, out),
+            Ok(n) => answer_block(alloc, divider, answerer, &mut buffers, &block[..n], out)?,
+            Err(error) if error.kind() == io::ErrorKind::Interrupted => {}
+            Err(error) => return Err(StreamError::CannotRead(error)),
         }
     }
     Err(StreamError::CannotRead(io::Error::from(io::ErrorKind::Other)))
@@ -88,24 +78,27 @@ fn answer_block<D: Divider, A: Answerer, W: Write>(
     alloc: Global,
     divider: &mut D,
     answerer: &mut A,
-    held: &mut Vec<u8>,
+    buffers: &mut Buffers,
     block: &[u8],
-    line: &mut String,
-    printed: &mut String,
     out: &mut W,
 ) -> Result<(), StreamError<A::Refusal>>
-    requires begun { Begun D.divides divider.old held.old.items }
-    requires empty { string_bytes printed.old ≡ [] }
-    ensures empty { OnOk result (string_bytes printed.new ≡ []) }
+    requires begun { Begun D.divides divider.old buffers.old.held.items }
+    requires empty { string_bytes buffers.old.printed ≡ [] }
+    ensures empty { OnOk result (string_bytes buffers.new.printed ≡ []) }
     ensures moves { OnOk result (MovesOn D.divides A.answers A.is_done divider.old divider.new
-        answerer.old answerer.new (held.old.items ++ block.now) held.new.items
+        answerer.old answerer.new (buffers.old.held.items ++ block.now) buffers.new.held.items
         (W.contents out.old) (W.contents out.new)) }
     ensures same { (text : List ℕ) (parts : List (List ℕ)) →
         D.are_parts divider.new text parts → D.are_parts divider.old text parts }
     ensures stops { IfErr result (StopsAt D.divides D.are_parts A.answers A.refuses A.is_done
-        divider.old answerer.old answerer.new (held.old.items ++ block.now)
+        divider.old answerer.old answerer.new (buffers.old.held.items ++ block.now)
         (W.contents out.old) (W.contents out.new)) }
 {
+    let Buffers {
+        held,
+        line,
+        printed,
+    } = buffers;
     held.extend_from_slice(block)?;
     let taken = take_parts(alloc, divider, answerer, held.as_slice(), line, printed);
     match write_text(out, printed.as_str()) {
@@ -138,23 +131,27 @@ fn answer_rest<D: Divider, A: Answerer, W: Write>(
     alloc: Global,
     divider: &D,
     answerer: &mut A,
-    held: &[u8],
-    line: &mut String,
-    printed: &mut String,
+    buffers: &mut Buffers,
     out: &mut W,
 ) -> Result<(), StreamError<A::Refusal>>
-    requires begun { Begun D.divides divider.now held.now }
-    requires empty { string_bytes printed.old ≡ [] }
+    requires begun { Begun D.divides divider.now buffers.old.held.items }
+    requires empty { string_bytes buffers.old.printed ≡ [] }
     requires goes_on { A.is_done answerer.old ≡ false }
     ensures ends { OnOk result (EndsParts D.divides D.are_parts A.answers A.is_done divider.now
-        answerer.old answerer.new held.now (W.contents out.old) (W.contents out.new)) }
+        answerer.old answerer.new buffers.old.held.items
+        (W.contents out.old) (W.contents out.new)) }
     ensures stops { IfErr result (λ fault. StopsAt D.divides D.are_parts A.answers A.refuses
-        A.is_done divider.now answerer.old answerer.new held.now
+        A.is_done divider.now answerer.old answerer.new buffers.old.held.items
         (W.contents out.old) (W.contents out.new) fault
         ⊎ (IsWriteFault fault × EndsUnwritten D.divides D.are_parts A.answers A.is_done divider.now
-        answerer.old held.now (W.contents out.old) (W.contents out.new))) }
+        answerer.old buffers.old.held.items (W.contents out.old) (W.contents out.new))) }
 {
-    let answered = take_last(alloc, divider, answerer, held, line, printed);
+    let Buffers {
+        held,
+        line,
+        printed,
+    } = buffers;
+    let answered = take_last(alloc, divider, answerer, held.as_slice(), line, printed);
     match write_text(out, printed.as_str()) {
         Ok(()) => answered,
         Err(fault) => {
@@ -192,7 +189,7 @@ fn take_parts<D: Divider, A: Answerer>(
         }
         match divider.next(rest) {
             Next::Part(part, split) => {
-                answer_part(answerer, part, line, printed)?;
+                answer_line(answerer, part, line, printed)?;
                 rest = split.behind;
             }
             Next::Between(split) => rest = split.behind,
@@ -224,33 +221,9 @@ fn take_last<D: Divider, A: Answerer>(
         × (string_bytes printed.new ≡ string_bytes printed.old ++ more)) }
 {
     match divider.last(held) {
-        Last::Part(part) => answer_part(answerer, part, line, printed),
+        Last::Part(part) => answer_line(answerer, part, line, printed),
         Last::Nothing => Ok(()),
         Last::Broken => Err(refusal(alloc, answerer, held, line)),
-    }
-}
-
-// Answers a part, and puts what is printed of it behind what is.
-fn answer_part<A: Answerer>(
-    answerer: &mut A,
-    part: &[u8],
-    line: &mut String,
-    printed: &mut String,
-) -> Result<(), StreamError<A::Refusal>>
-    ensures answers { OnOk result ((more : List ℕ) × IsUtf8 part.now
-        × A.answers answerer.old (Some part.now) more answerer.new
-        × (string_bytes printed.new ≡ string_bytes printed.old ++ more)) }
-    ensures stops { IfErr result
-        (StopsBefore A.refuses answerer.old (Some part.now) answerer.new) }
-    ensures kept { OnErr result (string_bytes printed.new ≡ string_bytes printed.old) }
-{
-    let Ok(text) = str::from_utf8(part) else {
-        return Err(StreamError::NotText);
-    };
-    line.clear();
-    match answerer.answer(text, line) {
-        Ok(()) => Ok(printed.push_str(line.as_str())?),
-        Err(refusal) => Err(StreamError::Refused(refusal)),
     }
 }
 

@@ -4,7 +4,7 @@ use Rattle.std.specs.Prelude.{Contains}
 use Rattle.std.specs.List.{AllByRecursion, AllZip}
 use Rattle.std.proofs.lemmas.List.Elements.{All-from_recursion}
 use Rattle.json.specs.Json as json
-use Rattle.json.specs.Json.{Items, Json, Members, array, document, object}
+use Rattle.json.specs.Json.{Items, Members}
 use Rattle.json.specs.Strict.{ItemsHaveUniqueKeys, MembersHaveUniqueKeys}
 use Rattle.haya_csl.specs.ItemLines.{IsItemLineOf, ItemsSay}
 use Rattle.haya_csl.specs.declared.item_key.ItemKey.{ItemKey}

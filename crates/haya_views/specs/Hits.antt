@@ -1,5 +1,5 @@
 -- Hits one at a time, and the numbers of the entries that names stand for.
-use Rattle.std.specs.Prelude.{◌≡◌, ◌+◌, ℕ, true, false, List, [], ◌∷◌, Option, None, Some, IfSome, IsSomeAnd, String, filter, drop, length, slice_get}
+use Rattle.std.specs.Prelude.{◌≡◌, ◌+◌, ℕ, true, false, List, [], ◌∷◌, Option, None, Some, IfSome, IsSomeAnd, String, filter, drop, slice_get}
 use Rattle.std.specs.Borrow.{Bor}
 use Rattle.std.specs.HashMap.{HashMap}
 use Rattle.haya_entry.specs.Tree.{Tree}

@@ -1,13 +1,12 @@
 -- What is written in YAML is read back.
-use Rattle.std.proofs.Common.{◌≡◌, ℕ, List, Option, Some, Result, Ok, sym, subst, ◌∙◌, arith}
-use Rattle.json.specs.Json.{Json, document}
+use Rattle.std.proofs.Common.{◌≡◌, ℕ, List, Some, Ok, sym, subst, ◌∙◌, arith}
+use Rattle.json.specs.Json.{Json}
 use Rattle.json.specs.Print.{print}
 use Rattle.json.specs.Tree.{json_tokens}
 use Rattle.haya_entry.specs.Tree.{Tree}
 use Rattle.haya_json.specs.Libraries.{library_of}
 use Rattle.haya_json.specs.Printed.{library_json}
 use Rattle.haya_json.specs.ReadBack.{ReadsBack}
-use Rattle.haya_json.specs.Refusal.{Refusal}
 use Rattle.haya_yaml_library.specs.Libraries.{DescribesAsYaml}
 use Rattle.haya_yaml_library.specs.Writing.{SaysJson}
 

@@ -1,5 +1,5 @@
 -- The library that a text says in YAML.
-use Rattle.std.specs.Prelude.{◌≡◌, ℕ, List, Some, Result, Ok, ⊤}
+use Rattle.std.specs.Prelude.{◌≡◌, ℕ, List, Some, Ok, ⊤}
 use Rattle.json.specs.Json.{Json}
 use Rattle.haya_entry.specs.Tree.{Tree}
 use Rattle.haya_json.specs.Libraries.{IsErrorOfJson, library_of}

@@ -2,6 +2,7 @@ use Rattle.std.proofs.Common.{◌≡◌, ℕ, ◌+◌, ◌*◌, ◌<◌, ◌≤�
 use Rattle.std.specs.Prelude.{option_map}
 use Rattle.haya_assignment.specs.Assignment.{greedy, greedy_beside, rows}
 use Rattle.haya_assignment.specs.Placed.{accepts, IsPlaced}
+use Rattle.haya_assignment.specs.declared.greedy.Order.TheVariants.{Ascending}
 use Rattle.haya_assignment.proofs.InTurn.{AreFlags}
 use Rattle.haya_assignment.proofs.greedy.take_in_turn.Given as goal
 
@@ -13,7 +14,8 @@ invariant-members l =
       placed : IsPlaced (accepts (rows l.table)) l.positions.items;
       held : (u : ℕ) → u < length l.positions.items → get_or l.taken.items (get_or l.positions.items u 0) false ≡ true;
       flags : AreFlags (reverse l.positions.items) l.taken.items;
-      answer : option_map (λ is. l.positions.items ++ is) (greedy_beside (reverse l.positions.items) (drop l.member (rows l.table))) ≡ greedy (rows l.table);
+      answer : l.order ≡ Ascending → option_map (λ is. l.positions.items ++ is) (greedy_beside (reverse l.positions.items) (drop l.member (rows l.table))) ≡ greedy (rows l.table);
+      first : l.member ≡ 0 → (j : ℕ) → get_or l.taken.items j false ≡ false;
       least : l.fn.steps + l.member ≤ l.steps;
       most : l.steps ≤ l.fn.steps + l.member * l.parents;
     }

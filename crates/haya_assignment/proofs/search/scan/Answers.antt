@@ -1,4 +1,4 @@
-use Rattle.std.proofs.Common.{◌≡◌, get_or, arith}
+use Rattle.std.proofs.Common.{◌≡◌, ◌∙◌, get_or, arith}
 use Rattle.haya_assignment.specs.Assignment.{rows}
 use Rattle.haya_assignment.specs.Placed.{accepts}
 use Rattle.haya_assignment.proofs.Numbers.{grows_trans}
@@ -14,6 +14,7 @@ positions-preserved c =
       reaches = ok.reaches;
       grows = grows_trans _ c.positions.reached.members.items _ was.grows ok.grows;
       as_long = omega (arith, ok.as_long);
+      scanned = c.try_position.ensures.scanned ∙ was.scanned;
       early = λ bound h. ok.early bound (λ z. absurd (omega arith)) (was.early bound h);
       closed = closed_more (accepts (rows c.args.table.now)) c.args.stays.now c.args.holders.now c.positions.reached.members.items _ _ c.positions.position ok.grows was.closed
           (λ yes. ok.closed c.if-branch.false (rw (← same) yes));

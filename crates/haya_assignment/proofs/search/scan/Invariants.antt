@@ -11,6 +11,7 @@ invariant-positions l =
       reaches : Reaches A l.stays l.holders l.reached;
       grows : Grows l.fn.reached.members.items l.reached.members.items;
       as_long : length l.reached.seen.items ≡ length l.fn.reached.seen.items;
+      scanned : l.reached.scanned.items ≡ l.fn.reached.scanned.items;
       early : (bound : ℕ) → IsEarly bound l.holders l.fn.reached → IsEarly bound l.holders l.reached;
       closed : (j : ℕ) → j < l.position → A (get_or l.fn.reached.members.items l.at 0) j ≡ true → IsClosed l.stays l.holders l.reached.members.items j;
       onward : l.fn.steps ≤ l.steps;

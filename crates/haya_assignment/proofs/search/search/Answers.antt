@@ -4,7 +4,7 @@ use Rattle.haya_assignment.specs.Assignment.{rows}
 use Rattle.haya_assignment.specs.Placed.{accepts}
 use Rattle.haya_assignment.specs.Search.{IsFree}
 use Rattle.haya_assignment.proofs.Numbers.{grows_trans}
-use Rattle.haya_assignment.proofs.Reaching.{early_weaker, layers_grow, layers_low, layers_more, reached_few, searched_below_more, searched_grows}
+use Rattle.haya_assignment.proofs.Reaching.{early_weaker, layers_grow, layers_low, layers_more, reached_few, scanned_grows, searched_below_more, searched_grows}
 use Rattle.haya_assignment.proofs.search.search.Goals as goal
 
 pub returns-in_err-try_position-clause-at_most : goal.returns-in_err-try_position-clause-at_most
@@ -52,6 +52,10 @@ follow-requires-clause-searched c =
     let len : c.len-start.result ≡ length ms = search rules in
     rw len (searched_grows (accepts (rows c.args.table.now)) c.args.stays.now (length ms) c.args.holders.now ms _ (omega arith) c.in_ok-try_position.ensures.grows c.positions.invariant.searched.later)
 
+pub follow-requires-clause-scanned : goal.follow-requires-clause-scanned
+follow-requires-clause-scanned c =
+    scanned_grows (accepts (rows c.args.table.now)) c.args.stays.now c.args.holders.now c.args.alike.now c.positions.reached _ c.try_position.ensures.scanned c.in_ok-try_position.ensures.as_long c.in_ok-try_position.ensures.grows c.positions.invariant.scanned
+
 pub returns-in-Some-clause-grows : goal.returns-in-Some-clause-grows
 returns-in-Some-clause-grows c =
     grows_trans _ c.positions.reached.members.items _ c.positions.invariant.grows
@@ -98,6 +102,7 @@ positions-preserved c =
       reaches = next.reaches;
       grows = grows_trans _ ms _ was.grows (grows_trans _ c.try_position.new.reached.members.items _ ok.grows next.grows);
       as_long = next.as_long ∙ ok.as_long ∙ was.as_long;
+      scanned = next.scanned;
       early = next.early (c.positions.position + 1) (ok.early (c.positions.position + 1) (λ z. omega arith) (early_weaker c.positions.position c.args.holders.now _ _ was.early));
       searched = searched_below_more (accepts (rows c.args.table.now)) c.args.stays.now c.positions.position c.args.holders.now ms c.try_position.new.reached.members.items _ some ok.grows next.grows was.searched
           (ok.closed c.if-branch.false) (rw c.in_default.is at next.searched);

@@ -1,7 +1,7 @@
 use Rattle.std.proofs.Common.{◌≡◌, ℕ, ◌+◌, ◌*◌, ◌<◌, ◌≤◌, get_or, length}
 use Rattle.haya_assignment.specs.Assignment.{rows}
 use Rattle.haya_assignment.specs.Placed.{accepts, Grows}
-use Rattle.haya_assignment.specs.Search.{AreLayers, IsEarly, IsSearchedBelow, Reaches}
+use Rattle.haya_assignment.specs.Search.{AreLayers, AreScanned, IsEarly, IsSearchedBelow, Reaches}
 use Rattle.haya_assignment.proofs.search.search.Given as goal
 
 abbrev pub invariant-positions : goal.invariant-positions
@@ -11,6 +11,7 @@ invariant-positions l =
       reaches : Reaches A l.stays l.holders l.reached;
       grows : Grows l.fn.reached.members.items l.reached.members.items;
       as_long : length l.reached.seen.items ≡ length l.fn.reached.seen.items;
+      scanned : AreScanned A l.stays l.holders l.alike l.reached;
       early : IsEarly l.position l.holders l.reached;
       searched : IsSearchedBelow A l.stays l.position l.holders l.reached.members.items;
       layered : AreLayers A l.stays l.holders l.reached.members.items l.layers.items;

@@ -1,7 +1,4 @@
 use Rattle.std.proofs.Common.{map, rules}
-use Rattle.std.specs.Prelude.{All}
-use Rattle.std.proofs.lemmas.List.Elements.{All-push}
-use Rattle.haya_bibtex_slices.specs.Items.{Says}
 use Rattle.haya_bibtex_slices.specs.Views.{item_view}
 use Rattle.haya_bibtex_slices.proofs.InOrder.{all_of, item_pushed, item_cut}
 use Rattle.haya_bibtex_slices.proofs.slices.item_slices.Goals as goal

@@ -1,6 +1,5 @@
-use Rattle.std.proofs.Common.{List, ℕ, [], length, map, take, arith, subst}
+use Rattle.std.proofs.Common.{List, ℕ, [], map, arith}
 use Rattle.std.specs.Borrow.{Bor}
-use Rattle.haya_bibtex_slices.specs.Items.{AreItemsIn}
 use Rattle.haya_bibtex_slices.specs.Views.{item_view}
 use Rattle.haya_bibtex_slices.proofs.InOrder.{all_texts, texts_more}
 use Rattle.haya_bibtex_slices.proofs.slices.items_of.Goals as goal

@@ -1,24 +1,24 @@
-use Rattle.std.proofs.Common.{◌≡◌, ◌++◌, List, Ok, inr, subst, sym, ◌∙◌, ℕ}
+use Rattle.std.proofs.Common.{◌≡◌, ◌++◌, List, Ok, inr, subst, ℕ}
 use Rattle.std.specs.Io.KnownBytes.{Appends}
 use Rattle.std.specs.Prelude.{IfOk, string_bytes}
 use Rattle.haya_command.specs.Source.{IsSourceAnswer}
-use Rattle.haya_command.proofs.Sourced.{beside_fault, keeps_twice}
+use Rattle.haya_command.proofs.Sourced.{beside_fault}
 use Rattle.haya_command.proofs.running.print_source.Goals as goal
 
-pub returns-in_err-write_text-clause-fault : goal.returns-in_err-write_text-clause-fault
-returns-in_err-write_text-clause-fault g c =
+pub returns-in_err-print_told-clause-fault : goal.returns-in_err-print_told-clause-fault
+returns-in_err-print_told-clause-fault g c =
     let kinds = c.in_ok-kind.ensures in
     let e = c.in_ok-library.ensures.elements c.args.form kinds in
     let answers : IfOk c.ask_source-asked.result (λ answer. IsSourceAnswer c.args.options.now c.in_ok-kind.kind e.0 c.in_ok-library.field-0.library (string_bytes answer.text) answer.found) =
     c.ask_source-asked.ensures e.0 e.2 in
-    let was : c.ask_source-asked.result ≡ Ok c.in_ok-text.field-0 = c.in_ok-text.was in
+    let was : c.ask_source-asked.result ≡ Ok c.in_ok-answer.answer = c.in_ok-answer.was in
     let answer = subst (λ r. IfOk r (λ answer. IsSourceAnswer c.args.options.now c.in_ok-kind.kind e.0 c.in_ok-library.field-0.library (string_bytes answer.text) answer.found)) was answers in
-    let begun : (first : List ℕ) × (rest : List ℕ) × (c.as_str-4.result.now ≡ first ++ rest)
-    × Appends (g.W.Write.contents c.args.out.now) (g.W.Write.contents c.write_text.new.out) first =
-    c.in_err-write_text.ensures.begun in
-    beside_fault c.from_residual-in_err-write_text.result _
+    let begun : (first : List ℕ) × (rest : List ℕ) × (string_bytes c.in_ok-answer.answer.text ≡ first ++ rest)
+    × Appends (g.W.Write.contents c.args.out.now) (g.W.Write.contents c.print_told.new.out) first =
+    c.in_err-print_told.ensures.begun in
+    beside_fault c.from_residual-in_err-print_told.result _
     (inr (record {
-      found = c.in_ok-text.field-0.found;
+      found = c.in_ok-answer.answer.found;
       first = begun.0;
       rest = begun.1;
       answers = record {
@@ -28,17 +28,11 @@ returns-in_err-write_text-clause-fault g c =
         kinds = kinds;
         are = e.1;
         reads = c.in_ok-library.ensures.read.reads;
-        answers = subst (λ text. IsSourceAnswer c.args.options.now c.in_ok-kind.kind e.0 c.in_ok-library.field-0.library text c.in_ok-text.field-0.found)
-            (sym c.as_str-4.ensures.value ∙ begun.2) answer;
+        answers = subst (λ text. IsSourceAnswer c.args.options.now c.in_ok-kind.kind e.0 c.in_ok-library.field-0.library text c.in_ok-answer.answer.found)
+            begun.2 answer;
       };
       prints = begun.3;
     }))
-
-pub returns-in_err-write_text-clause-quiet : goal.returns-in_err-write_text-clause-quiet
-returns-in_err-write_text-clause-quiet g c quiet =
-    keeps_twice (g.E.Write.contents c.args.err.now) (g.E.Write.contents c.warn.new.err) (g.E.Write.contents c.tell_notes-2.new.err)
-    (keeps_twice (g.E.Write.contents c.args.err.now) (g.E.Write.contents c.tell_notes.new.err) (g.E.Write.contents c.warn.new.err)
-    (c.tell_notes.ensures quiet) (c.warn.ensures quiet)) (c.tell_notes-2.ensures quiet)
 
 pub returns-clause-answer : goal.returns-clause-answer
 returns-clause-answer g c =
@@ -46,10 +40,10 @@ returns-clause-answer g c =
     let e = c.in_ok-library.ensures.elements c.args.form kinds in
     let answers : IfOk c.ask_source-asked.result (λ answer. IsSourceAnswer c.args.options.now c.in_ok-kind.kind e.0 c.in_ok-library.field-0.library (string_bytes answer.text) answer.found) =
     c.ask_source-asked.ensures e.0 e.2 in
-    let was : c.ask_source-asked.result ≡ Ok c.in_ok-text.field-0 = c.in_ok-text.was in
+    let was : c.ask_source-asked.result ≡ Ok c.in_ok-answer.answer = c.in_ok-answer.was in
     let answer = subst (λ r. IfOk r (λ answer. IsSourceAnswer c.args.options.now c.in_ok-kind.kind e.0 c.in_ok-library.field-0.library (string_bytes answer.text) answer.found)) was answers in
     record {
-      text = string_bytes c.in_ok-text.field-0.text;
+      text = string_bytes c.in_ok-answer.answer.text;
       answers = record {
         kind = c.in_ok-kind.kind;
         elements = e.0;
@@ -59,12 +53,5 @@ returns-clause-answer g c =
         reads = c.in_ok-library.ensures.read.reads;
         answers = answer;
       };
-      prints = subst (λ text. Appends (g.W.Write.contents c.args.out.now) (g.W.Write.contents c.write_text.new.out) text)
-          c.as_str-4.ensures.value c.in_ok-write_text.ensures.written;
+      prints = c.in_ok-print_told.ensures.written;
     }
-
-pub returns-clause-quiet : goal.returns-clause-quiet
-returns-clause-quiet g c quiet =
-    keeps_twice (g.E.Write.contents c.args.err.now) (g.E.Write.contents c.warn.new.err) (g.E.Write.contents c.tell_notes-2.new.err)
-    (keeps_twice (g.E.Write.contents c.args.err.now) (g.E.Write.contents c.tell_notes.new.err) (g.E.Write.contents c.warn.new.err)
-    (c.tell_notes.ensures quiet) (c.warn.ensures quiet)) (c.tell_notes-2.ensures quiet)

@@ -1,4 +1,4 @@
-use Rattle.std.proofs.Common.{rules, ◌≡◌, None, sym, ◌∙◌}
+use Rattle.std.proofs.Common.{rules, ◌≡◌, None}
 use Rattle.haya_text.specs.Printing.{text_display}
 use Rattle.haya_csl.specs.Markup.{cut, markup_read}
 use Rattle.haya_csl.proofs.Pieces.{plain_whole}

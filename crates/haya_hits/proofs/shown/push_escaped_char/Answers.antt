@@ -1,4 +1,4 @@
-use Rattle.std.proofs.Common.{◌≡◌, ◌≢◌, ◌++◌, ap, ◌∙◌, rules, arith}
+use Rattle.std.proofs.Common.{◌≢◌, ◌++◌, ap, ◌∙◌, rules}
 use Rattle.std.specs.Prelude.{string_bytes}
 use Rattle.haya_hits.proofs.ShownKeys.{shown-char}
 use Rattle.haya_hits.proofs.shown.push_escaped_char.Goals as goal

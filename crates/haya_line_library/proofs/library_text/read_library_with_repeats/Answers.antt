@@ -1,11 +1,11 @@
-use Rattle.std.proofs.Common.{rules, ◌≡◌, ◌++◌, ◌<◌, [], ◌∷◌, length, get_or, refl, sym, ap, ◌∙◌, length-append, arith}
+use Rattle.std.proofs.Common.{rules, ◌<◌, [], ◌∷◌, length, get_or, refl, sym, ap, ◌∙◌, length-append, arith}
 use Rattle.std.specs.Str.Iter.{lines_steps}
 use Rattle.std.specs.Str.Lines.{lines}
 use Rattle.std.proofs.lemmas.Iterator.{YieldsList}
 use Rattle.std.proofs.lemmas.Iterator.Consumers.{YieldsList-turn, YieldsList-end}
 use Rattle.std.proofs.lemmas.Iterator.Splits.{YieldsList-from_lines}
 use Rattle.std.proofs.lemmas.Result.{err_from_is_err_and}
-use Rattle.haya_line_library.specs.Repeats.{again_at, repeats_view}
+use Rattle.haya_line_library.specs.Repeats.{repeats_view}
 use Rattle.haya_line_library.proofs.Again.{Again-start, Again-line, Again-end}
 use Rattle.haya_line_library.proofs.Progress.{Progress-fault}
 use Rattle.haya_line_library.proofs.library_text.read_library_with_repeats.Goals as goal

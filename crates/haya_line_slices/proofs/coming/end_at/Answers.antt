@@ -1,5 +1,5 @@
-use Rattle.std.proofs.Common.{◌≤◌, ◌+◌, drop, length, rules, arith}
-use Rattle.haya_line_slices.proofs.EntryEnds.{another-byte, none-told}
+use Rattle.std.proofs.Common.{rules}
+use Rattle.haya_line_slices.proofs.EntryEnds.{another-byte}
 use Rattle.haya_line_slices.proofs.coming.end_at.Goals as goal
 
 pub returns-then-held-at-ne10-clause-none : goal.returns-then-held-at-ne10-clause-none

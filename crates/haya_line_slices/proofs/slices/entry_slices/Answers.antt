@@ -1,7 +1,7 @@
-use Rattle.std.proofs.Common.{◌≡◌, ◌++◌, ◌∷◌, [], ◌<◌, ap, sym, ◌∙◌, subst, arith, drop, length, rules, take}
+use Rattle.std.proofs.Common.{◌++◌, ◌∷◌, [], ◌<◌, ap, sym, ◌∙◌, subst, arith, length, rules, take}
 use Rattle.std.specs.Prelude.{map}
 use Rattle.haya_line_slices.specs.Scan.{EndsAt, IsPartedTo}
-use Rattle.haya_line_slices.proofs.Ends.{all-parted, none-left, one-more}
+use Rattle.haya_line_slices.proofs.Ends.{one-more}
 use Rattle.haya_line_slices.proofs.slices.entry_slices.Goals as goal
 
 pub entries-preserved : goal.entries-preserved

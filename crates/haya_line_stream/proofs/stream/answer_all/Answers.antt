@@ -4,7 +4,7 @@ use Rattle.std.proofs.lemmas.Result.{err_from_is_err_and, on_ok_weaker}
 use Rattle.haya_line_stream.specs.Answered.{Asked}
 use Rattle.haya_line_stream.proofs.Reading.{block_part, block_read, end_part, end_read, goes_on, is_enough, kept_read, none_read, read_fails}
 use Rattle.haya_line_stream.proofs.stream.answer_all.Goals as goal
-use Rattle.haya_line_stream.proofs.stream.answer_all.Goals.{in-Ok+in_ok-answer_block-in-Ok, in-Err+else-ne}
+use Rattle.haya_line_stream.proofs.stream.answer_all.Goals.{in-Ok+in_ok-answer_block-in-Ok, in-Err}
 
 pub reads-init : goal.reads-init
 reads-init g c = rw c.new-held.ensures.items (record { empty = search rules; read = inr (none_read (Asked g.A.Answerer.is_done g.A.Answerer.answers) _ _ _, λ k d within. absurd (omega arith)) })
@@ -17,7 +17,7 @@ reads-preserved g c =
           let took = w.in_ok-answer_block-in-Ok.ensures in
           rw (w.held-is, w.out-is, w.answerer-is, w.printed-is)
           (record { empty = took.empty; read = block_read (Asked g.A.Answerer.is_done g.A.Answerer.answers) _ _ _ _ _ _ _ _ _ _ read.0 g.A.Answerer.is_done _ _ w.in-Ok.ensures.bytes.0 took.moves })
-      | in-Err+else-ne w ↦
+      | in-Err w ↦
           rw (w.held-is, w.out-is, w.answerer-is, w.printed-is)
           (record {
             empty = c.reads.invariant.empty;
@@ -42,7 +42,7 @@ answer_block-requires g c =
 pub returns-in-Ok-eq0-clause-all : goal.returns-in-Ok-eq0-clause-all
 returns-in-Ok-eq0-clause-all g c =
     let read = goes_on (Asked g.A.Answerer.is_done g.A.Answerer.answers) g.A.Answerer.is_done _ _ _ _ _ _ c.reads.invariant.read (sym c.is_done.ensures ∙ c.if-is_done.false) in
-    let gave = rw c.in-Ok-eq0.field-0-test at c.in-Ok-eq0.ensures.bytes in
+    let gave = rw c.in-Ok-eq0.field-0-test at (rw c.in-Ok-eq0.is at c.read.ensures.bytes) in
     on_ok_weaker c.answer_rest.result
     (λ e. end_read (Asked g.A.Answerer.is_done g.A.Answerer.answers) _ _ _ _ _ _ _ _ _ _ read.0 g.A.Answerer.is_done e.0 gave.0 (gave.1 refl (search rules)) e.4 e.1
     (rw c.as_slice.ensures.value at e.2) e.3)
@@ -51,7 +51,7 @@ returns-in-Ok-eq0-clause-all g c =
 pub returns-in-Ok-eq0-clause-part : goal.returns-in-Ok-eq0-clause-part
 returns-in-Ok-eq0-clause-part g c =
     let read = goes_on (Asked g.A.Answerer.is_done g.A.Answerer.answers) g.A.Answerer.is_done _ _ _ _ _ _ c.reads.invariant.read (sym c.is_done.ensures ∙ c.if-is_done.false) in
-    let gave = rw c.in-Ok-eq0.field-0-test at c.in-Ok-eq0.ensures.bytes in
+    let gave = rw c.in-Ok-eq0.field-0-test at (rw c.in-Ok-eq0.is at c.read.ensures.bytes) in
     end_part (Asked g.A.Answerer.is_done g.A.Answerer.answers) _ _ c.reads.answerer _ _ _ _ _ _ _ read.0 g.A.Answerer.refuses _ c.answer_rest.result gave.0 (gave.1 refl (search rules))
     (rw c.as_slice.ensures.value at c.answer_rest.ensures.part)
 
@@ -63,10 +63,10 @@ returns-in_err-answer_block-in-Ok-clause-part g c =
     (block_part (Asked g.A.Answerer.is_done g.A.Answerer.answers) _ _ c.reads.answerer _ _ _ _ _ _ _ read.0 g.A.Answerer.refuses _ _ _ c.in-Ok.ensures.bytes.0
     c.in_err-answer_block-in-Ok.ensures.part)
 
-pub returns-then-ne-clause-part : goal.returns-then-ne-clause-part
-returns-then-ne-clause-part g c =
+pub returns-in-Err-2-clause-part : goal.returns-in-Err-2-clause-part
+returns-in-Err-2-clause-part g c =
     let read = goes_on (Asked g.A.Answerer.is_done g.A.Answerer.answers) g.A.Answerer.is_done _ _ _ _ _ _ c.reads.invariant.read (sym c.is_done.ensures ∙ c.if-is_done.false) in
-    read_fails (Asked g.A.Answerer.is_done g.A.Answerer.answers) _ _ c.reads.answerer _ _ _ _ _ None _ read.0 g.A.Answerer.refuses _ _ read.1 c.in-Err.ensures.bytes refl
+    read_fails (Asked g.A.Answerer.is_done g.A.Answerer.answers) _ _ c.reads.answerer _ _ _ _ _ None _ read.0 g.A.Answerer.refuses _ _ read.1 c.in-Err-2.ensures.bytes refl
 
 pub returns-clause-part : goal.returns-clause-part
 returns-clause-part g c =

@@ -7,29 +7,29 @@ use Rattle.haya_parts.proofs.parts.take_last.Goals as goal
 
 pub returns-in-Part-clause-ends : goal.returns-in-Part-clause-ends
 returns-in-Part-clause-ends g c =
-    on_ok_weaker c.answer_part.result
+    on_ok_weaker c.answer_line.result
     (λ a. (
       a.0,
       record {
         replies = (c.in-Part.part.now, a.0) ∷ [];
         ends = c.in-Part.ensures.ends;
-        run = (c.answer_part.new.answerer, (a.1, c.requires.goes_on, a.2), refl);
+        run = (c.answer_line.new.answerer, (a.1, a.2.0, a.2.1), refl);
         prints = sym (append-nil a.0);
       },
       a.3,
     ))
-    c.answer_part.ensures.answers
+    c.answer_line.ensures.answers
 
 pub returns-in-Part-clause-stops : goal.returns-in-Part-clause-stops
 returns-in-Part-clause-stops g c =
-    if_err_both c.answer_part.result _ _ _ c.answer_part.ensures.stops c.answer_part.ensures.kept
+    if_err_both c.answer_line.result _ _ _ c.answer_line.ensures.stops c.answer_line.ensures.kept
     (λ fault a kept. (
       [],
       stops_here g.D.Divider.divides g.D.Divider.are_parts g.A.Answerer.answers g.A.Answerer.refuses g.A.Answerer.is_done c.args.divider.now c.args.divider.now c.args.answerer.now c.args.answerer.now
-          c.answer_part.new.answerer c.args.held.now c.args.held.now [] fault
+          c.answer_line.new.answerer c.args.held.now c.args.held.now [] fault
           (none_moved g.D.Divider.divides g.A.Answerer.answers g.A.Answerer.is_done c.args.divider.now c.args.answerer.now c.args.held.now)
           (why_of g.D.Divider.divides g.D.Divider.are_parts g.A.Answerer.answers g.A.Answerer.refuses g.A.Answerer.is_done c.args.divider.now c.args.held.now c.in-Part.part.now c.args.answerer.now
-          c.answer_part.new.answerer fault (inr (inl c.in-Part.ensures.ends)) a),
+          c.answer_line.new.answerer fault (inr (inl c.in-Part.ensures.ends)) a),
       kept ∙ sym (append-nil (string_bytes c.args.printed.now)),
     ))
 

@@ -1,4 +1,4 @@
-use Rattle.std.proofs.Common.{◌≡◌, ◌++◌, [], ◌∷◌, false, inl, inr, refl, sym, ap, ◌∙◌, append_assoc, append-nil}
+use Rattle.std.proofs.Common.{◌++◌, [], ◌∷◌, inl, inr, refl, sym, ap, ◌∙◌, append_assoc, append-nil}
 use Rattle.std.specs.Prelude.{string_bytes}
 use Rattle.std.proofs.lemmas.Result.{err_from_is_err_and}
 use Rattle.haya_parts.proofs.Moving.{begun_on, bytes_moved, moves_on, none_moved, part_moved}
@@ -17,18 +17,16 @@ parts-init g c = record {
 pub parts-preserved-in-Part : goal.parts-preserved-in-Part
 parts-preserved-in-Part g c =
     let inv = c.parts.invariant in
-    let a = c.in_ok-answer_part-in-Part.ensures.answers in
-    let goes_on : g.A.Answerer.is_done c.parts.answerer ≡ false =
-    sym c.is_done.ensures ∙ c.if-is_done.false in
+    let a = c.in_ok-answer_line-in-Part.ensures.answers in
     let one = part_moved g.D.Divider.divides g.A.Answerer.answers g.A.Answerer.is_done c.parts.divider c.next.new.self c.parts.answerer
-    c.answer_part.new.answerer c.parts.rest.now c.in-Part.split.front.now c.in-Part.part.now
-    c.in-Part.split.behind.now a.0 c.in-Part.ensures.split.0 c.in-Part.ensures.takes a.1 goes_on a.2 in
+    c.answer_line.new.answerer c.parts.rest.now c.in-Part.split.front.now c.in-Part.part.now
+    c.in-Part.split.behind.now a.0 c.in-Part.ensures.split.0 c.in-Part.ensures.takes a.1 a.2.0 a.2.1 in
     record {
       begun = begun_on g.D.Divider.divides g.A.Answerer.answers g.A.Answerer.is_done c.parts.divider c.next.new.self c.parts.answerer
-          c.answer_part.new.answerer c.parts.rest.now c.in-Part.split.behind.now a.0 one inv.begun;
+          c.answer_line.new.answerer c.parts.rest.now c.in-Part.split.behind.now a.0 one inv.begun;
       more = inv.more ++ a.0;
       moves = moves_on g.D.Divider.divides g.A.Answerer.answers g.A.Answerer.is_done c.args.divider.now c.parts.divider c.next.new.self c.args.answerer.now
-          c.parts.answerer c.answer_part.new.answerer c.args.held.now c.parts.rest.now
+          c.parts.answerer c.answer_line.new.answerer c.args.held.now c.parts.rest.now
           c.in-Part.split.behind.now inv.more a.0 inv.moves one;
       prints = a.3 ∙ ap (λ l. l ++ a.0) inv.prints
           ∙ append_assoc (string_bytes c.args.printed.now) inv.more a.0;
@@ -53,13 +51,13 @@ parts-preserved g c =
       same = λ text parts h. inv.same text parts (c.next.ensures.same text parts h);
     }
 
-pub returns-in_err-answer_part-in-Part-clause-stops :
-    goal.returns-in_err-answer_part-in-Part-clause-stops
-returns-in_err-answer_part-in-Part-clause-stops g c =
+pub returns-in_err-answer_line-in-Part-clause-stops :
+    goal.returns-in_err-answer_line-in-Part-clause-stops
+returns-in_err-answer_line-in-Part-clause-stops g c =
     let inv = c.parts.invariant in
     let p = err_from_is_err_and c.from_residual.result c.from_residual.ensures.1 in
     let why = why_of g.D.Divider.divides g.D.Divider.are_parts g.A.Answerer.answers g.A.Answerer.refuses g.A.Answerer.is_done c.parts.divider c.parts.rest.now c.in-Part.part.now c.parts.answerer
-    c.answer_part.new.answerer _
+    c.answer_line.new.answerer _
     (inl (record {
       then = c.next.new.self;
       front = c.in-Part.split.front.now;
@@ -67,12 +65,12 @@ returns-in_err-answer_part-in-Part-clause-stops g c =
       split = c.in-Part.ensures.split.0;
       takes = c.in-Part.ensures.takes;
     }))
-    c.in_err-answer_part-in-Part.ensures.stops in
+    c.in_err-answer_line-in-Part.ensures.stops in
     rw (p.1, p.2) (
       inv.more,
       stops_here g.D.Divider.divides g.D.Divider.are_parts g.A.Answerer.answers g.A.Answerer.refuses g.A.Answerer.is_done c.args.divider.now c.parts.divider c.args.answerer.now c.parts.answerer
-          c.answer_part.new.answerer c.args.held.now c.parts.rest.now inv.more _ inv.moves why,
-      c.in_err-answer_part-in-Part.ensures.kept ∙ inv.prints,
+          c.answer_line.new.answerer c.args.held.now c.parts.rest.now inv.more _ inv.moves why,
+      c.in_err-answer_line-in-Part.ensures.kept ∙ inv.prints,
     )
 
 pub returns-in-Broken-clause-stops : goal.returns-in-Broken-clause-stops

@@ -1,4 +1,4 @@
-use Rattle.std.proofs.Common.{length, subst}
+use Rattle.std.proofs.Common.{subst}
 use Rattle.haya_line_slices.specs.Scan.{EndsAt}
 use Rattle.haya_line_slices.proofs.EntryEnds.{entry-ended}
 use Rattle.haya_line_slices.proofs.coming.EntryParts.last_entry.Goals as goal
