@@ -1,8 +1,10 @@
 -- What a search for a position keeps, and what it finds.
 use Rattle.std.specs.Prelude.{◌≡◌, ◌≢◌, ℕ, ◌+◌, ◌<◌, ◌≤◌, ◌⊎◌, Bool, false, true, List, Option}
-use Rattle.std.specs.Prelude.{Some, None, Contains, get_or, length, slice_get}
-use Rattle.haya_assignment.specs.Placed.{Grows, IsApart}
+use Rattle.std.specs.Prelude.{Some, None, All, Contains, get_or, length, slice_get, vec_len}
+use Rattle.haya_assignment.specs.Assignment.{rows}
+use Rattle.haya_assignment.specs.Placed.{accepts, Grows, IsApart}
 use Rattle.haya_assignment.specs.declared.search.Reached.{Reached}
+use Rattle.haya_assignment.specs.declared.search.Setting.{Setting}
 
 -- the holders are members below a number
 abbrev pub AreBelow : ℕ → List (Option ℕ) → Type 0
@@ -107,6 +109,19 @@ pub record HasFound (A : ℕ → ℕ → Bool) (stays : List Bool) (holders : Li
 pub record AreAlike (A : ℕ → ℕ → Bool) (alike : List ℕ) : Type 0 where
   pub known : (u : ℕ) → u < length alike → get_or alike u 0 ≤ u
   pub same : (u j : ℕ) → u < length alike → A (get_or alike u 0) j ≡ A u j
+
+-- whether a member is accepted at a position
+abbrev pub acceptance : Setting → ℕ → ℕ → Bool
+acceptance s = accepts (rows s.table.now)
+
+-- what a search goes by is of as many members and positions, and those alike are
+pub record Fits (s : Setting) : Type 0 where
+  pub width : All (λ row. vec_len row ≡ s.parents) s.table.now
+  pub rows : length s.stays.now ≤ length s.table.now
+  pub as_many : length s.holders.now ≡ s.parents
+  pub held : AreBelow (length s.stays.now) s.holders.now
+  pub likes : length s.alike.now ≡ length s.table.now
+  pub alike : AreAlike (acceptance s) s.alike.now
 
 -- the positions are closed where those members are accepted whose like is flagged
 pub record AreScanned (A : ℕ → ℕ → Bool) (stays : List Bool) (holders : List (Option ℕ))

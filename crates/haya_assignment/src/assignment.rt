@@ -8,6 +8,7 @@ ghost use Rattle.haya_assignment.specs.Search.{AreAlike};
 
 use crate::alike::all_alike;
 use crate::greedy::{Order, take_in_turn};
+use crate::order::rarest_first;
 use crate::place::{place, place_least};
 use crate::ranks::Ranks;
 use haya_entry::Steps;
@@ -117,7 +118,8 @@ fn lower(
 /// assignments the less is the one that gives the first member they place differently the lesser
 /// position. Where there is none, members that are accepted at fewer positions than they are.
 ///
-/// A tick is a look into the table. Beside these, each row is compared with at most 16 others.
+/// A tick is a look into the table. Beside these, each row is gone through once, and compared with
+/// at most 16 others.
 ///
 /// # Errors
 ///
@@ -143,13 +145,14 @@ pub fn least_assignment(
     ensures at_most { steps.new ≤ steps.old
         + (length table.now * parents + 1) * (length table.now + parents + 1) }
 {
-    let first = take_in_turn(alloc, table, parents, Order::Ascending, steps)?;
+    let first = take_in_turn(alloc, table, parents, &Order::Ascending, steps)?;
     if first.len() == table.len() {
         return Ok(Assignment::Found(first));
     }
-    let last = take_in_turn(alloc, table, parents, Order::Descending, steps)?;
+    let rarest = Order::Listed(rarest_first(alloc, table, parents)?);
+    let other = take_in_turn(alloc, table, parents, &rarest, steps)?;
     let alike = all_alike(alloc, table)?;
-    match complete(alloc, table, parents, &alike, longer(first, last), steps)? {
+    match complete(alloc, table, parents, &alike, longer(other, first), steps)? {
         Assignment::Found(mut positions) => {
             lower(alloc, table, parents, &alike, &mut positions, steps)?;
             Ok(Assignment::Found(positions))

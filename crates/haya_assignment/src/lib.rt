@@ -12,6 +12,7 @@ mod alike;
 mod assignment;
 mod greedy;
 pub mod laws;
+mod order;
 mod place;
 mod ranks;
 mod search;

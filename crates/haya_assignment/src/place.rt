@@ -10,7 +10,7 @@ ghost use Rattle.haya_assignment.specs.Search.{IsSearchedBelow, Reaches};
 ghost use Rattle.haya_assignment.specs.Shift.{AreKept, IsChain, IsReady, IsStuck};
 
 use crate::ranks::Ranks;
-use crate::search::{Reached, search};
+use crate::search::{Reached, Setting, search};
 use haya_entry::Steps;
 use haya_text::OutOfMemory;
 use std::alloc::Global;
@@ -65,10 +65,10 @@ fn shift(positions: &mut [usize], reached: &Reached, member: usize, at: usize, p
 #[derive(Drop)]
 struct Sought {
     // Of each position the other member that had it when the search began.
-    held: Vec<Option<usize>>,
+    holders: Vec<Option<usize>>,
     reached: Reached,
     // Of each member reached, up to some, its layer.
-    layer: Vec<usize>,
+    layers: Vec<usize>,
     // The place of the member reached that is accepted at a free position, and the position.
     end: Option<(usize, usize)>,
 }
@@ -80,7 +80,7 @@ fn seek(
     parents: usize,
     alike: &[usize],
     member: usize,
-    stay: &[bool],
+    stays: &[bool],
     positions: &[usize],
     steps: &mut Steps,
 ) -> Result<Sought, OutOfMemory>
@@ -89,42 +89,40 @@ fn seek(
     requires alike { AreAlike (accepts (rows table.now)) alike.now }
     requires rows { length positions.now ≤ length table.now }
     requires member_in { member < length positions.now }
-    requires flags { length stay.now ≡ length positions.now }
+    requires flags { length stays.now ≡ length positions.now }
     requires placed { IsPlacedBut (accepts (rows table.now)) member positions.now }
-    ensures holders { IfOk result (λ s. AreHolders member parents positions.now s.held.items) }
+    ensures holders { IfOk result (λ s. AreHolders member parents positions.now s.holders.items) }
     ensures reaches { IfOk result (λ s.
-        Reaches (accepts (rows table.now)) stay.now s.held.items s.reached) }
+        Reaches (accepts (rows table.now)) stays.now s.holders.items s.reached) }
     ensures first { IfOk result (λ s. Grows (member ∷ []) s.reached.members.items) }
     ensures as_long { IfOk result (λ s. length s.reached.seen.items ≡ length positions.now) }
     ensures found { IfOk result (λ s. IfSome s.end (λ end. HasFound (accepts (rows table.now))
-        stay.now s.held.items s.reached end.0 end.1)) }
+        stays.now s.holders.items s.reached end.0 end.1)) }
     ensures searched { IfOk result (λ s. IfNone s.end (IsSearchedBelow (accepts (rows table.now))
-        stay.now parents s.held.items s.reached.members.items)) }
-    ensures layered { IfOk result (λ s. AreLayers (accepts (rows table.now)) stay.now
-        s.held.items s.reached.members.items s.layer.items) }
-    ensures low { IfOk result (λ s. (t : ℕ) → t < length s.layer.items →
-        slice_index s.layer.items t < parents) }
+        stays.now parents s.holders.items s.reached.members.items)) }
+    ensures layered { IfOk result (λ s. AreLayers (accepts (rows table.now)) stays.now
+        s.holders.items s.reached.members.items s.layers.items) }
+    ensures low { IfOk result (λ s. (t : ℕ) → t < length s.layers.items →
+        slice_index s.layers.items t < parents) }
     ensures at_least { IfOk result (λ s. IsSome s.end → steps.old + 1 ≤ steps.new) }
     ensures onward { steps.old ≤ steps.new }
     ensures at_most { steps.new ≤ steps.old + length table.now * parents }
 {
-    let held = holders_of(alloc, positions, member, parents)?;
+    let holders = holders_of(alloc, positions, member, parents)?;
     let mut reached = Reached::new(alloc, member, positions.len())?;
-    let mut layer = Vec::new(alloc);
-    let end = search(
+    let mut layers = Vec::new(alloc);
+    let by = Setting {
         table,
         parents,
-        stay,
-        &held,
         alike,
-        &mut reached,
-        &mut layer,
-        steps,
-    )?;
+        holders: &holders,
+        stays,
+    };
+    let end = search(&by, &mut reached, &mut layers, steps)?;
     Ok(Sought {
-        held,
+        holders,
         reached,
-        layer,
+        layers,
         end,
     })
 }
@@ -204,7 +202,7 @@ pub fn place_least(
     let sought = seek(
         alloc, table, parents, alike, member, &stays, positions, steps,
     )?;
-    ranks.rank(member, &sought.reached.members, &sought.layer, parents);
+    ranks.rank(member, &sought.reached.members, &sought.layers, parents);
     ranks.ranks[member] = 0;
     if let Some((at, position)) = sought.end {
         shift(positions, &sought.reached, member, at, position);

@@ -4,7 +4,7 @@ ghost use Rattle.std.specs.Prelude.{get_or, slice_index, vec_len, All, IfNone, I
 ghost use Rattle.std.specs.Prelude.{IfSome, OnOk, IsSome, Some, None};
 ghost use Rattle.haya_assignment.specs.Assignment.{rows};
 ghost use Rattle.haya_assignment.specs.Placed.{accepts, Grows};
-ghost use Rattle.haya_assignment.specs.Search.{AreAlike, AreBelow, AreLayers, AreScanned};
+ghost use Rattle.haya_assignment.specs.Search.{acceptance, AreLayers, AreScanned, Fits};
 ghost use Rattle.haya_assignment.specs.Search.{HasFound, IsClosed, IsEarly, IsFree, IsSearched};
 ghost use Rattle.haya_assignment.specs.Search.{IsSearchedBelow, Reaches};
 
@@ -28,6 +28,20 @@ pub fn look(
 {
     steps.tick();
     table[member][position]
+}
+
+/// What a search goes by.
+#[derive(Clone, Copy)]
+pub struct Setting<'a> {
+    // Whether each member is accepted at each position, of which there are `parents`.
+    pub table: &'a [Vec<bool>],
+    pub parents: usize,
+    // Of each member one that has the same row.
+    pub alike: &'a [usize],
+    // Of each position the member that has it.
+    pub holders: &'a [Option<usize>],
+    // Flags of the members that can't move.
+    pub stays: &'a [bool],
 }
 
 /// The members that a search has reached, each but the first by way of one before it.
@@ -100,45 +114,39 @@ fn is_open(stays: &[bool], reached: &Reached, member: usize) -> bool
 /// Whether the position is free, and the member reached at the place `at` accepted there. Where
 /// another member has it that can move, that one is reached too.
 fn try_position(
-    table: &[Vec<bool>],
-    parents: usize,
-    stays: &[bool],
-    holders: &[Option<usize>],
+    by: &Setting<'_>,
     reached: &mut Reached,
     at: usize,
     position: usize,
     steps: &mut Steps,
 ) -> Result<bool, OutOfMemory>
-    requires width { All (λ row. vec_len row ≡ parents) table.now }
-    requires position_in { position < parents }
-    requires as_many { length holders.now ≡ parents }
-    requires rows { length reached.old.seen.items ≤ length table.now }
-    requires held { AreBelow (length reached.old.seen.items) holders.now }
-    requires flags { length stays.now ≡ length reached.old.seen.items }
+    requires fits { Fits by.now }
+    requires position_in { position < by.now.parents }
+    requires flags { length by.now.stays.now ≡ length reached.old.seen.items }
     requires at_in { at < length reached.old.members.items }
-    requires reaches { Reaches (accepts (rows table.now)) stays.now holders.now reached.old }
+    requires reaches { Reaches (acceptance by.now) by.now.stays.now by.now.holders.now reached.old }
     ensures reaches { OnOk result
-        (Reaches (accepts (rows table.now)) stays.now holders.now reached.new) }
+        (Reaches (acceptance by.now) by.now.stays.now by.now.holders.now reached.new) }
     ensures grows { OnOk result (Grows reached.old.members.items reached.new.members.items) }
     ensures as_long { OnOk result (length reached.new.seen.items ≡ length reached.old.seen.items) }
     ensures scanned { reached.new.scanned.items ≡ reached.old.scanned.items }
     ensures early { (bound : ℕ) → (at ≡ 0 → position < bound) →
-        IsEarly bound holders.now reached.old →
-        OnOk result (IsEarly bound holders.now reached.new) }
-    ensures free { IfOk result (λ found. found ≡ true → IsFree (accepts (rows table.now))
-        holders.now (slice_index reached.old.members.items at) position) }
+        IsEarly bound by.now.holders.now reached.old →
+        OnOk result (IsEarly bound by.now.holders.now reached.new) }
+    ensures free { IfOk result (λ found. found ≡ true → IsFree (acceptance by.now)
+        by.now.holders.now (slice_index reached.old.members.items at) position) }
     ensures closed { IfOk result (λ found. found ≡ false →
-        accepts (rows table.now) (slice_index reached.old.members.items at) position ≡ true →
-        IsClosed stays.now holders.now reached.new.members.items position) }
+        acceptance by.now (slice_index reached.old.members.items at) position ≡ true →
+        IsClosed by.now.stays.now by.now.holders.now reached.new.members.items position) }
     ensures at_least { IfOk result (λ found. found ≡ true → steps.old + 1 ≤ steps.new) }
     ensures onward { steps.old ≤ steps.new }
     ensures at_most { steps.new ≤ steps.old + 1 }
 {
     let member = reached.members[at];
-    let Some(other) = holders[position] else {
-        return Ok(look(table, parents, member, position, steps));
+    let Some(other) = by.holders[position] else {
+        return Ok(look(by.table, by.parents, member, position, steps));
     };
-    if is_open(stays, reached, other) && look(table, parents, member, position, steps) {
+    if is_open(by.stays, reached, other) && look(by.table, by.parents, member, position, steps) {
         reached.push(other, at)?;
     }
     Ok(false)
@@ -147,40 +155,34 @@ fn try_position(
 /// Goes through the positions for the member reached at the place `at`, up to one that is free
 /// and accepts it.
 fn scan(
-    table: &[Vec<bool>],
-    parents: usize,
-    stays: &[bool],
-    holders: &[Option<usize>],
+    by: &Setting<'_>,
     reached: &mut Reached,
     at: usize,
     steps: &mut Steps,
 ) -> Result<Option<usize>, OutOfMemory>
-    requires width { All (λ row. vec_len row ≡ parents) table.now }
-    requires as_many { length holders.now ≡ parents }
-    requires rows { length reached.old.seen.items ≤ length table.now }
-    requires held { AreBelow (length reached.old.seen.items) holders.now }
-    requires flags { length stays.now ≡ length reached.old.seen.items }
+    requires fits { Fits by.now }
+    requires flags { length by.now.stays.now ≡ length reached.old.seen.items }
     requires at_in { at < length reached.old.members.items }
     requires later { 0 < at }
-    requires reaches { Reaches (accepts (rows table.now)) stays.now holders.now reached.old }
+    requires reaches { Reaches (acceptance by.now) by.now.stays.now by.now.holders.now reached.old }
     ensures reaches { OnOk result
-        (Reaches (accepts (rows table.now)) stays.now holders.now reached.new) }
+        (Reaches (acceptance by.now) by.now.stays.now by.now.holders.now reached.new) }
     ensures grows { OnOk result (Grows reached.old.members.items reached.new.members.items) }
     ensures as_long { OnOk result (length reached.new.seen.items ≡ length reached.old.seen.items) }
     ensures scanned { reached.new.scanned.items ≡ reached.old.scanned.items }
-    ensures early { (bound : ℕ) → IsEarly bound holders.now reached.old →
-        OnOk result (IsEarly bound holders.now reached.new) }
-    ensures free { IfOk result (λ o. IfSome o (λ position. IsFree (accepts (rows table.now))
-        holders.now (slice_index reached.old.members.items at) position)) }
+    ensures early { (bound : ℕ) → IsEarly bound by.now.holders.now reached.old →
+        OnOk result (IsEarly bound by.now.holders.now reached.new) }
+    ensures free { IfOk result (λ o. IfSome o (λ position. IsFree (acceptance by.now)
+        by.now.holders.now (slice_index reached.old.members.items at) position)) }
     ensures closed { IfOk result (λ o. IfNone o ((position : ℕ) →
-        accepts (rows table.now) (slice_index reached.old.members.items at) position ≡ true →
-        IsClosed stays.now holders.now reached.new.members.items position)) }
+        acceptance by.now (slice_index reached.old.members.items at) position ≡ true →
+        IsClosed by.now.stays.now by.now.holders.now reached.new.members.items position)) }
     ensures at_least { IfOk result (λ o. IsSome o → steps.old + 1 ≤ steps.new) }
     ensures onward { steps.old ≤ steps.new }
-    ensures at_most { steps.new ≤ steps.old + parents }
+    ensures at_most { steps.new ≤ steps.old + by.now.parents }
 {
-    'positions: for position in 0..parents {
-        if try_position(table, parents, stays, holders, reached, at, position, steps)? {
+    'positions: for position in 0..by.parents {
+        if try_position(by, reached, at, position, steps)? {
             return Ok(Some(position));
         }
     }
@@ -189,49 +191,40 @@ fn scan(
 
 /// The same, unless the positions were gone through for a member like it.
 fn scan_once(
-    table: &[Vec<bool>],
-    parents: usize,
-    stays: &[bool],
-    holders: &[Option<usize>],
-    alike: &[usize],
+    by: &Setting<'_>,
     reached: &mut Reached,
     at: usize,
     steps: &mut Steps,
 ) -> Result<Option<usize>, OutOfMemory>
-    requires width { All (λ row. vec_len row ≡ parents) table.now }
-    requires as_many { length holders.now ≡ parents }
-    requires rows { length reached.old.seen.items ≤ length table.now }
-    requires held { AreBelow (length reached.old.seen.items) holders.now }
-    requires flags { length stays.now ≡ length reached.old.seen.items }
-    requires likes { length alike.now ≡ length table.now }
-    requires alike { AreAlike (accepts (rows table.now)) alike.now }
+    requires fits { Fits by.now }
+    requires flags { length by.now.stays.now ≡ length reached.old.seen.items }
     requires at_in { at < length reached.old.members.items }
     requires later { 0 < at }
-    requires reaches { Reaches (accepts (rows table.now)) stays.now holders.now reached.old }
-    requires scanned { AreScanned (accepts (rows table.now)) stays.now holders.now alike.now
-        reached.old }
+    requires reaches { Reaches (acceptance by.now) by.now.stays.now by.now.holders.now reached.old }
+    requires scanned { AreScanned (acceptance by.now) by.now.stays.now by.now.holders.now
+        by.now.alike.now reached.old }
     ensures reaches { OnOk result
-        (Reaches (accepts (rows table.now)) stays.now holders.now reached.new) }
+        (Reaches (acceptance by.now) by.now.stays.now by.now.holders.now reached.new) }
     ensures grows { OnOk result (Grows reached.old.members.items reached.new.members.items) }
     ensures as_long { OnOk result (length reached.new.seen.items ≡ length reached.old.seen.items) }
-    ensures scanned { OnOk result (AreScanned (accepts (rows table.now)) stays.now holders.now
-        alike.now reached.new) }
-    ensures early { (bound : ℕ) → IsEarly bound holders.now reached.old →
-        OnOk result (IsEarly bound holders.now reached.new) }
-    ensures free { IfOk result (λ o. IfSome o (λ position. IsFree (accepts (rows table.now))
-        holders.now (slice_index reached.old.members.items at) position)) }
+    ensures scanned { OnOk result (AreScanned (acceptance by.now) by.now.stays.now
+        by.now.holders.now by.now.alike.now reached.new) }
+    ensures early { (bound : ℕ) → IsEarly bound by.now.holders.now reached.old →
+        OnOk result (IsEarly bound by.now.holders.now reached.new) }
+    ensures free { IfOk result (λ o. IfSome o (λ position. IsFree (acceptance by.now)
+        by.now.holders.now (slice_index reached.old.members.items at) position)) }
     ensures closed { IfOk result (λ o. IfNone o ((position : ℕ) →
-        accepts (rows table.now) (slice_index reached.old.members.items at) position ≡ true →
-        IsClosed stays.now holders.now reached.new.members.items position)) }
+        acceptance by.now (slice_index reached.old.members.items at) position ≡ true →
+        IsClosed by.now.stays.now by.now.holders.now reached.new.members.items position)) }
     ensures at_least { IfOk result (λ o. IsSome o → steps.old + 1 ≤ steps.new) }
     ensures onward { steps.old ≤ steps.new }
-    ensures at_most { steps.new ≤ steps.old + parents }
+    ensures at_most { steps.new ≤ steps.old + by.now.parents }
 {
-    let like = alike[reached.members[at]];
+    let like = by.alike[reached.members[at]];
     if reached.scanned[like] {
         return Ok(None);
     }
-    if let Some(position) = scan(table, parents, stays, holders, reached, at, steps)? {
+    if let Some(position) = scan(by, reached, at, steps)? {
         return Ok(Some(position));
     }
     reached.scanned[like] = true;
@@ -241,53 +234,44 @@ fn scan_once(
 /// Goes through the members reached from the place `start` on, in the order in which they were
 /// reached, up to one that is accepted at a free position: its place, and the position.
 fn follow(
-    table: &[Vec<bool>],
-    parents: usize,
-    stays: &[bool],
-    holders: &[Option<usize>],
-    alike: &[usize],
+    by: &Setting<'_>,
     reached: &mut Reached,
     start: usize,
     steps: &mut Steps,
 ) -> Result<Option<(usize, usize)>, OutOfMemory>
-    requires width { All (λ row. vec_len row ≡ parents) table.now }
-    requires as_many { length holders.now ≡ parents }
-    requires rows { length reached.old.seen.items ≤ length table.now }
-    requires held { AreBelow (length reached.old.seen.items) holders.now }
-    requires flags { length stays.now ≡ length reached.old.seen.items }
-    requires likes { length alike.now ≡ length table.now }
-    requires alike { AreAlike (accepts (rows table.now)) alike.now }
+    requires fits { Fits by.now }
+    requires flags { length by.now.stays.now ≡ length reached.old.seen.items }
     requires later { 0 < start }
     requires start_in { start ≤ length reached.old.members.items }
-    requires reaches { Reaches (accepts (rows table.now)) stays.now holders.now reached.old }
-    requires searched { IsSearched (accepts (rows table.now)) stays.now start holders.now
+    requires reaches { Reaches (acceptance by.now) by.now.stays.now by.now.holders.now reached.old }
+    requires searched { IsSearched (acceptance by.now) by.now.stays.now start by.now.holders.now
         reached.old.members.items }
-    requires scanned { AreScanned (accepts (rows table.now)) stays.now holders.now alike.now
-        reached.old }
+    requires scanned { AreScanned (acceptance by.now) by.now.stays.now by.now.holders.now
+        by.now.alike.now reached.old }
     ensures reaches { OnOk result
-        (Reaches (accepts (rows table.now)) stays.now holders.now reached.new) }
+        (Reaches (acceptance by.now) by.now.stays.now by.now.holders.now reached.new) }
     ensures grows { OnOk result (Grows reached.old.members.items reached.new.members.items) }
     ensures as_long { OnOk result (length reached.new.seen.items ≡ length reached.old.seen.items) }
-    ensures scanned { OnOk result (AreScanned (accepts (rows table.now)) stays.now holders.now
-        alike.now reached.new) }
-    ensures early { (bound : ℕ) → IsEarly bound holders.now reached.old →
-        OnOk result (IsEarly bound holders.now reached.new) }
+    ensures scanned { OnOk result (AreScanned (acceptance by.now) by.now.stays.now
+        by.now.holders.now by.now.alike.now reached.new) }
+    ensures early { (bound : ℕ) → IsEarly bound by.now.holders.now reached.old →
+        OnOk result (IsEarly bound by.now.holders.now reached.new) }
     ensures free { IfOk result (λ o. IfSome o (λ end. (0 < end.0)
         × (end.0 < length reached.new.members.items)
-        × IsFree (accepts (rows table.now)) holders.now
+        × IsFree (acceptance by.now) by.now.holders.now
         (slice_index reached.new.members.items end.0) end.1)) }
-    ensures searched { IfOk result (λ o. IfNone o (IsSearched (accepts (rows table.now)) stays.now
-        (length reached.new.members.items) holders.now reached.new.members.items)) }
+    ensures searched { IfOk result (λ o. IfNone o (IsSearched (acceptance by.now) by.now.stays.now
+        (length reached.new.members.items) by.now.holders.now reached.new.members.items)) }
     ensures at_least { IfOk result (λ o. IsSome o → steps.old + 1 ≤ steps.new) }
     ensures onward { steps.old ≤ steps.new }
-    ensures none_at_most { IfOk result (λ o. IfNone o (steps.new + start * parents
-        ≤ steps.old + length reached.new.members.items * parents)) }
-    ensures at_most { steps.new + start * parents ≤ steps.old + length table.now * parents }
+    ensures none_at_most { IfOk result (λ o. IfNone o (steps.new + start * by.now.parents
+        ≤ steps.old + length reached.new.members.items * by.now.parents)) }
+    ensures at_most { steps.new + start * by.now.parents
+        ≤ steps.old + length by.now.table.now * by.now.parents }
 {
     let mut at = start;
     'members: while at < reached.members.len() {
-        let found = scan_once(table, parents, stays, holders, alike, reached, at, steps)?;
-        if let Some(position) = found {
+        if let Some(position) = scan_once(by, reached, at, steps)? {
             return Ok(Some((at, position)));
         }
         at += 1;
@@ -313,49 +297,40 @@ fn fill(layers: &mut Vec<usize>, count: usize, layer: usize) -> Result<(), OutOf
 /// members that can be reached by way of it were gone through: they are a layer. Ends at a member
 /// that is accepted at a free position: its place, and the position.
 pub fn search(
-    table: &[Vec<bool>],
-    parents: usize,
-    stays: &[bool],
-    holders: &[Option<usize>],
-    alike: &[usize],
+    by: &Setting<'_>,
     reached: &mut Reached,
     layers: &mut Vec<usize>,
     steps: &mut Steps,
 ) -> Result<Option<(usize, usize)>, OutOfMemory>
-    requires width { All (λ row. vec_len row ≡ parents) table.now }
-    requires as_many { length holders.now ≡ parents }
-    requires rows { length reached.old.seen.items ≤ length table.now }
-    requires held { AreBelow (length reached.old.seen.items) holders.now }
-    requires flags { length stays.now ≡ length reached.old.seen.items }
-    requires likes { length alike.now ≡ length table.now }
-    requires alike { AreAlike (accepts (rows table.now)) alike.now }
+    requires fits { Fits by.now }
+    requires flags { length by.now.stays.now ≡ length reached.old.seen.items }
     requires one { length reached.old.members.items ≡ 1 }
     requires no_layer { length layers.old.items ≡ 0 }
-    requires reaches { Reaches (accepts (rows table.now)) stays.now holders.now reached.old }
-    requires scanned { AreScanned (accepts (rows table.now)) stays.now holders.now alike.now
-        reached.old }
+    requires reaches { Reaches (acceptance by.now) by.now.stays.now by.now.holders.now reached.old }
+    requires scanned { AreScanned (acceptance by.now) by.now.stays.now by.now.holders.now
+        by.now.alike.now reached.old }
     ensures reaches { OnOk result
-        (Reaches (accepts (rows table.now)) stays.now holders.now reached.new) }
+        (Reaches (acceptance by.now) by.now.stays.now by.now.holders.now reached.new) }
     ensures grows { OnOk result (Grows reached.old.members.items reached.new.members.items) }
     ensures as_long { OnOk result (length reached.new.seen.items ≡ length reached.old.seen.items) }
-    ensures found { IfOk result (λ o. IfSome o (λ end. HasFound (accepts (rows table.now))
-        stays.now holders.now reached.new end.0 end.1)) }
-    ensures searched { IfOk result (λ o. IfNone o (IsSearchedBelow (accepts (rows table.now))
-        stays.now parents holders.now reached.new.members.items)) }
-    ensures layered { OnOk result (AreLayers (accepts (rows table.now)) stays.now holders.now
+    ensures found { IfOk result (λ o. IfSome o (λ end. HasFound (acceptance by.now)
+        by.now.stays.now by.now.holders.now reached.new end.0 end.1)) }
+    ensures searched { IfOk result (λ o. IfNone o (IsSearchedBelow (acceptance by.now)
+        by.now.stays.now by.now.parents by.now.holders.now reached.new.members.items)) }
+    ensures layered { OnOk result (AreLayers (acceptance by.now) by.now.stays.now by.now.holders.now
         reached.new.members.items layers.new.items) }
     ensures low { OnOk result ((t : ℕ) → t < length layers.new.items →
-        slice_index layers.new.items t < parents) }
+        slice_index layers.new.items t < by.now.parents) }
     ensures at_least { IfOk result (λ o. IsSome o → steps.old + 1 ≤ steps.new) }
     ensures onward { steps.old ≤ steps.new }
-    ensures at_most { steps.new ≤ steps.old + length table.now * parents }
+    ensures at_most { steps.new ≤ steps.old + length by.now.table.now * by.now.parents }
 {
-    'positions: for position in 0..parents {
+    'positions: for position in 0..by.parents {
         let start = reached.members.len();
-        if try_position(table, parents, stays, holders, reached, 0, position, steps)? {
+        if try_position(by, reached, 0, position, steps)? {
             return Ok(Some((0, position)));
         }
-        if let Some(end) = follow(table, parents, stays, holders, alike, reached, start, steps)? {
+        if let Some(end) = follow(by, reached, start, steps)? {
             return Ok(Some(end));
         }
         fill(layers, reached.members.len(), position)?;

@@ -75,13 +75,27 @@ fn add_field<'a>(fields: &mut Fields<'a>, field: FieldRef<'a>) -> Result<(), All
     Ok(())
 }
 
-/// These fields. The error: there was no memory for them.
+/// References to these fields. The error: there was no memory for them.
+pub(crate) fn own_list<'a>(alloc: Global, own: &'a [Field]) -> Result<Vec<FieldRef<'a>>, AllocError>
+    ensures { IfOk result (λ v. fields_view v.items ≡ map field_bytes own.now) }
+{
+    let mut list = Vec::with_capacity(alloc, own.len())?;
+    'own: for field in own {
+        list.push(FieldRef {
+            name: field.name.as_str(),
+            text: field.text.as_str(),
+        })?;
+    }
+    Ok(list)
+}
+
+/// These fields, and their names. The error: there was no memory for them.
 pub(crate) fn own_fields<'a>(alloc: Global, own: &'a [Field]) -> Result<Fields<'a>, AllocError>
     ensures knows { IfOk result KnowsNames }
     ensures fields { IfOk result (λ f. fields_view f.list.items ≡ map field_bytes own.now) }
 {
     let mut fields = Fields {
-        list: Vec::new(alloc),
+        list: Vec::with_capacity(alloc, own.len())?,
         names: BTreeMap::new(alloc),
     };
     'own: for field in own {

@@ -17,7 +17,7 @@ ghost use Rattle.haya_bibtex_inherited.specs.Views.{entry_bytes, entry_view, fie
 ghost use Rattle.haya_bibtex_inherited.specs.Views.{reference_view};
 
 use crate::changes::changes_between;
-use crate::field::{FieldRef, Fields, add_given, own_fields};
+use crate::field::{FieldRef, Fields, add_given, own_fields, own_list};
 use crate::order::{Order, in_order};
 use crate::reference::Reference;
 use crate::source::{Source, all_sources, reference_graph};
@@ -99,7 +99,11 @@ fn all_fields<'a>(
         ≡ all_fields (have_same_rank ranks.now) (map entry_bytes entries.now)
         (lists_view lists.now) place) }
 {
-    let mut fields = own_fields(alloc, entries[place].fields.as_slice())?;
+    let own = entries[place].fields.as_slice();
+    if found.is_empty() {
+        return own_list(alloc, own);
+    }
+    let mut fields = own_fields(alloc, own)?;
     'sources: for source in found {
         add_source(&mut fields, entries, ranks, lists, place, source)?;
     }

@@ -1,7 +1,10 @@
 //! The pieces of a value.
 ghost use Rattle.std.specs.Prelude.{◌≡◌, ◌≤◌, ◌<◌, Ok, Err, IfOk, IfErr, length};
+ghost use Rattle.haya_bibtex_text.specs.GroupViews.{IsBefore, end_view};
+ghost use Rattle.haya_bibtex_text.specs.Groups.{end_of};
 ghost use Rattle.haya_bibtex_text.specs.Pieces.{enclosed_piece, piece_at, word_at};
 ghost use Rattle.haya_bibtex_text.specs.PieceViews.{piece_view};
+ghost use Rattle.haya_bibtex_text.specs.Signs.{close_brace, quote};
 
 use crate::classes::Class;
 use crate::fault::{FaultKind, Refusal};
@@ -39,6 +42,66 @@ pub(crate) fn read_piece<'a>(
     }
 }
 
+// Where the balanced text ends that a brace closes. Most characters come before both braces.
+fn braces_end(text: &[char]) -> End
+    ensures end { end_view result ≡ end_of close_brace text.now }
+    ensures within { IsBefore (length text.now) result }
+{
+    let mut depth: usize = 0;
+    let mut count: usize = 0;
+    'characters: for c in text {
+        if *c >= '{' {
+            if *c == '{' {
+                depth += 1;
+            } else if *c == '}' {
+                if depth == 0 {
+                    return End::Closed(count);
+                }
+                depth -= 1;
+            }
+        }
+        count += 1;
+    }
+    End::Nowhere
+}
+
+// The same where a quotation mark closes it.
+fn quotes_end(text: &[char]) -> End
+    ensures end { end_view result ≡ end_of quote text.now }
+    ensures within { IsBefore (length text.now) result }
+{
+    let mut depth: usize = 0;
+    let mut count: usize = 0;
+    'characters: for c in text {
+        if *c < '{' {
+            if *c == '"' && depth == 0 {
+                return End::Closed(count);
+            }
+        } else if *c == '{' {
+            depth += 1;
+        } else if *c == '}' {
+            if depth == 0 {
+                return End::Stray(count);
+            }
+            depth -= 1;
+        }
+        count += 1;
+    }
+    End::Nowhere
+}
+
+// Where the balanced text ends that this sign closes.
+fn enclosed_end(sign: char, text: &[char]) -> End
+    ensures end { end_view result ≡ end_of sign text.now }
+    ensures within { IsBefore (length text.now) result }
+{
+    match sign {
+        '}' => braces_end(text),
+        '"' => quotes_end(text),
+        _ => end_of(sign, text),
+    }
+}
+
 // The text up to the sign that closes it, and what is left behind that. So many characters are left
 // at the sign that opens it.
 fn read_enclosed<'a>(
@@ -51,7 +114,7 @@ fn read_enclosed<'a>(
     ensures fault { IfErr result (λ f. enclosed_piece place sign text.now ≡ Err f) }
     ensures shorter { IfOk result (λ p. length p.1.now ≤ length text.now) }
 {
-    match end_of(sign, text) {
+    match enclosed_end(sign, text) {
         End::Closed(count) => Ok((Piece::Text(&text[..count]), &text[count + 1..])),
         End::Stray(count) => Err(Refusal {
             kind: FaultKind::Brace,

@@ -35,6 +35,9 @@ fn push_text(text: &mut String, more: &str) -> Result<(), AllocError>
 fn char_count(text: &str) -> usize
     ensures { result ≡ length (chars text.now) }
 {
+    if text.is_ascii() {
+        return text.len();
+    }
     text.chars().count()
 }
 
@@ -175,7 +178,7 @@ pub(crate) fn filled_fields(
     ensures room { Spends room.old
         (field_uses (strings_view strings.now) (map field_view written.now)) room.new result }
 {
-    let mut fields = Vec::new(alloc);
+    let mut fields = Vec::with_capacity(alloc, written.len())?;
     'fields: for field in written {
         match push_filled(alloc, strings, field, &mut fields, room, passed_over) {
             Ok(()) => {}

@@ -1,25 +1,39 @@
 -- The derived `==` tells whether two entries have the same view.
-use Rattle.std.proofs.Common.{◌≡◌, ℕ, suc, zero, ◌+◌, ◌≤◌, Bool, true, ◌&&◌, List, [], ◌∷◌, refl, ap, map, Vec, arith}
+use Rattle.std.proofs.Common.{◌≡◌, ℕ, suc, zero, ◌+◌, ◌≤◌, Bool, true, ◌&&◌, List, [], ◌∷◌, ◌++◌, Option, Global, refl, ap, map, Vec, arith}
+use Rattle.std.specs.Option.{option_to_list}
+use Rattle.std.specs.Prelude.{String}
+use Rattle.std.specs.String.{string_eq}
 use lib.Pointwise.{pointwise}
 use denote.Enum.Bare.{same_true, true_same}
 use Rattle.haya_entry.specs.declared.entry.Entry.{Entry, out-Entry}
 use Rattle.haya_entry.specs.contracts.types.EntryType as entry_type
 use Rattle.haya_entry.specs.contracts.entry.EntryPartialEq.TheImpl as entry
 use Rattle.haya_entry.specs.contracts.entry.EntryPartialEq.TheImpl.Laws as entry_laws
-use Rattle.haya_entry.specs.contracts.types.SerialNumberPartialEq.TheImpl as serial
+use Rattle.haya_entry.specs.contracts.serial_number.SerialNumberPartialEq.TheImpl as serial
 use Rattle.haya_numbers.proofs.Equal.{numeric-tells}
 use Rattle.haya_people.proofs.Equal.{persons-tell}
 use Rattle.haya_people.proofs.RoleEqual.{persons_with_roles-tell}
 use Rattle.haya_time.specs.DateEquality.{dates-tell, option-same}
 use Rattle.haya_entry.specs.SerialNumber.{serial_entry, serial_view}
+use Rattle.haya_entry.proofs.SerialLemmas.{told_apart}
 use Rattle.haya_entry.specs.Tree.{Fields, Tree, Trees, node, trees, tree_list, fields, view, size, sizes}
 use Rattle.haya_entry.proofs.Trees.{tree_list-trees, view_is}
 use Rattle.haya_text.proofs.Tells.{Same, Tells, Same-both, Same-along, and-both, both-and, lists-tell, options-tell, strings-tell}
 use Rattle.haya_text.proofs.Equal.{texts-tell}
 use Rattle.haya_values.proofs.Equal.{numbers_or_texts-tell, pages_or_texts-tell, ranges_or_texts-tell, durations_or_texts-tell, urls-tell, publishers-tell}
 
+abbrev Number : Type 0
+Number = String Global × String Global
+
+numbers-tell : Tells {X = Number} (λ p q. string_eq p.0 q.0 && string_eq p.1 q.1) serial_entry
+numbers-tell p q = Same-both _ _ _ _ _ _ (strings-tell p.0 q.0) (strings-tell p.1 q.1)
+
 pub serials-tell : Tells serial.ghosts.eq serial_view
-serials-tell a b = lists-tell _ serial_entry (λ p q. Same-both _ _ _ _ _ _ (strings-tell p.0 q.0) (strings-tell p.1 q.1)) a.0.entries b.0.entries
+serials-tell a b =
+    let both = Same-both _ _ _ _ _ _ (options-tell _ serial_entry numbers-tell a.only b.only) (lists-tell _ serial_entry numbers-tell a.several.entries b.several.entries) in (
+      λ h. ap (λ (parts : Option (List ℕ × List ℕ) × List (List ℕ × List ℕ)). option_to_list parts.0 ++ parts.1) (both.0 h),
+      λ e. let parts = told_apart serial_entry a.only b.only a.several.entries b.several.entries a.apart b.apart e in both.1 (λ i. (parts.0 i, parts.1 i)),
+    )
 
 -- `==` of vectors, item by item
 vectors-tell : {X V Z : Type 0} (E : X → X → Bool) (v : X → V) → Tells E v

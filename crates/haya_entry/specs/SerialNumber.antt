@@ -1,11 +1,13 @@
 -- Serial numbers by value: texts under keys.
-use Rattle.std.specs.Prelude.{ℕ, List, [], Option, None, Some, map, String, string_bytes}
+use Rattle.std.specs.Prelude.{ℕ, List, [], ◌++◌, Option, None, Some, map, option_map}
+use Rattle.std.specs.Prelude.{String, string_bytes}
+use Rattle.std.specs.Option.{option_to_list}
 use Rattle.std.specs.BTreeMap.{insert_entry}
 use Rattle.std.specs.Cmp.Lexicographic.{slice_cmp}
 use Rattle.std.specs.Map.{lookup}
 use Rattle.std.specs.Ordering.{nat_cmp}
 use Rattle.std.specs.Str.{bytes_eq}
-use Rattle.haya_entry.specs.declared.types.SerialNumber.{SerialNumber}
+use Rattle.haya_entry.specs.declared.serial_number.SerialNumber.{SerialNumber}
 
 -- keys with their texts, in the order of the keys
 abbrev pub Serials : Type 0
@@ -15,9 +17,17 @@ Serials = List (List ℕ × List ℕ)
 abbrev pub serial_entry : {B : Type 0} → String B × String B → List ℕ × List ℕ
 serial_entry e = (string_bytes e.0, string_bytes e.1)
 
+-- the only one, where there is one
+abbrev pub only_serial : SerialNumber → Option (List ℕ × List ℕ)
+only_serial s = option_map serial_entry s.only
+
+-- all, where there is none or more than one
+abbrev pub several_serials : SerialNumber → Serials
+several_serials s = map serial_entry s.several.entries
+
 -- the value of serial numbers
 abbrev pub serial_view : SerialNumber → Serials
-serial_view s = map serial_entry s.0.entries
+serial_view s = option_to_list (only_serial s) ++ several_serials s
 
 -- the text that is kept under a key
 abbrev pub serial_text : List ℕ → Option Serials → Option (List ℕ)

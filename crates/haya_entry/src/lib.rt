@@ -12,10 +12,12 @@
 mod entry;
 mod field_name;
 pub mod laws;
+mod serial_number;
 mod steps;
 mod types;
 
 pub use entry::Entry;
 pub use field_name::{FieldName, UnknownField};
+pub use serial_number::SerialNumber;
 pub use steps::Steps;
-pub use types::{EntryType, SerialNumber, UnknownType};
+pub use types::{EntryType, UnknownType};

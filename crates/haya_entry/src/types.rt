@@ -1,13 +1,9 @@
-//! The types of entries, and the numbers that catalogues know works by.
-ghost use Rattle.std.specs.Prelude.{◌≡◌, IfOk, find};
+//! The types of entries.
+ghost use Rattle.std.specs.Prelude.{◌≡◌, find};
 ghost use Rattle.std.specs.Result.{result_ok};
-ghost use Rattle.haya_entry.specs.SerialNumber.{Serials, serial_view};
 ghost use Rattle.haya_entry.specs.ParentTypes.{default_parent};
 ghost use Rattle.haya_entry.specs.EntryType.{type_name, in_lower_case, is_named, type_read};
 
-use haya_text::{OutOfMemory, TryClone};
-use std::alloc::Global;
-use std::collections::BTreeMap;
 use std::str::FromStr;
 use thiserror::Error;
 
@@ -249,27 +245,4 @@ fn first_named(types: &[EntryType], name: &str) -> Option<EntryType>
         .iter()
         .copied()
         .find(|entry_type| entry_type.is_named(name))
-}
-
-/// The numbers that catalogues know a work by, such as its DOI: texts, each under a key.
-#[derive(PartialEq, Eq, Hash, Debug, Drop)]
-pub struct SerialNumber(pub BTreeMap<String, String>);
-
-impl SerialNumber {
-    /// A copy, equal to these serial numbers.
-    pub fn try_clone(&self, _alloc: Global) -> Result<SerialNumber, OutOfMemory>
-        ensures { IfOk result (λ copy. serial_view copy ≡ serial_view self.now) }
-    {
-        Ok(SerialNumber(self.0.clone()?))
-    }
-}
-
-impl TryClone for SerialNumber {
-    ghost View = { Serials };
-
-    ghost view = { serial_view };
-
-    fn try_clone(&self, alloc: Global) -> Result<SerialNumber, OutOfMemory> {
-        self.try_clone(alloc)
-    }
 }

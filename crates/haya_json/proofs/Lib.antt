@@ -3,7 +3,6 @@ pub mod Tallies
 pub mod NotesKept
 pub mod ParseErrors
 mod Wholes
-mod Serials
 pub mod KeptKeys
 mod InOrder
 mod Written

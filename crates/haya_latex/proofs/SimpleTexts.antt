@@ -21,7 +21,7 @@ use Rattle.haya_latex.specs.Tokens.{one, plain, token_at}
 use Rattle.haya_latex.specs.declared.kinds.Kind.{Kind}
 use Rattle.haya_latex.specs.declared.kinds.Kind.TheVariants.{Normal}
 use Rattle.haya_latex.specs.declared.runs.Run.{Run}
-use Rattle.haya_latex.proofs.Itself.{itself_on, settle_free}
+use Rattle.haya_latex.proofs.Itself.{one_on, settle_free}
 
 -- the first character of a simple text is a blank or plain, and the rest is simple
 data First (b : Bool) (x : ℕ) (xs : List ℕ) : Type 0 where
@@ -81,10 +81,10 @@ bytes_are k b (x ∷ xs) h =
     ]
 
 -- each character is a token that writes it
-plain_token : (k : Kind) (n : ℕ) (g : Bool) (x : ℕ) (xs : List ℕ) → is_plain x ≡ true → token_at k n g x xs ≡ plain (one x) 0
+pub plain_token : (k : Kind) (n : ℕ) (g : Bool) (x : ℕ) (xs : List ℕ) → is_plain x ≡ true → token_at k n g x xs ≡ plain (one x) 0
 plain_token k n g x xs h = grind (arith, nat_tests)
 
-plain_not_white : (x : ℕ) → is_plain x ≡ true → is_whitespace x ≡ false
+pub plain_not_white : (x : ℕ) → is_plain x ≡ true → is_whitespace x ≡ false
 plain_not_white x h = grind (arith, nat_tests)
 
 blank_token : (k : Kind) (n : ℕ) (g : Bool) (x : ℕ) (xs : List ℕ) → x ≡ 32 → begins_white xs ≡ false → token_at k n g x xs ≡ plain (one x) 0
@@ -104,8 +104,8 @@ says_itself b (x ∷ xs) s h free =
     let joined : write (of_kind k xs) next ≡ write (of_kind k (x ∷ xs)) s =
     ap (λ cs. record s { chars = cs }) (append_assoc s.chars ((x, k) ∷ []) (of_kind k xs)) in
     elim (first_of b x xs h) [
-      | blank e t f r ↦ itself_on s x xs (blank_token k s.inner.depth (is_inside s.outer) x xs e (next_not_white xs r)) free ∙ (says_itself true xs next r free ∙ joined)
-      | other t l p r ↦ itself_on s x xs (plain_token k s.inner.depth (is_inside s.outer) x xs p) free ∙ (says_itself false xs next r free ∙ joined)
+      | blank e t f r ↦ one_on s x x xs (blank_token k s.inner.depth (is_inside s.outer) x xs e (next_not_white xs r)) free ∙ (says_itself true xs next r free ∙ joined)
+      | other t l p r ↦ one_on s x x xs (plain_token k s.inner.depth (is_inside s.outer) x xs p) free ∙ (says_itself false xs next r free ∙ joined)
     ]
 
 -- no blank is behind another one

@@ -1,5 +1,5 @@
 -- What the text of a value says, and what names say.
-use Rattle.std.specs.Prelude.{ℕ, ◌==◌, ◌&&◌, not, Bool, true, false, List, [], ◌∷◌, map, reverse, if◌then◌else◌}
+use Rattle.std.specs.Prelude.{ℕ, ◌==◌, ◌&&◌, not, Bool, true, false, List, [], ◌∷◌, map, reverse, if◌then◌else◌, Option, None, Some}
 use Rattle.std.specs.Char.{encode_utf8}
 use Rattle.haya_latex.specs.Reading.{read_all}
 use Rattle.haya_latex.specs.declared.kinds.Kind.{Kind}
@@ -24,6 +24,21 @@ without_last_blank cs = reverse (without_first_blank (reverse cs))
 -- without blanks at both ends, and without each behind another one
 abbrev pub trimmed : List (ℕ × Kind) → List (ℕ × Kind)
 trimmed cs = without_last_blank (single_blanks true cs)
+
+-- what is left behind blanks
+abbrev pub behind_blanks : List (ℕ × Kind) → List (ℕ × Kind)
+behind_blanks [] = []
+behind_blanks (c ∷ cs) = if is_blank c then behind_blanks cs else c ∷ cs
+
+-- the kind of the blank that stays of two, of which the first may be missing
+abbrev pub first_blank : Option Kind → Kind → Kind
+first_blank None k = k
+first_blank (Some j) k = j
+
+-- a blank of this kind, if there is one
+abbrev pub blank_of : Option Kind → List (ℕ × Kind)
+blank_of None = []
+blank_of (Some k) = (32, k) ∷ []
 
 -- the characters of a text
 abbrev pub text_chars : List ℕ → List (ℕ × Kind)

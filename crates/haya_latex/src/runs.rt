@@ -1,8 +1,9 @@
 //! Runs of characters of a kind.
-ghost use Rattle.std.specs.Prelude.{◌≡◌, ◌++◌, ◌∷◌, [], true, All, IfOk, OnOk};
+ghost use Rattle.std.specs.Prelude.{◌≡◌, ◌++◌, ◌∷◌, [], true, All, IfOk, OnOk, Some};
 ghost use Rattle.std.specs.Prelude.{flat_map, map, reverse};
 ghost use Rattle.haya_latex.specs.RunViews.{HasText, run_bytes, run_kind};
-ghost use Rattle.haya_latex.specs.Texts.{alternates, char_bytes, single_blanks, without_last_blank};
+ghost use Rattle.haya_latex.specs.Texts.{alternates, behind_blanks, blank_of, char_bytes};
+ghost use Rattle.haya_latex.specs.Texts.{first_blank, trimmed};
 
 use crate::kinds::Kind;
 use std::alloc::{AllocError, Global};
@@ -17,52 +18,76 @@ pub struct Run {
     pub text: String,
 }
 
-/// The characters without each blank behind another one, and without those at the front.
-pub(crate) fn single_blanks(
-    alloc: Global,
-    chars: &[(char, Kind)],
-) -> Result<Vec<(char, Kind)>, AllocError>
-    ensures { IfOk result (λ v. v.items ≡ single_blanks true chars.now) }
+// What is left behind blanks.
+fn behind_blanks(chars: &[(char, Kind)]) -> &[(char, Kind)]
+    ensures { result.now ≡ behind_blanks chars.now }
 {
-    let mut singles = Vec::with_capacity(alloc, chars.len())?;
-    let mut behind = true;
-    'chars: for (c, kind) in chars {
-        let blank = *c == ' ';
-        if !(blank && behind) {
-            singles.push((*c, *kind))?;
+    let mut left = chars;
+    'chars: while let Some(((c, _), behind)) = left.split_first() {
+        if *c != ' ' {
+            return left;
         }
-        behind = blank;
+        left = behind;
     }
-    Ok(singles)
+    left
 }
 
-/// Takes a blank at the end away.
-pub(crate) fn drop_last_blank(chars: &mut Vec<(char, Kind)>) -> Result<(), AllocError>
-    ensures { OnOk result (chars.new.items ≡ without_last_blank chars.old.items) }
+// The blank that stays of two, of which the first may be missing.
+fn first_blank(blank: Option<Kind>, kind: Kind) -> Option<Kind>
+    ensures { result ≡ Some (first_blank blank kind) }
 {
-    match chars.pop() {
-        None | Some((' ', _)) => {}
-        Some(last) => chars.push(last)?,
+    match blank {
+        Some(first) => Some(first),
+        None => Some(kind),
     }
-    Ok(())
 }
 
-/// The runs of characters.
-pub(crate) fn runs_of(alloc: Global, chars: &[(char, Kind)]) -> Result<Vec<Run>, AllocError>
-    ensures bytes { IfOk result (λ v. flat_map run_bytes v.items ≡ flat_map char_bytes chars.now) }
+/// The runs of characters, without blanks at both ends and without each behind another one.
+pub(crate) fn trimmed_runs(alloc: Global, chars: &[(char, Kind)]) -> Result<Vec<Run>, AllocError>
+    ensures bytes { IfOk result (λ v.
+        flat_map run_bytes v.items ≡ flat_map char_bytes (trimmed chars.now)) }
     ensures kinds { IfOk result (λ v. alternates (reverse (map run_kind v.items)) ≡ true) }
     ensures texts { IfOk result (λ v. All HasText v.items) }
 {
     let mut runs = Vec::new(alloc);
-    let Some(((first, first_kind), behind)) = chars.split_first() else {
+    let Some(((first, first_kind), behind)) = behind_blanks(chars).split_first() else {
         return Ok(runs);
     };
     let mut last = new_run(alloc, *first, *first_kind)?;
+    let mut blank = None;
     'chars: for (c, kind) in behind {
+        if *c == ' ' {
+            blank = first_blank(blank, *kind);
+            continue 'chars;
+        }
+        push_blank(&mut runs, &mut last, alloc, blank)?;
         push_char(&mut runs, &mut last, alloc, *c, *kind)?;
+        blank = None;
     }
     runs.push(last)?;
     Ok(runs)
+}
+
+// Puts a blank behind runs and the last one, if there is one.
+fn push_blank(
+    runs: &mut Vec<Run>,
+    last: &mut Run,
+    alloc: Global,
+    blank: Option<Kind>,
+) -> Result<(), AllocError>
+    requires kinds { alternates (reverse (map run_kind (runs.old.items ++ last.old ∷ []))) ≡ true }
+    requires texts { All HasText (runs.old.items ++ last.old ∷ []) }
+    ensures bytes { OnOk result (flat_map run_bytes (runs.new.items ++ last.new ∷ [])
+        ≡ flat_map run_bytes (runs.old.items ++ last.old ∷ [])
+        ++ flat_map char_bytes (blank_of blank)) }
+    ensures kinds { OnOk result
+        (alternates (reverse (map run_kind (runs.new.items ++ last.new ∷ []))) ≡ true) }
+    ensures texts { OnOk result (All HasText (runs.new.items ++ last.new ∷ [])) }
+{
+    match blank {
+        Some(kind) => push_char(runs, last, alloc, ' ', kind),
+        None => Ok(()),
+    }
 }
 
 // Puts a character behind runs and the last one.

@@ -1,27 +1,16 @@
 //! Characters that begin no token but their own, and texts of them.
-ghost use Rattle.std.specs.Prelude.{◌≡◌, ℕ, Bool, true};
+ghost use Rattle.std.specs.Prelude.{◌≡◌, true};
 ghost use Rattle.haya_latex.specs.Simple.{is_plain, is_simple};
-ghost use Rattle.haya_latex.specs.Tokens.{one, plain, token_at};
 
-use crate::kinds::Kind;
-use crate::scans::begins_white;
-
-// Whether a character isn't white, and no other rule is about it.
-fn is_plain(c: char) -> bool
+/// Whether a character isn't white, and no other rule is about it.
+pub(crate) fn is_plain(c: char) -> bool
     ensures { result ≡ is_plain c }
 {
     match c {
+        'a'..='z' => true,
         '!' | '$' | '\'' | '-' | '?' | '\\' | '`' | '{' | '}' | '~' => false,
         _ => !c.is_whitespace(),
     }
-}
-
-/// Whether the token of a character in front of a text writes just that character, anywhere.
-pub(crate) fn is_itself(first: char, text: &[char]) -> bool
-    ensures { result ≡ true → (kind : Kind) (depth : ℕ) (inside : Bool) →
-        token_at kind depth inside first text.now ≡ plain (one first) 0 }
-{
-    is_plain(first) || (first == ' ' && !begins_white(text))
 }
 
 /// Whether a text says just its bytes: it is in ASCII, of plain characters and single blanks, with a

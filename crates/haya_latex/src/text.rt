@@ -1,18 +1,20 @@
 //! The text of a value, and names.
 ghost use Rattle.std.specs.Prelude.{◌≡◌, ◌<◌, ◌^◌, true, flat_map, length, map, reverse};
-ghost use Rattle.std.specs.Prelude.{string_bytes, All, IfOk};
+ghost use Rattle.std.specs.Prelude.{string_bytes, All, IfOk, OnOk};
 ghost use Rattle.std.specs.Str.{chars};
-ghost use Rattle.haya_latex.specs.Reading.{read_all};
+ghost use Rattle.haya_latex.specs.Reading.{read_all, write};
 ghost use Rattle.haya_latex.specs.ReadingViews.{reader_view};
 ghost use Rattle.haya_latex.specs.RunViews.{HasText, run_bytes, run_kind};
-ghost use Rattle.haya_latex.specs.Simple.{is_simple};
+ghost use Rattle.haya_latex.specs.Simple.{behind_quiet, is_simple, left_behind_quiet, of_kind};
+ghost use Rattle.haya_latex.specs.Simple.{quiet_front, quiet_rest};
 ghost use Rattle.haya_latex.specs.Texts.{alternates, char_bytes, name_chars, name_unknown};
-ghost use Rattle.haya_latex.specs.Texts.{text_chars, text_unknown, trimmed};
+ghost use Rattle.haya_latex.specs.Texts.{text_chars, text_unknown};
 
 use crate::kinds::Kind;
 use crate::readers::{Reader, is_inside, put_alone, put_output, settle, start, take_turn};
-use crate::runs::{Run, drop_last_blank, runs_of, single_blanks};
-use crate::simple::{is_itself, is_simple};
+use crate::runs::{Run, trimmed_runs};
+use crate::scans::begins_white;
+use crate::simple::{is_plain, is_simple};
 use crate::tokens::token_at;
 use std::alloc::{AllocError, Global};
 
@@ -69,8 +71,7 @@ pub fn read_text(alloc: Global, text: &str) -> Result<Text, AllocError>
         outer: _,
         waiting: _,
     } = reader;
-    let trimmed = trim(alloc, chars.as_slice())?;
-    let runs = runs_of(alloc, trimmed.as_slice())?;
+    let runs = trimmed_runs(alloc, chars.as_slice())?;
     Ok(Text {
         runs,
         unknown: counted,
@@ -142,15 +143,6 @@ fn read_simple(alloc: Global, kind: Kind, text: &[u8]) -> Result<Reader, AllocEr
     Ok(reader)
 }
 
-// The characters without blanks at both ends, and without each behind another one.
-fn trim(alloc: Global, chars: &[(char, Kind)]) -> Result<Vec<(char, Kind)>, AllocError>
-    ensures { IfOk result (λ v. v.items ≡ trimmed chars.now) }
-{
-    let mut singles = single_blanks(alloc, chars)?;
-    drop_last_blank(&mut singles)?;
-    Ok(singles)
-}
-
 // What a text says that is of a kind.
 fn read(alloc: Global, kind: Kind, text: &str) -> Result<Reader, AllocError>
     ensures { IfOk result (λ r. reader_view r ≡ read_all kind (chars text.now)) }
@@ -177,19 +169,56 @@ fn read_all(alloc: Global, kind: Kind, text: &[char]) -> Result<Reader, AllocErr
 {
     let mut reader = start(alloc, kind, text.len())?;
     let mut left = text;
-    'tokens: while let Some((first, behind)) = left.split_first() {
+    'tokens: loop {
+        let front = put_front(&mut reader, left)?;
+        let Some((first, behind)) = front.split_first() else {
+            settle(&mut reader, alloc, 0)?;
+            return Ok(reader);
+        };
         let inner = reader.inner;
-        if reader.waiting.is_empty() && is_itself(*first, behind) {
-            put_alone(&mut reader, *first, inner.kind)?;
-            left = behind;
-            continue 'tokens;
-        }
         let token = token_at(inner.kind, inner.depth, is_inside(&reader), *first, behind);
         put_output(&mut reader, alloc, token.output)?;
         take_turn(&mut reader, alloc, token.turn)?;
         let (_, rest) = behind.split_at(token.length);
         left = rest;
     }
-    settle(&mut reader, alloc, 0)?;
-    Ok(reader)
+}
+
+// Writes the plain and white characters at the front of a text where no accent waits, and returns
+// what is left to read.
+fn put_front<'a>(reader: &mut Reader, text: &'a [char]) -> Result<&'a [char], AllocError>
+    ensures written { OnOk result (reader_view reader.new
+        ≡ behind_quiet text.now (reader_view reader.old)) }
+    ensures left { IfOk result (λ left. left.now
+        ≡ left_behind_quiet text.now (reader_view reader.old)) }
+{
+    if !reader.waiting.is_empty() {
+        return Ok(text);
+    }
+    let kind = reader.inner.kind;
+    put_quiet(reader, text, kind)
+}
+
+// The same where it is known that none waits.
+fn put_quiet<'a>(
+    reader: &mut Reader,
+    text: &'a [char],
+    kind: Kind,
+) -> Result<&'a [char], AllocError>
+    ensures written { OnOk result (reader_view reader.new
+        ≡ write (of_kind kind (quiet_front text.now)) (reader_view reader.old)) }
+    ensures left { IfOk result (λ left. left.now ≡ quiet_rest text.now) }
+{
+    let mut left = text;
+    'chars: while let Some((first, behind)) = left.split_first() {
+        if is_plain(*first) {
+            put_alone(reader, *first, kind)?;
+        } else if !first.is_whitespace() {
+            return Ok(left);
+        } else if !begins_white(behind) {
+            put_alone(reader, ' ', kind)?;
+        }
+        left = behind;
+    }
+    Ok(left)
 }

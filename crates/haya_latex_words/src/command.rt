@@ -112,6 +112,9 @@ fn is_in(table: &[&str], word: &[char]) -> bool
 fn is_word(word: &[char], name: &str) -> bool
     ensures { result ≡ bytes_eq word.now name.now }
 {
+    if word.len() != name.len() {
+        return false;
+    }
     let mut left = word;
     'bytes: for byte in name.as_bytes() {
         let Some((first, rest)) = left.split_first() else {

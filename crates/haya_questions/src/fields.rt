@@ -228,7 +228,10 @@ fn push_serials<'e>(
     ensures { OnOk result (map value_view values.new.items
         ≡ map value_view values.old.items ++ map (λ e. TextValue e.1) (serial_view numbers.now)) }
 {
-    'numbers: for (_, number) in numbers.0.iter() {
+    if let Some(number) = numbers.only() {
+        values.push(Value::Plain(number.1.as_str()))?;
+    }
+    'numbers: for (_, number) in numbers.several().iter() {
         values.push(Value::Plain(number.as_str()))?;
     }
     Ok(())

@@ -4,16 +4,13 @@ ghost use Rattle.haya_entry.specs.Tree.{SetsSerial, view, serial_of};
 
 use crate::{Entry, SerialNumber};
 use haya_text::OutOfMemory;
-use std::collections::BTreeMap;
 
 impl Entry {
     /// The serial number under a key.
     pub fn keyed_serial_number(&self, key: &str) -> Option<&str>
         ensures { option_map (λ t. t.now) result ≡ serial_of key.now self.now }
     {
-        let serial = self.serial_number.as_ref()?;
-        let text = serial.0.get(key)?;
-        Some(text.as_str())
+        self.serial_number.as_ref()?.get(key)
     }
 
     /// Keeps a serial number under a key, in the place of the one that was there. Any key is kept
@@ -27,12 +24,12 @@ impl Entry {
         let key = String::from_str(alloc, key)?;
         match &mut self.serial_number {
             Some(serial) => {
-                serial.0.insert(key, value)?;
+                serial.insert(key, value)?;
             }
             None => {
-                let mut serials = BTreeMap::new(alloc);
+                let mut serials = SerialNumber::new(alloc);
                 serials.insert(key, value)?;
-                self.serial_number = Some(SerialNumber(serials));
+                self.serial_number = Some(serials);
             }
         }
         Ok(())

@@ -14,7 +14,6 @@ use haya_entry::SerialNumber;
 use haya_text::OutOfMemory;
 use json::Value;
 use std::alloc::Global;
-use std::collections::BTreeMap;
 
 impl FromJson for SerialNumber {
     ghost use Rattle.haya_entry.specs.SerialNumber.{Serials, serial_view};
@@ -29,7 +28,7 @@ impl FromJson for SerialNumber {
     /// An object of numbers under their keys, or one number, under the key `serial`.
     #[tactic(auto, unfolding(crate::specs::Values::serials_of))]
     fn from_json(alloc: Global, json: &Value<'_>) -> Result<SerialNumber, ValueError> {
-        let mut serials = SerialNumber(BTreeMap::new(alloc));
+        let mut serials = SerialNumber::new(alloc);
         match json {
             Value::Object(members) => read_members(alloc, &mut serials, members)?,
             _ => {
@@ -93,6 +92,5 @@ fn keep(
         (serial_view serials.old) name.now (string_bytes number)) }
 {
     let name = String::from_str(alloc, name)?;
-    serials.0.insert(name, number)?;
-    Ok(())
+    serials.insert(name, number)
 }

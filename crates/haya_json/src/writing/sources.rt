@@ -120,7 +120,10 @@ impl ToJson for SerialNumber {
     #[tactic(auto, unfolding(crate::specs::Printed::serial_json))]
     fn write_json(&self, _alloc: Global, out: &mut Writer) -> Result<(), OutOfMemory> {
         out.begin_object()?;
-        'numbers: for (key, number) in self.0.iter() {
+        if let Some(number) = self.only() {
+            write_text(out, number.0.as_str(), number.1.as_str())?;
+        }
+        'numbers: for (key, number) in self.several().iter() {
             write_text(out, key.as_str(), number.as_str())?;
         }
         out.end_object()?;

@@ -126,7 +126,10 @@ fn put_serials(out: &mut String, serials: Option<&SerialNumber>) -> Result<(), A
         return Ok(());
     };
     out.push_str("serial-number;")?;
-    for (key, number) in serials.0.iter() {
+    if let Some((key, number)) = serials.only() {
+        write!(out, "{key}:{number};")?;
+    }
+    for (key, number) in serials.several().iter() {
         write!(out, "{key}:{number};")?;
     }
     Ok(())

@@ -8,7 +8,6 @@ use haya_text::{FormatString, OutOfMemory, ReadText};
 use haya_time::{Date, Duration, DurationRange};
 use haya_values::{MaybeTyped, Publisher, QualifiedUrl};
 use std::alloc::Global;
-use std::collections::BTreeMap;
 use std::process::Abort;
 
 // All names that an entry may have, then texts that are no names.
@@ -173,7 +172,7 @@ fn has_a_language_and_serial_numbers_once_they_are_set(rt: HostRuntime) {
     let mut entry = entry(&rt, "key", EntryType::Book);
     entry.set_language(string(&rt, "en"));
     let has_language = has_names(&rt, &entry, "language ");
-    entry.set_serial_number(SerialNumber(BTreeMap::new(rt.alloc())));
+    entry.set_serial_number(SerialNumber::new(rt.alloc()));
     let has_both = has_names(&rt, &entry, "serial-number language ");
     drop(entry);
     assert!(rt; has_language);
@@ -343,10 +342,31 @@ fn is_serial(found: Option<&SerialNumber>, wanted: &SerialNumber) -> bool {
 
 // A DOI alone.
 fn one_number(rt: &(impl Abort + AllocGlobal)) -> SerialNumber {
-    let mut map = BTreeMap::new(rt.alloc());
-    let kept: Result<_, _> = map.insert(string(rt, "doi"), string(rt, "10.1/a"));
+    let mut numbers = SerialNumber::new(rt.alloc());
+    insert(rt, &mut numbers, "doi", "10.1/a");
+    numbers
+}
+
+fn insert(rt: &(impl Abort + AllocGlobal), numbers: &mut SerialNumber, key: &str, text: &str) {
+    let kept: Result<_, _> = numbers.insert(string(rt, key), string(rt, text));
     kept.expect(rt, "memory");
-    SerialNumber(map)
+}
+
+#[test]
+fn keeps_serial_numbers_in_the_order_of_their_keys(rt: HostRuntime) {
+    let mut numbers = SerialNumber::new(rt.alloc());
+    assert!(rt; numbers.only().is_none() && numbers.several().is_empty());
+    insert(&rt, &mut numbers, "isbn", "1");
+    insert(&rt, &mut numbers, "isbn", "5");
+    assert!(rt; is(numbers.get("isbn"), "5") && numbers.several().is_empty());
+    assert!(rt; numbers.only().is_some());
+    insert(&rt, &mut numbers, "doi", "2");
+    insert(&rt, &mut numbers, "pmid", "3");
+    insert(&rt, &mut numbers, "isbn", "4");
+    assert!(rt; numbers.only().is_none() && numbers.several().len() == 3);
+    assert!(rt; is(numbers.get("doi"), "2") && is(numbers.get("pmid"), "3"));
+    assert!(rt; is(numbers.get("isbn"), "4"));
+    assert!(rt; numbers.get("ISBN").is_none());
 }
 
 #[test]

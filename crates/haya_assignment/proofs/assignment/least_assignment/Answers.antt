@@ -14,14 +14,14 @@ returns-then-len-table-clause-answer c =
 
 pub complete-requires-clause-fewer : goal.complete-requires-clause-fewer
 complete-requires-clause-fewer c = elim c.longer.ensures.either [
-  | inl e ↦ rw e c.in_ok-first.ensures.fewer
-  | inr e ↦ rw e c.in_ok-last.ensures.fewer
+  | inl e ↦ rw e c.in_ok-other.ensures.fewer
+  | inr e ↦ rw e c.in_ok-first.ensures.fewer
 ]
 
 pub complete-requires-clause-placed : goal.complete-requires-clause-placed
 complete-requires-clause-placed c = elim c.longer.ensures.either [
-  | inl e ↦ rw e c.in_ok-first.ensures.placed
-  | inr e ↦ rw e c.in_ok-last.ensures.placed
+  | inl e ↦ rw e c.in_ok-other.ensures.placed
+  | inr e ↦ rw e c.in_ok-first.ensures.placed
 ]
 
 pub returns-in_err-lower-in-Found-clause-at_most : goal.returns-in_err-lower-in-Found-clause-at_most
@@ -33,7 +33,7 @@ returns-in_err-lower-in-Found-clause-at_most c =
     let few : length c.in-Found.positions.items ≤ p = placed_few table p c.in-Found.positions.items c.requires.width completed.1 in
     let many : length (rows table) ≡ m = length-map table (λ row. row.items) in
     let fits : m ≤ p = omega (arith, completed.0) in
-    let some : (m ≡ 0) ⊎ (0 < length c.longer.result.items) = some_begin table c.longer.result.items c.in-Found.positions.items c.in_ok-last.last.items completed.0 completed.1 c.longer.ensures.long c.in_ok-last.ensures.first in
+    let some : (m ≡ 0) ⊎ (0 < length c.longer.result.items) = some_begin table c.longer.result.items c.in-Found.positions.items c.in_ok-first.first.items completed.0 completed.1 c.longer.ensures.long (c.in_ok-first.ensures.first refl) in
     looks_of_all m p (length c.longer.result.items) c.args.steps.now c.take_in_turn.new.steps c.take_in_turn-2.new.steps c.complete.new.steps c.lower.new.steps fits some
     c.take_in_turn.ensures.at_most c.take_in_turn-2.ensures.at_most c.complete.ensures.at_most c.lower.ensures.at_most
 
@@ -60,6 +60,6 @@ returns-in-Found-clause-at_most c =
     let few : length c.in-Found.positions.items ≤ p = placed_few table p c.in-Found.positions.items c.requires.width completed.1 in
     let many : length (rows table) ≡ m = length-map table (λ row. row.items) in
     let fits : m ≤ p = omega (arith, completed.0) in
-    let some : (m ≡ 0) ⊎ (0 < length c.longer.result.items) = some_begin table c.longer.result.items c.in-Found.positions.items c.in_ok-last.last.items completed.0 completed.1 c.longer.ensures.long c.in_ok-last.ensures.first in
+    let some : (m ≡ 0) ⊎ (0 < length c.longer.result.items) = some_begin table c.longer.result.items c.in-Found.positions.items c.in_ok-first.first.items completed.0 completed.1 c.longer.ensures.long (c.in_ok-first.ensures.first refl) in
     looks_of_all m p (length c.longer.result.items) c.args.steps.now c.take_in_turn.new.steps c.take_in_turn-2.new.steps c.complete.new.steps c.lower.new.steps fits some
     c.take_in_turn.ensures.at_most c.take_in_turn-2.ensures.at_most c.complete.ensures.at_most c.lower.ensures.at_most

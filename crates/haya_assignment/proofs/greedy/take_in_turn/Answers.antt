@@ -22,7 +22,7 @@ members-preserved c =
     let left : drop m table ≡ row ∷ drop (m + 1) table = drop_more table m [] (omega (arith, length-map c.args.table.now (λ row. row.items))) in
     let within : i < length c.members.taken.items = omega (arith, c.in-Some.ensures.within, was.as_many) in
     let free : IsFree taken i = sym (was.flags i within) ∙ (rw c.deref.ensures.value at c.in-Some.ensures.left) in
-    let first : c.args.order ≡ Ascending → slice_get (not_taken taken (true_positions row)) 0 ≡ Some i = λ up. first_is taken row i c.in-Some.ensures.accepted free (λ k l ok is_free.
+    let first : c.args.order.now ≡ Ascending → slice_get (not_taken taken (true_positions row)) 0 ≡ Some i = λ up. first_is taken row i c.in-Some.ensures.accepted free (λ k l ok is_free.
     let set : get_or c.members.taken.items k false ≡ true = rw c.deref.ensures.value at (c.in-Some.ensures.first up k l ok) in
     let flag = was.flags k (omega (arith, l, within)) in
     absurd (let no : true ≡ false = sym set ∙ flag ∙ is_free in cc)) in
@@ -41,14 +41,14 @@ members-preserved c =
     }
 
 pub returns-in_default-clause-first : goal.returns-in_default-clause-first
-returns-in_default-clause-first c = λ none some j.
+returns-in_default-clause-first c = λ up none some j.
     let table = rows c.args.table.now in
     let was = c.members.invariant in
     let start : c.members.member ≡ 0 = omega (arith, was.many) in
     (elim (accepts table 0 j) as (λ b. accepts table 0 j ≡ b → accepts table 0 j ≡ false) [
       | true ↦ λ ok.
           let ok' : accepts table c.members.member j ≡ true = rw start ok in
-          let set : get_or c.members.taken.items j false ≡ true = rw c.deref.ensures.value at (c.in_default.ensures.none j (accepts_within c.args.table.now c.args.parents c.members.member j c.requires.width ok') ok') in
+          let set : get_or c.members.taken.items j false ≡ true = rw c.deref.ensures.value at (c.in_default.ensures.none up j (accepts_within c.args.table.now c.args.parents c.members.member j c.requires.width ok') ok') in
           let left : get_or c.members.taken.items j false ≡ false = was.first start j in
           absurd (cc)
       | false ↦ λ e. e

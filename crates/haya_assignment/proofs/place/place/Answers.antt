@@ -13,10 +13,10 @@ returns-in-Some-clause-placed c =
     let stays = c.in_ok-stays.stays.items in
     let is : stays ≡ replicate (length ps) false = search rules in
     let none : (u : ℕ) → get_or stays u false ≡ false = λ u. rw is (none_set (length ps) u) in
-    let reaches : Reaches (accepts (rows c.args.table.now)) stays sought.held.items sought.reached = rw c.deref.ensures.value at c.in_ok-sought.ensures.reaches in
-    let found : HasFound (accepts (rows c.args.table.now)) stays sought.held.items sought.reached c.in-Some.at c.in-Some.position = rw c.deref.ensures.value at (rw c.in-Some.is at c.in_ok-sought.ensures.found) in
+    let reaches : Reaches (accepts (rows c.args.table.now)) stays sought.holders.items sought.reached = rw c.deref.ensures.value at c.in_ok-sought.ensures.reaches in
+    let found : HasFound (accepts (rows c.args.table.now)) stays sought.holders.items sought.reached c.in-Some.at c.in-Some.position = rw c.deref.ensures.value at (rw c.in-Some.is at c.in_ok-sought.ensures.found) in
     (c.shift.ensures.placed (accepts (rows c.args.table.now)) (found.bound + 1)
-    (ready _ stays c.args.member c.args.parents ps sought.held.items c.in_ok-sought.ensures.holders sought.reached c.requires.member_in (none c.args.member) reaches c.in_ok-sought.ensures.as_long c.in_ok-sought.ensures.first _ _ found c.requires.placed)).0
+    (ready _ stays c.args.member c.args.parents ps sought.holders.items c.in_ok-sought.ensures.holders sought.reached c.requires.member_in (none c.args.member) reaches c.in_ok-sought.ensures.as_long c.in_ok-sought.ensures.first _ _ found c.requires.placed)).0
 
 pub returns-clause-stuck : goal.returns-clause-stuck
 returns-clause-stuck c =
@@ -25,6 +25,6 @@ returns-clause-stuck c =
     let stays = c.in_ok-stays.stays.items in
     let is : stays ≡ replicate (length ps) false = search rules in
     let none : (u : ℕ) → get_or stays u false ≡ false = λ u. rw is (none_set (length ps) u) in
-    let reaches : Reaches (accepts (rows c.args.table.now)) stays sought.held.items sought.reached = rw c.deref.ensures.value at c.in_ok-sought.ensures.reaches in
-    stuck _ stays c.args.member c.args.parents ps sought.held.items c.in_ok-sought.ensures.holders sought.reached c.requires.member_in (none c.args.member) reaches c.in_ok-sought.ensures.as_long c.in_ok-sought.ensures.first none
+    let reaches : Reaches (accepts (rows c.args.table.now)) stays sought.holders.items sought.reached = rw c.deref.ensures.value at c.in_ok-sought.ensures.reaches in
+    stuck _ stays c.args.member c.args.parents ps sought.holders.items c.in_ok-sought.ensures.holders sought.reached c.requires.member_in (none c.args.member) reaches c.in_ok-sought.ensures.as_long c.in_ok-sought.ensures.first none
     (λ i j ok. accepts_within c.args.table.now c.args.parents i j c.requires.width ok) (rw c.deref.ensures.value at (rw c.in-None.is at c.in_ok-sought.ensures.searched))

@@ -1,4 +1,4 @@
-use Rattle.std.proofs.Common.{◌≡◌, ◌<◌, refl, length, arith}
+use Rattle.std.proofs.Common.{◌<◌, length, arith}
 use Rattle.haya_assignment.proofs.Placing.{length-flags}
 use Rattle.haya_assignment.proofs.Reaching.{accepts_within}
 use Rattle.haya_assignment.proofs.place.seek.Goals as goal
@@ -6,10 +6,15 @@ use Rattle.haya_assignment.proofs.place.seek.Goals as goal
 pub holders_of-requires : goal.holders_of-requires
 holders_of-requires c = record { within = λ u h ne. accepts_within c.args.table.now c.args.parents u _ c.requires.width (c.requires.placed.accepted u h ne) }
 
-pub search-requires-clause-held : goal.search-requires-clause-held
-search-requires-clause-held c =
-    let long : length c.in_ok-reached.reached.seen.items ≡ length c.args.positions.now = length-flags (length c.args.positions.now) c.args.member c.in_ok-reached.reached.seen.items c.in_ok-reached.reached.seen.items c.in_ok-reached.ensures.seen refl in
-    rw c.deref.ensures.value (λ j u e. let w = c.in_ok-held.ensures.held j u e in let l : u < length c.args.positions.now = w.0 in omega arith)
+pub search-requires-clause-fits : goal.search-requires-clause-fits
+search-requires-clause-fits c = record {
+  width = c.requires.width;
+  rows = omega (arith, c.requires.flags);
+  as_many = rw c.deref.ensures.value c.in_ok-holders.ensures.as_many;
+  held = rw c.deref.ensures.value (λ j u e. let w = c.in_ok-holders.ensures.held j u e in let l : u < length c.args.positions.now = w.0 in omega (arith, c.requires.flags));
+  likes = c.requires.likes;
+  alike = c.requires.alike;
+}
 
 pub returns-clause-as_long : goal.returns-clause-as_long
 returns-clause-as_long c = length-flags (length c.args.positions.now) c.args.member c.in_ok-reached.reached.seen.items _ c.in_ok-reached.ensures.seen c.in_ok-end.ensures.as_long

@@ -1,6 +1,5 @@
 use Rattle.std.proofs.Common.{◌≡◌, ◌∙◌, get_or, arith}
-use Rattle.haya_assignment.specs.Assignment.{rows}
-use Rattle.haya_assignment.specs.Placed.{accepts}
+use Rattle.haya_assignment.specs.Search.{acceptance}
 use Rattle.haya_assignment.proofs.Numbers.{grows_trans}
 use Rattle.haya_assignment.proofs.Reaching.{accepts_within, closed_more}
 use Rattle.haya_assignment.proofs.search.scan.Goals as goal
@@ -16,7 +15,7 @@ positions-preserved c =
       as_long = omega (arith, ok.as_long);
       scanned = c.try_position.ensures.scanned ∙ was.scanned;
       early = λ bound h. ok.early bound (λ z. absurd (omega arith)) (was.early bound h);
-      closed = closed_more (accepts (rows c.args.table.now)) c.args.stays.now c.args.holders.now c.positions.reached.members.items _ _ c.positions.position ok.grows was.closed
+      closed = closed_more (acceptance c.args.by.now) c.args.by.now.stays.now c.args.by.now.holders.now c.positions.reached.members.items _ _ c.positions.position ok.grows was.closed
           (λ yes. ok.closed c.if-branch.false (rw (← same) yes));
       onward = omega arith;
       most = omega arith;
@@ -24,5 +23,5 @@ positions-preserved c =
 
 pub returns-clause-closed : goal.returns-clause-closed
 returns-clause-closed c = λ j ok.
-    let within = accepts_within c.args.table.now c.args.parents _ j c.requires.width ok in
+    let within = accepts_within c.args.by.now.table.now c.args.by.now.parents _ j c.requires.fits.width ok in
     c.positions.invariant.closed j (omega arith) ok

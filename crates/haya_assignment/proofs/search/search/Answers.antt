@@ -1,31 +1,29 @@
 use Rattle.std.proofs.Common.{◌≡◌, ℕ, ◌+◌, ◌*◌, ◌<◌, ◌≤◌, ◌∙◌, subst, get_or, length, arith, rules}
 use Rattle.std.proofs.Math.Nat.{mul-le-mul_left}
-use Rattle.haya_assignment.specs.Assignment.{rows}
-use Rattle.haya_assignment.specs.Placed.{accepts}
-use Rattle.haya_assignment.specs.Search.{IsFree}
+use Rattle.haya_assignment.specs.Search.{acceptance, IsFree}
 use Rattle.haya_assignment.proofs.Numbers.{grows_trans}
 use Rattle.haya_assignment.proofs.Reaching.{early_weaker, layers_grow, layers_low, layers_more, reached_few, scanned_grows, searched_below_more, searched_grows}
 use Rattle.haya_assignment.proofs.search.search.Goals as goal
 
 pub returns-in_err-try_position-clause-at_most : goal.returns-in_err-try_position-clause-at_most
 returns-in_err-try_position-clause-at_most c =
-    let p = c.args.parents in
+    let p = c.args.by.now.parents in
     let few : length c.positions.reached.members.items ≤ length c.positions.reached.seen.items = reached_few _ _ _ _ _ _ c.positions.invariant.reaches in
-    let all : p * length c.positions.reached.members.items ≤ p * length c.args.table.now = mul-le-mul_left p (omega arith) in
+    let all : p * length c.positions.reached.members.items ≤ p * length c.args.by.now.table.now = mul-le-mul_left p (omega arith) in
     omega arith
 
 pub returns-then-branch-clause-at_most : goal.returns-then-branch-clause-at_most
 returns-then-branch-clause-at_most c =
-    let p = c.args.parents in
+    let p = c.args.by.now.parents in
     let few : length c.positions.reached.members.items ≤ length c.positions.reached.seen.items = reached_few _ _ _ _ _ _ c.positions.invariant.reaches in
-    let all : p * length c.positions.reached.members.items ≤ p * length c.args.table.now = mul-le-mul_left p (omega arith) in
+    let all : p * length c.positions.reached.members.items ≤ p * length c.args.by.now.table.now = mul-le-mul_left p (omega arith) in
     omega arith
 
 pub returns-clause-at_most : goal.returns-clause-at_most
 returns-clause-at_most c =
-    let p = c.args.parents in
+    let p = c.args.by.now.parents in
     let few : length c.positions.reached.members.items ≤ length c.positions.reached.seen.items = reached_few _ _ _ _ _ _ c.positions.invariant.reaches in
-    let all : p * length c.positions.reached.members.items ≤ p * length c.args.table.now = mul-le-mul_left p (omega arith) in
+    let all : p * length c.positions.reached.members.items ≤ p * length c.args.by.now.table.now = mul-le-mul_left p (omega arith) in
     omega arith
 
 pub returns-then-branch-clause-found : goal.returns-then-branch-clause-found
@@ -36,9 +34,9 @@ returns-then-branch-clause-found c =
     let free = ok.free c.if-branch.true in
     record {
       in_reached = ok.reaches.some;
-      free = subst (λ (i : ℕ). IsFree (accepts (rows c.args.table.now)) c.args.holders.now i c.positions.position) (ok.grows.same 0 some) free;
+      free = subst (λ (i : ℕ). IsFree (acceptance c.args.by.now) c.args.by.now.holders.now i c.positions.position) (ok.grows.same 0 some) free;
       bound = c.positions.position;
-      early = ok.early (c.positions.position + 1) (λ z. omega arith) (early_weaker c.positions.position c.args.holders.now _ _ was.early);
+      early = ok.early (c.positions.position + 1) (λ z. omega arith) (early_weaker c.positions.position c.args.by.now.holders.now _ _ was.early);
       end_early = λ z. omega arith;
       before = c.positions.reached.members.items;
       some = some;
@@ -50,11 +48,11 @@ pub follow-requires-clause-searched : goal.follow-requires-clause-searched
 follow-requires-clause-searched c =
     let ms = c.positions.reached.members.items in
     let len : c.len-start.result ≡ length ms = search rules in
-    rw len (searched_grows (accepts (rows c.args.table.now)) c.args.stays.now (length ms) c.args.holders.now ms _ (omega arith) c.in_ok-try_position.ensures.grows c.positions.invariant.searched.later)
+    rw len (searched_grows (acceptance c.args.by.now) c.args.by.now.stays.now (length ms) c.args.by.now.holders.now ms _ (omega arith) c.in_ok-try_position.ensures.grows c.positions.invariant.searched.later)
 
 pub follow-requires-clause-scanned : goal.follow-requires-clause-scanned
 follow-requires-clause-scanned c =
-    scanned_grows (accepts (rows c.args.table.now)) c.args.stays.now c.args.holders.now c.args.alike.now c.positions.reached _ c.try_position.ensures.scanned c.in_ok-try_position.ensures.as_long c.in_ok-try_position.ensures.grows c.positions.invariant.scanned
+    scanned_grows (acceptance c.args.by.now) c.args.by.now.stays.now c.args.by.now.holders.now c.args.by.now.alike.now c.positions.reached _ c.try_position.ensures.scanned c.in_ok-try_position.ensures.as_long c.in_ok-try_position.ensures.grows c.positions.invariant.scanned
 
 pub returns-in-Some-clause-grows : goal.returns-in-Some-clause-grows
 returns-in-Some-clause-grows c =
@@ -72,7 +70,7 @@ returns-in-Some-clause-found c =
       in_reached = free.1;
       free = free.2;
       bound = c.positions.position;
-      early = c.in_ok-end.ensures.early (c.positions.position + 1) (ok.early (c.positions.position + 1) (λ z. omega arith) (early_weaker c.positions.position c.args.holders.now _ _ was.early));
+      early = c.in_ok-end.ensures.early (c.positions.position + 1) (ok.early (c.positions.position + 1) (λ z. omega arith) (early_weaker c.positions.position c.args.by.now.holders.now _ _ was.early));
       end_early = λ z. absurd (omega arith);
       before = c.positions.reached.members.items;
       some = some;
@@ -85,7 +83,7 @@ positions-preserved c =
     let ok = c.in_ok-try_position.ensures in
     let next = c.in_ok-end.ensures in
     let was = c.positions.invariant in
-    let p = c.args.parents in
+    let p = c.args.by.now.parents in
     let ms = c.positions.reached.members.items in
     let some : 0 < length ms = was.reaches.some in
     let start : c.len-start.result ≡ length ms = search rules in
@@ -103,11 +101,11 @@ positions-preserved c =
       grows = grows_trans _ ms _ was.grows (grows_trans _ c.try_position.new.reached.members.items _ ok.grows next.grows);
       as_long = next.as_long ∙ ok.as_long ∙ was.as_long;
       scanned = next.scanned;
-      early = next.early (c.positions.position + 1) (ok.early (c.positions.position + 1) (λ z. omega arith) (early_weaker c.positions.position c.args.holders.now _ _ was.early));
-      searched = searched_below_more (accepts (rows c.args.table.now)) c.args.stays.now c.positions.position c.args.holders.now ms c.try_position.new.reached.members.items _ some ok.grows next.grows was.searched
+      early = next.early (c.positions.position + 1) (ok.early (c.positions.position + 1) (λ z. omega arith) (early_weaker c.positions.position c.args.by.now.holders.now _ _ was.early));
+      searched = searched_below_more (acceptance c.args.by.now) c.args.by.now.stays.now c.positions.position c.args.by.now.holders.now ms c.try_position.new.reached.members.items _ some ok.grows next.grows was.searched
           (ok.closed c.if-branch.false) (rw c.in_default.is at next.searched);
-      layered = layers_more (accepts (rows c.args.table.now)) c.args.stays.now c.args.holders.now after ls ls' c.positions.position long filled.grows new was.low
-          (layers_grow (accepts (rows c.args.table.now)) c.args.stays.now c.args.holders.now ms after ls (grows_trans ms c.try_position.new.reached.members.items after ok.grows next.grows) was.layered)
+      layered = layers_more (acceptance c.args.by.now) c.args.by.now.stays.now c.args.by.now.holders.now after ls ls' c.positions.position long filled.grows new was.low
+          (layers_grow (acceptance c.args.by.now) c.args.by.now.stays.now c.args.by.now.holders.now ms after ls (grows_trans ms c.try_position.new.reached.members.items after ok.grows next.grows) was.layered)
           (rw c.in_default.is at next.searched);
       low = layers_low ls ls' c.positions.position filled.grows (λ t a b. new t a (omega arith)) was.low;
       onward = omega arith;
@@ -116,9 +114,9 @@ positions-preserved c =
 
 pub returns-then-branch-clause-layered : goal.returns-then-branch-clause-layered
 returns-then-branch-clause-layered c =
-    layers_grow (accepts (rows c.args.table.now)) c.args.stays.now c.args.holders.now c.positions.reached.members.items _ c.positions.layers.items c.in_ok-try_position.ensures.grows c.positions.invariant.layered
+    layers_grow (acceptance c.args.by.now) c.args.by.now.stays.now c.args.by.now.holders.now c.positions.reached.members.items _ c.positions.layers.items c.in_ok-try_position.ensures.grows c.positions.invariant.layered
 
 pub returns-in-Some-clause-layered : goal.returns-in-Some-clause-layered
 returns-in-Some-clause-layered c =
-    layers_grow (accepts (rows c.args.table.now)) c.args.stays.now c.args.holders.now c.positions.reached.members.items _ c.positions.layers.items
+    layers_grow (acceptance c.args.by.now) c.args.by.now.stays.now c.args.by.now.holders.now c.positions.reached.members.items _ c.positions.layers.items
     (grows_trans _ c.try_position.new.reached.members.items _ c.in_ok-try_position.ensures.grows c.in_ok-end.ensures.grows) c.positions.invariant.layered

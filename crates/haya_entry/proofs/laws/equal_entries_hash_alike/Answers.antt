@@ -1,6 +1,6 @@
 use Rattle.haya_entry.specs.contracts.entry.EntryHash.TheImpl.Laws as entry
 use Rattle.haya_entry.specs.contracts.types.EntryTypeHash.TheImpl.Laws as kind
-use Rattle.haya_entry.specs.contracts.types.SerialNumberHash.TheImpl.Laws as serial
+use Rattle.haya_entry.specs.contracts.serial_number.SerialNumberHash.TheImpl.Laws as serial
 use Rattle.haya_entry.proofs.laws.equal_entries_hash_alike.Goals as goal
 
 pub returns-clause-entry : goal.returns-clause-entry
