@@ -13,5 +13,6 @@ mod SameKinds
 mod Streams
 mod CollectedTexts
 mod Written
+mod InTurn
 mod Settled
 mod Sourced

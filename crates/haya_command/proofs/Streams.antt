@@ -189,12 +189,12 @@ module _ {S : Type 0} (options : S → Options) (selector : S → Syntax) (hits 
   Asks s entry printed t = AsksEntry (options s) (selector s) (hits s) entry printed (options t) (selector t) (hits t)
 
   -- the hits of entries that were asked one after another
-  record Counted (s t : S) (replies : Replies) : Type 0 where
-    are : AreCounted (options s) (selector s) (hits s) (hits t) (entries_of replies) (printed_of replies)
-    same_options : options t ≡ options s
-    same_selector : selector t ≡ selector s
+  pub record Counted (s t : S) (replies : Replies) : Type 0 where
+    pub are : AreCounted (options s) (selector s) (hits s) (hits t) (entries_of replies) (printed_of replies)
+    pub same_options : options t ≡ options s
+    pub same_selector : selector t ≡ selector s
 
-  counted : (replies : Replies) (s t : S) → IsFalse (is_library (options s).to) → Run Asks done s replies t → Counted s t replies
+  pub counted : (replies : Replies) (s t : S) → IsFalse (is_library (options s).to) → Run Asks done s replies t → Counted s t replies
   counted [] s t not run =
       rw (← run)
       (record {

@@ -2,6 +2,7 @@ pub mod Answer
 pub mod AskedLines
 pub mod Bound
 pub mod Form
+pub mod InTurn
 pub mod Picks
 pub mod Printed
 pub mod Reading

@@ -220,8 +220,8 @@ pub fn begin_asking<W: Write>(asker: &Asker<'_>, out: &mut W) -> Result<(), Comm
     Ok(())
 }
 
-// What is printed before any hit has come.
-fn start(alloc: Global, options: &Options) -> Result<String, OutOfMemory>
+/// What is printed before any hit has come.
+pub(crate) fn start(alloc: Global, options: &Options) -> Result<String, OutOfMemory>
     ensures { IfOk result (λ text. string_bytes text ≡ start_text options.now) }
 {
     if options.quiet {

@@ -132,6 +132,51 @@ fn are_settled(members: &[Selector], answer: bool) -> bool
     !answer
 }
 
+/// What is said of a selector `article[volume]` or `*[volume]` that finds nothing.
+#[derive(Drop)]
+pub(crate) struct ParentsHint {
+    selector: Option<Selector>,
+    text: String,
+}
+
+impl ParentsHint {
+    /// Nothing so far.
+    pub(crate) fn new(alloc: Global, selector: &str) -> Result<ParentsHint, OutOfMemory> {
+        Ok(ParentsHint {
+            selector: read(alloc, selector)?,
+            text: String::new(alloc),
+        })
+    }
+
+    /// Sees an entry of the library. Where it is of the type, and has a parent with the names that it
+    /// hasn't itself, that is what is said; where the selector holds at it, nothing is from now on.
+    pub(crate) fn see(&mut self, alloc: Global, entry: &Entry) -> Result<(), OutOfMemory> {
+        let Some(asked) = self.selector.as_ref().and_then(Asked::of) else {
+            return Ok(());
+        };
+        if asked.finds(entry) {
+            self.selector = None;
+            self.text.clear();
+            return Ok(());
+        }
+        if self.text.is_empty() && asked.is_type_of(entry) {
+            for parent in entry.parents() {
+                if asked.finds_between(entry, parent) {
+                    self.text = asked.hint(alloc, entry)?;
+                    return Ok(());
+                }
+            }
+        }
+        Ok(())
+    }
+
+    /// A line that says which names are on the parents, or nothing.
+    pub(crate) fn into_text(self) -> String {
+        let ParentsHint { selector: _, text } = self;
+        text
+    }
+}
+
 /// A line that says which names are on the parents, for a selector `article[volume]` or `*[volume]`
 /// that finds nothing in the library, where some entry of the type has a parent with the names that
 /// it hasn't itself. Otherwise it is empty.
@@ -140,25 +185,11 @@ pub(crate) fn parents_hint(
     library: &Library,
     selector: &str,
 ) -> Result<String, OutOfMemory> {
-    let Some(selector) = read(alloc, selector)? else {
-        return Ok(String::new(alloc));
-    };
-    let Some(asked) = Asked::of(&selector) else {
-        return Ok(String::new(alloc));
-    };
-    if library.iter().any(|entry| asked.finds(entry)) {
-        return Ok(String::new(alloc));
-    }
+    let mut hint = ParentsHint::new(alloc, selector)?;
     for entry in library.iter() {
-        if asked.is_type_of(entry) {
-            for parent in entry.parents() {
-                if asked.finds_between(entry, parent) {
-                    return asked.hint(alloc, entry);
-                }
-            }
-        }
+        hint.see(alloc, entry)?;
     }
-    Ok(String::new(alloc))
+    Ok(hint.into_text())
 }
 
 // A selector that is a type, or `*`, with a bracket list.

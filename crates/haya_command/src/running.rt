@@ -2,6 +2,7 @@
 ghost use Rattle.std.specs.Prelude.{◌≡◌, ◌≤◌, ◌++◌, ℕ, List, false, true, IfOk, IsTrue, OnErr};
 ghost use Rattle.std.specs.Prelude.{OnOk, Some, string_bytes};
 ghost use Rattle.std.specs.Io.KnownBytes.{Appends, Keeps};
+ghost use Rattle.haya_command.specs.InTurn.{AnswersTexts};
 ghost use Rattle.haya_command.specs.Reading.{texts};
 ghost use Rattle.haya_command.specs.Run.{Prints, Stands};
 ghost use Rattle.haya_command.specs.SelectorText.{IsOneSelector};
@@ -13,6 +14,7 @@ use crate::answering::{Answer, ask};
 use crate::bibtex_answering::{are_bibtex, ask_bibtex};
 use crate::error::CommandError;
 use crate::hints::{parents_hint, warnings};
+use crate::in_turn::{ToldAnswer, answer_in_turn};
 use crate::notes::fault_text;
 use crate::options::{Input, Options};
 use crate::reading::{Collected, read_inputs};
@@ -100,13 +102,7 @@ fn print_answer<W: Write, E: Write>(
         Keeps (E.contents err.old) (E.contents err.new) }
 {
     check_selector(alloc, options.selector.as_str())?;
-    let Collected { library, told } = read_inputs(alloc, keys, options, inputs)?;
-    let asked = ask(alloc, keys, &library, options);
-    let hint = hint_for(alloc, options, &library, &asked);
-    // The process ends with this answer, and gives all memory back at once: entry by entry that
-    // takes longer than any selector.
-    mem::forget(library);
-    let answer = asked?;
+    let ToldAnswer { answer, told, hint } = answer(alloc, keys, options, inputs)?;
     print_told(
         alloc,
         options,
@@ -117,6 +113,45 @@ fn print_answer<W: Write, E: Write>(
         err,
     )?;
     Ok(answer.found)
+}
+
+// The answer of the inputs: in turn where that can be, and otherwise of their library.
+fn answer(
+    alloc: Global,
+    keys: HashKeys,
+    options: &Options,
+    inputs: &[Input],
+) -> Result<ToldAnswer, CommandError>
+    ensures { IfOk result (λ answered. AnswersTexts options.now (texts inputs.now)
+        (string_bytes answered.answer.text) answered.answer.found) }
+{
+    match answer_in_turn(alloc, keys, options, inputs) {
+        Some(answered) => Ok(answered),
+        None => answer_whole(alloc, keys, options, inputs),
+    }
+}
+
+// The answer of the library that the inputs are read as.
+fn answer_whole(
+    alloc: Global,
+    keys: HashKeys,
+    options: &Options,
+    inputs: &[Input],
+) -> Result<ToldAnswer, CommandError>
+    ensures { IfOk result (λ answered. AnswersTexts options.now (texts inputs.now)
+        (string_bytes answered.answer.text) answered.answer.found) }
+{
+    let Collected { library, told } = read_inputs(alloc, keys, options, inputs)?;
+    let asked = ask(alloc, keys, &library, options);
+    let hint = hint_for(alloc, options, &library, &asked);
+    // The process ends with this answer, and gives all memory back at once: entry by entry that
+    // takes longer than any selector.
+    mem::forget(library);
+    Ok(ToldAnswer {
+        answer: asked?,
+        told,
+        hint,
+    })
 }
 
 // Prints the answer as the inputs have it, in this form, and says whether an entry is found: by items

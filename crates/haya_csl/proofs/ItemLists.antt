@@ -63,7 +63,7 @@ module _ (by : ItemKey) where
       (record { value = j; parsed = are.0; unique = unique.0; read = read.0 }, lines_of_entries ls js ts are.1 unique.1 read.1)
 
   -- what is told of items whose keys aren't looked for
-  alone_told : Items → List NoteView
+  unfoldable pub alone_told : Items → List NoteView
   alone_told json.no_items = []
   alone_told (json.item j js) = told_alone (item_said by j) ++ alone_told js
 
@@ -133,7 +133,7 @@ is_new library ts t d =
 
 module _ (by : ItemKey) where
   -- of items whose keys are distinct no more is told than of each alone
-  told_of_entries : (js : Items) (library entries : List Tree) → ItemsSay by js entries → AreDistinct (library ++ entries) → items_told by library js ≡ alone_told by js
+  pub told_of_entries : (js : Items) (library entries : List Tree) → ItemsSay by js entries → AreDistinct (library ++ entries) → items_told by library js ≡ alone_told by js
   unfolding alone_told
   told_of_entries json.no_items library [] says d = refl
   told_of_entries json.no_items library (t ∷ ts) says d = absurd says

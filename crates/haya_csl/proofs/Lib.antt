@@ -8,3 +8,4 @@ mod NamesReadOrTold
 mod DatesReadOrTold
 mod Refusals
 pub mod ItemLists
+mod TakenLists

@@ -23,3 +23,4 @@ pub mod Refused
 pub mod Turns
 pub mod Made
 pub mod ItemLines
+pub mod Taken

@@ -48,8 +48,8 @@ pub fn read_item_line(
     }
 }
 
-// The entry of the item at this place.
-fn read_at(
+/// The entry of the item at this place, and what is lost of it behind what was told.
+pub(crate) fn read_at(
     alloc: Global,
     by: ItemKey,
     place: usize,

@@ -21,9 +21,11 @@ mod names;
 mod numbers;
 mod said;
 mod serials;
+mod taken;
 mod texts;
 mod turns;
 
 pub use item_key::ItemKey;
 pub use item_lines::read_item_line;
 pub use libraries::{read_csl_json, read_csl_json_with_hash_keys};
+pub use taken::{EntryTaker, take_csl_entries};

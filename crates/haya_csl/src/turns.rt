@@ -65,8 +65,11 @@ pub(crate) fn read_list_text(
     }
 }
 
-// The next item of a list, or none at its end.
-fn next_item<'a>(alloc: Global, reader: &mut Reader<'a>) -> Result<Option<Value<'a>>, Error>
+/// The next item of a list, or none at its end.
+pub(crate) fn next_item<'a>(
+    alloc: Global,
+    reader: &mut Reader<'a>,
+) -> Result<Option<Value<'a>>, Error>
     ensures item { IfOk result (λ next. items_left reader.old
         ≡ first_and_left (option_map value_view next) reader.new) }
     ensures invalid { result ≡ Err Error.Invalid → items_left reader.old ≡ None }

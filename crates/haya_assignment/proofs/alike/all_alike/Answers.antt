@@ -3,7 +3,7 @@ use Rattle.haya_assignment.specs.Assignment.{rows}
 use Rattle.haya_assignment.specs.Placed.{accepts}
 use Rattle.haya_assignment.proofs.Numbers.{at_more}
 use Rattle.haya_assignment.proofs.alike.all_alike.Goals as goal
-use Rattle.haya_assignment.proofs.alike.all_alike.Goals.{then-first-member+then-len-lt-COMPARED+in_ok-push, else-first-member}
+use Rattle.haya_assignment.proofs.alike.all_alike.Goals.{then-first-member+in_ok-push, else-first-member}
 
 pub members-preserved : goal.members-preserved
 members-preserved c =
@@ -21,7 +21,7 @@ members-preserved c =
         same = λ u j h. at_more (λ k x. A x j ≡ A k j) old first 0 (λ k h. was.alike.same k j h) (rw as_many (c.one_alike-first.ensures.same j)) u h;
       });
       firsts = elim c.if-first-member.branch [
-        | then-first-member+then-len-lt-COMPARED+in_ok-push w ↦ rw (w.firsts-is, w.in_ok-push.ensures.items) (λ k d h.
+        | then-first-member+in_ok-push w ↦ rw (w.firsts-is, w.in_ok-push.ensures.items) (λ k d h.
             at_more (λ _ x. x < here + 1) c.members.firsts.items here d (λ k h. let l : get_or c.members.firsts.items k d < here = was.firsts k d h in omega arith) (omega arith) k h)
         | else-first-member w ↦ rw w.firsts-is (λ k d h. let l : get_or c.members.firsts.items k d < here = was.firsts k d h in omega arith)
       ];
