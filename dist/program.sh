@@ -108,7 +108,7 @@ find_difference() {
     differs=${differs:-the sources}
 }
 
-# Whether dist/SOURCES matches the objects and sources; else it says which it doesn't.
+# Whether dist/SOURCES matches the objects and sources; otherwise it says which it doesn't.
 sources_match() {
     local differs
     find_difference
@@ -145,7 +145,7 @@ link_by_kit() {
 link_by_cc() { cc -O2 -o "$2" "$top/dist/start.c" "$top/dist/$1.o"; }
 
 # Links dist/'s program $2 by the command $1 into the first of the folders that follow that can be written to. It sets
-# `program` to the new file, or else `said` to what the linker said. The file gets its name once it is whole, for others who
+# `program` to the new file, or otherwise `said` to what the linker said. The file gets its name once it is whole, for others who
 # call at the same time, and the time $began, so that what is edited from then on is newer.
 link_into() {
     local link=$1 name=$2 folder
@@ -217,7 +217,7 @@ is_proved() {
 # Ends with the status 3, which no program has.
 cannot_run() { echo "$name: $*" >&2; exit 3; }
 
-# Links dist/'s program $1 into one of the folders that follow, and sets `program`; or else sets `why` to what keeps it from
+# Links dist/'s program $1 into one of the folders that follow, and sets `program`; or otherwise sets `why` to what keeps it from
 # being linked.
 link_program() {
     local name=$1 lacks differs kit said
@@ -234,7 +234,7 @@ link_program() {
     fi
 }
 
-# Sets `program` to a new program $1 in one of the folders that follow: one that is linked from dist/, or else, where HAYA_BUILD
+# Sets `program` to a new program $1 in one of the folders that follow: one that is linked from dist/, or otherwise, where HAYA_BUILD
 # asks for that, one that is proved and built.
 make_program() {
     local name=$1 began why
@@ -255,7 +255,7 @@ find_cache() {
     cache=${XDG_CACHE_HOME:-${HOME:-}/.cache}/torkizeu$(cd "$top" && pwd -P)/${sum:0:16}
 }
 
-# Runs the program $1 with the other words: the one that was made here, or else a new one. Standard input is its alone.
+# Runs the program $1 with the other words: the one that was made here, or otherwise a new one. Standard input is its alone.
 run_program() {
     local name=$1 program=$top/crates/$1/out/$1 cache
     shift

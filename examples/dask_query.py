@@ -301,7 +301,7 @@ class Library:
         return self.show(zip(self.parts, self.in_order((ask, part, self.entry, command) for part in self.parts)))
 
     def sort(self):
-        """Prints the hits sorted: the sorted hits of each part are cut at the same marks, and what is between two is merged."""
+        """Prints the hits sorted: the sorted hits of each part are separated at the same marks, and what is between two is merged."""
         tests = [*self.words.where, self.words.sort]
         header = self.begin(self.haya(self.words.format, *tests, *self.words.show))
         pick, order = self.haya(self.words.format, "--stream", "--to=json-lines"), self.haya("json-lines", *tests, "--to=json-lines")

@@ -38,7 +38,7 @@ continued sign cs None = cs
 continued sign cs (Some ds) = followed_by (push_str cs (between sign cs) Normal) ds
 
 -- A title, its subtitle behind a colon, and the addition behind a full stop. Without a title the
--- subtitle alone is it, or else the addition.
+-- subtitle alone is it, or otherwise the addition.
 abbrev pub joined : Option (List Chunk) → Option (List Chunk) → Option (List Chunk)
     → Option (List Chunk)
 joined None subtitle addition = option_or subtitle addition

@@ -92,7 +92,7 @@ fn continue_with(
 
 /// A title, its subtitle behind a colon, and the addition behind a full stop: `T: S. Add`. Behind a
 /// text that ends in one of `. , : ; ! ? …` there is a blank alone. Without a title the subtitle
-/// alone is it, or else the addition.
+/// alone is it, or otherwise the addition.
 pub fn join(
     title: Option<ChunkedString>,
     subtitle: Option<ChunkedString>,

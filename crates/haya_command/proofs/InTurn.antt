@@ -1,7 +1,7 @@
 -- Entries that are asked in turn are those of a library.
-use Rattle.std.proofs.Common.{◌≡◌, ◌≢◌, IsTrue, ℕ, ◌+◌, ◌<◌, Bool, true, false, List, [], ◌∷◌, ◌++◌, Option, None, Some, length, refl, sym, ap, ◌∙◌, subst, append_assoc, append-nil, arith, true≢false}
+use Rattle.std.proofs.Common.{◌≡◌, ◌≢◌, IsTrue, ℕ, ◌+◌, ◌<◌, Bool, false, List, [], ◌∷◌, ◌++◌, Option, None, Some, length, refl, sym, ap, ◌∙◌, subst, append_assoc, append-nil, arith, true≢false}
 use Rattle.std.specs.Prelude.{◌↔◌, All, map, string_bytes}
-use Rattle.std.specs.List.{AllPairs, FoldsTo}
+use Rattle.std.specs.List.{FoldsTo}
 use Rattle.std.specs.Str.{bytes_eq, chars}
 use Rattle.std.proofs.lemmas.Bool.{or_parts}
 use Rattle.std.proofs.lemmas.List.Elements.{All-cons, All-nil}
@@ -16,8 +16,7 @@ use Rattle.haya_entry_stream.specs.Listed.{Replies, Run, entries_of, printed_of}
 use Rattle.haya_formats.specs.declared.format.Format.TheVariants.{CslJson}
 use Rattle.haya_json.proofs.NotesKept.{none_of_first}
 use Rattle.haya_json.specs.Notes.{NotesView, first_note, kept_of, none_kept}
-use Rattle.hayagriva.proofs.Parts.{from_entries-distinct}
-use Rattle.hayagriva.specs.Library.{AreDistinct, from_entries, key_of}
+use Rattle.hayagriva.specs.Library.{AreDistinct, key_of}
 use Rattle.hayagriva.specs.Reading.{TextReads}
 use Rattle.hayagriva.specs.Syntax.{Syntax}
 use Rattle.hayagriva.specs.Tree.{Tree}
@@ -30,7 +29,8 @@ use Rattle.haya_command.specs.Streamable.{is_streamable}
 use Rattle.haya_command.specs.Streamed.{AreCounted, IsWithin, end_text, passing, start_text}
 use Rattle.haya_command.specs.declared.in_turn.Turns.{Turns}
 use Rattle.haya_command.specs.declared.options.Options.{Options}
-use Rattle.haya_command.proofs.Streams.{Asks, all_answered, counted, done, list_read}
+use Rattle.haya_command.proofs.OneList.{one_list_read}
+use Rattle.haya_command.proofs.Streams.{Asks, all_answered, counted, done}
 
 abbrev options_of : Turns → Options
 options_of s = s.asker.options.now
@@ -124,10 +124,6 @@ module _ (options : Options) (text : List ℕ) (by : ItemKey) (format : format_i
       λ is. subst (λ f. IsWhole f text) (sym format) (nothing_told by text takes.list.items kept takes.list.parsed (takes.told a.distinct) (strict is)) in
       record {
         library = entries;
-        reads = record {
-          parts = entries ∷ [];
-          each = (list_read options text entries whole list a.distinct, tt);
-          pushed = sym (from_entries-distinct entries a.distinct) ∙ ap from_entries (sym (append-nil entries));
-        };
+        reads = one_list_read options text entries whole list a.distinct;
         answers = subst (λ l. IsAnswer options entries l found) (sym all) answer;
       }

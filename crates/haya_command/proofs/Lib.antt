@@ -13,6 +13,7 @@ mod SameKinds
 mod Streams
 mod CollectedTexts
 mod Written
+mod OneList
 mod InTurn
 mod Settled
 mod Sourced

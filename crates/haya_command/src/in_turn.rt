@@ -1,9 +1,9 @@
 //! The answer of a list whose entries are asked in turn, as they are read, and let go.
-ghost use Rattle.std.specs.Prelude.{◌≡◌, ◌<◌, ◌↔◌, ◌++◌, ◌∷◌, [], ℕ, List, IfOk, IfSome, IsTrue, OnOk};
-ghost use Rattle.std.specs.Prelude.{Some, false, string_bytes};
+ghost use Rattle.std.specs.Prelude.{◌≡◌, ◌<◌, ◌↔◌, ◌++◌, ◌∷◌, [], ℕ, List, false, IfOk, IfSome};
+ghost use Rattle.std.specs.Prelude.{IsTrue, OnOk, string_bytes};
+ghost use Rattle.std.specs.Str.{chars};
 ghost use Rattle.hayagriva.specs.Reading.{TextReads};
 ghost use Rattle.hayagriva.specs.Syntax.{Syntax};
-ghost use Rattle.std.specs.Str.{chars};
 ghost use Rattle.haya_command.specs.InTurn.{AnswersTexts, was_seen};
 ghost use Rattle.haya_command.specs.Picks.{wanted};
 ghost use Rattle.haya_command.specs.Reading.{texts};

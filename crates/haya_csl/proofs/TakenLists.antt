@@ -11,21 +11,31 @@ use Rattle.haya_json.specs.Told.{told_alone}
 use Rattle.haya_json.proofs.NotesKept.{kept_from_none, kept_together}
 use Rattle.haya_csl.specs.ItemLines.{ItemsSay}
 use Rattle.haya_csl.specs.Items.{item_said}
-use Rattle.haya_csl.specs.Taken.{TakesFirst, TakesItems, TakesList, TakesOne}
+use Rattle.haya_csl.specs.Taken.{TakesItems, TakesList, TakesOne}
 use Rattle.haya_csl.specs.Turns.{items_left, list_document}
 use Rattle.haya_csl.specs.declared.item_key.ItemKey.{ItemKey}
 use Rattle.haya_csl.proofs.ItemLists.{alone_told, told_of_entries}
 use Rattle.haya_csl.proofs.ListTurns.{document-list}
 
 module _ {T : Type 0} (takes : T → Tree → T → Type 0) (by : ItemKey) where
+  -- Items are taken where those that are left of them are.
+  abbrev pub TakesBut : Items → Items → NotesView → NotesView → T → T → Type 0
+  TakesBut left list noted kept before after =
+      (more : NotesView) (last : T) → TakesItems takes by left kept more after last → TakesItems takes by list noted more before last
+
+  -- the same of a list that is read from tokens, and of what is left of it, where that is a list
+  abbrev pub TakesFirst : Option (Items × List Token) → Option (Items × List Token) → NotesView → NotesView → T → T → Type 0
+  TakesFirst None list noted kept before after = Unit {0}
+  TakesFirst (Some left) list noted kept before after = (js : Items) × (list ≡ Some (js, left.1)) × TakesBut left.0 js noted kept before after
+
   -- nothing is taken yet
-  pub none_taken : (list : Option (Items × List Token)) (noted : NotesView) (s : T) → TakesFirst takes by list list noted noted s s
+  pub none_taken : (list : Option (Items × List Token)) (noted : NotesView) (s : T) → TakesFirst list list noted noted s s
   none_taken None noted s = tt
   none_taken (Some l) noted s = (l.0, refl, λ more last all. all)
 
   -- one more item is taken
   pub one_more_taken : (list left : Option (Items × List Token)) (j : Json) (noted kept between : NotesView) (s t u : T) → TakesOne takes by j kept between t u
-      → TakesFirst takes by (parse_map (item j) left) list noted kept s t → TakesFirst takes by left list noted between s u
+      → TakesFirst (parse_map (item j) left) list noted kept s t → TakesFirst left list noted between s u
   one_more_taken list None j noted kept between s t u one h = tt
   one_more_taken list (Some left) j noted kept between s t u one h = (h.0, h.1, λ more last all. h.2 more last (between, u, one, all))
 

@@ -1,9 +1,8 @@
 -- The entries of a list, taken one after another.
-use Rattle.std.specs.Prelude.{◌≡◌, ℕ, List, Option, None, Some, Ok}
+use Rattle.std.specs.Prelude.{◌≡◌, ℕ, List, Ok}
 use Rattle.std.specs.List.{FoldsTo}
 use Rattle.json.specs.Json.{Json, Items, no_items, item}
 use Rattle.json.specs.Strict.{HasUniqueKeys}
-use Rattle.json.specs.Token.{Token}
 use Rattle.haya_entry.specs.Tree.{Tree}
 use Rattle.hayagriva.specs.Library.{AreDistinct}
 use Rattle.haya_json.specs.Notes.{NotesView, all_kept}
@@ -40,19 +39,3 @@ TakesItems takes by no_items noted kept before after = (kept ≡ noted) × (afte
 TakesItems {T} takes by (item j js) noted kept before after =
     (between : NotesView) × (next : T) × TakesOne takes by j noted between before next
     × TakesItems takes by js between kept next after
-
--- Items are taken where those that are left of them are.
-abbrev pub TakesBut : {T : Type 0} → (T → Tree → T → Type 0) → ItemKey → Items → Items
-    → NotesView → NotesView → T → T → Type 0
-TakesBut {T} takes by left list noted kept before after =
-    (more : NotesView) (last : T) → TakesItems takes by left kept more after last
-    → TakesItems takes by list noted more before last
-
--- the same of a list that is read from tokens, and of what is left of it, where that is a list
-abbrev pub TakesFirst : {T : Type 0} → (T → Tree → T → Type 0) → ItemKey
-    → Option (Items × List Token) → Option (Items × List Token) → NotesView → NotesView → T → T
-    → Type 0
-TakesFirst takes by None list noted kept before after = Unit {0}
-TakesFirst takes by (Some left) list noted kept before after =
-    (js : Items) × (list ≡ Some (js, left.1))
-    × TakesBut takes by left.0 js noted kept before after

@@ -46,7 +46,7 @@ abbrev pub is_collection_of : EntryType → Tree → Bool
 is_collection_of kind x = is_of_type kind x || is_of_type Anthology x
 
 abbrev mutual
-  -- the collections: those among the parents, or else those of the parents
+  -- the collections: those among the parents, or otherwise those of the parents
   pub collections : Tree → List (List ℕ)
   collections (node f ps) =
       if is_collected f.entry_type

@@ -41,7 +41,7 @@ letter_visible x h = grind (arith, nat_tests)
 digit_visible : (d : ℕ) → 32 ≤ digit_char d
 digit_visible d = grind (arith, nat_tests)
 
--- what stands in a string for a byte
+-- what a string has for a byte
 escape_byte_visible : (x : ℕ) → IsVisible (escape_byte x)
 unfolding escape_byte
 escape_byte_visible x = by (nat_lt 0 (escape_letter x)) (nat_lt x 32) refl refl

@@ -48,7 +48,7 @@ abbrev pub own_key : Default → Json → Option (List ℕ)
 own_key default j =
     if is_some default then option_and_then text_in (member_of (codes "key") j) else None
 
--- the key of an entry: its own, or else that of the entry below it or that of the library
+-- the key of an entry: its own, or otherwise that of the entry below it or that of the library
 abbrev pub key_among : List ℕ → Default → Json → List ℕ
 key_among key default j = unwrap_or (own_key default j) key
 

@@ -24,7 +24,7 @@ use json::Value;
 use std::alloc::Global;
 
 /// An entry under this key, and what is lost of it: an object, whose type is the one that it names,
-/// or else the default, if there is one. A parent has a default, and may have a key of its own.
+/// or otherwise the default, if there is one. A parent has a default, and may have a key of its own.
 #[cycle(entries)]
 pub(crate) fn read_entry(
     alloc: Global,
@@ -45,7 +45,7 @@ pub(crate) fn read_entry(
     }
 }
 
-// The entry of an object under its own key, or else this one.
+// The entry of an object under its own key, or otherwise this one.
 #[cycle(entries)]
 fn read_object(
     alloc: Global,

@@ -5,13 +5,13 @@ use Rattle.std.proofs.lemmas.Bool.{false≢true, eqb-true, le-leb, ltb-false, ne
 use Rattle.json.specs.Text.{code_unit, short_escape, is_high_surrogate, is_low_surrogate, surrogate_pair, Within, plain, after_backslash, after_u, after_high, prepend, content}
 
 -- bytes of a string in front of its closing quote, none of them a control character; the flag says
--- that a backslash stands in front of them
+-- that a backslash is in front of them
 abbrev pub is_inside : Bool → List ℕ → Bool
 is_inside escaped [] = not escaped
 is_inside true (x ∷ xs) = nat_le 32 x && is_inside false xs
 is_inside false (x ∷ xs) = nat_le 32 x && (not (x == 34) && is_inside (x == 92) xs)
 
--- a backslash stands in front of what is read next
+-- a backslash is in front of what is read next
 abbrev pub is_escaped : Within → Bool
 is_escaped plain = false
 is_escaped after_backslash = true
@@ -99,7 +99,7 @@ short_above x c h = above (cases_lt x 32)
 
 -- ---- the cases
 
--- a byte that is no quote, as it stands in a string
+-- a byte that is no quote, as a string has it
 plain_inside : (b : Bool) (x : ℕ) (f : List ℕ) → (x == 34) ≡ false → (x == 92) ≡ b → 32 ≤ x
     → is_inside b f ≡ true → is_inside false (x ∷ f) ≡ true
 plain_inside b x f eq eb above k =

@@ -36,7 +36,7 @@ no_feed_inside false (x ∷ f) h =
     let p = text_parts x f h in
     (ne_eqb x 10 (λ e. omega arith), no_feed_inside (x == 92) f p.2)
 
--- what is inside a string, where it is known whether a backslash stands in front
+-- what is inside a string, where it is known whether a backslash is in front
 inside_at : (x : ℕ) (f : List ℕ) (escaped : Bool) → is_inside (x == 92) f ≡ true
     → (x == 92) ≡ escaped → is_inside escaped f ≡ true
 inside_at x f escaped h e = ap (λ t. is_inside t f) (sym e) ∙ h

@@ -39,7 +39,7 @@ IsSound fault = ⊥
 abbrev pub AreGood : List Token → Type 0
 AreGood ts = AllByRecursion (λ t. IsSound (kind t)) ts
 
--- What holds behind a token of this kind that stands in d brackets, where a value may be due.
+-- What holds behind a token of this kind within d brackets, where a value may be due.
 abbrev pub HoldsBehind : Kind → Bool → ℕ → (Bool → ℕ → Type 0) → Type 0
 HoldsBehind opener due d next = (nat_lt d 128 ≡ true) × next false (d + 1)
 HoldsBehind closer due d next = ((d == 0) ≡ false) × next false (d - 1)

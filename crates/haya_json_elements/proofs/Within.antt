@@ -70,7 +70,7 @@ abbrev pub SaysBehindComma : Brackets → List ℕ → Type 0
 SaysBehindComma b xs = AllGood (pieces (lines_from b Next xs))
     → comma ∷ lex between xs ≡ tail_of b (line_lexemes (pieces (lines_from b Next xs)))
 
--- a byte y of this class stands in the line
+-- a byte y of this class appears in the line
 onward : (b : Brackets) (m next : Mode) (d : ℕ) (c : Class) (y : ℕ) (xs : List ℕ)
     (text : List Lexeme) → (y == 10) ≡ false → class y ≡ c
     → (AreFine (lex_byte (lex_mode m) c y (line_from b (Element next d) xs)

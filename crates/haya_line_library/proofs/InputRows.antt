@@ -24,7 +24,7 @@ paper = with_parents (journal ∷ new_entry (codes "book") Book ∷ []) (with_ke
 abbrev note : Tree
 note = new_entry (codes "note") Blog
 
--- a paper in a journal, which stands in a site, and in a book; and a note
+-- a paper in a journal, which appears in a site, and in a book; and a note
 two_entries : Describes
     (codes "0\tpaper\tarticle\tdoi=1=a\r\n\n1\tjournal\tPeriodical\n2\tsite\tweb\tlanguage=de\tlanguage=en\n\r\n1\tbook\tbook\n0\tnote\tblog")
     (paper ∷ note ∷ [])

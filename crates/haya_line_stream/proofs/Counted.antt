@@ -125,7 +125,7 @@ module _ {E : Type 0} where
   ended_most text n (Refused e) ended = omega arith
   ended_most text n OutOfMemory ended = ended
 
-  -- so many lines stand in front
+  -- so many lines are in front
   pub ended_behind : (text rest : List ℕ) (n m k : ℕ) (fault : StreamError E) → ended_count text ≡ k + ended_count rest → m ≡ k + n → HaveEnded rest n fault → HaveEnded text m fault
   ended_behind text rest n m k (CannotRead e) more is ended = omega arith
   ended_behind text rest n m k (CannotWrite e) more is ended = omega arith

@@ -1,4 +1,4 @@
--- The first part of a text that is cut at escaped hyphens.
+-- The first part of a text that is separated by escaped hyphens.
 use Rattle.std.proofs.Common.{◌≡◌, ◌≢◌, ℕ, ◌+◌, ◌<◌, Bool, true, false, ◌&&◌, cond, eqb, List, [], ◌∷◌, ◌++◌, length, take, drop, refl, ap, sym, ◌∙◌, arith, lit<, Option, Some, None}
 use Rattle.std.proofs.lemmas.Bool.Decides.{nat_tests}
 use Rattle.std.proofs.lemmas.List.{length-append, append_assoc, take-append-drop}
@@ -12,7 +12,7 @@ use denote.Ref.{Bor}
 use Rattle.haya_text.proofs.Tells.{and-both}
 use Rattle.haya_numbers.specs.Cuts.{escaped_split}
 
--- no escaped hyphen stands in the characters
+-- no escaped hyphen appears in the characters
 abbrev pub HasNoEscape : List ℕ → Type 0
 HasNoEscape cs = (xs ys : List ℕ) → cs ≢ xs ++ 92 ∷ 45 ∷ ys
 

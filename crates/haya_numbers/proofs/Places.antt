@@ -1,4 +1,4 @@
--- A text cut at a place that is known by the characters before and behind it.
+-- A text divided at a place that is known by the characters before and behind it.
 use Rattle.std.proofs.Common.{◌≡◌, ℕ, ◌+◌, true, List, [], ◌∷◌, ◌++◌, length, take, drop, refl, ap, sym, ◌∙◌, arith}
 use Rattle.std.proofs.lemmas.Str.{encodes-chars, encodes-append, chars-encodes, scalars-chars, IsCharBoundary-at_seam}
 use Rattle.std.proofs.lemmas.List.{length-append}

@@ -73,7 +73,7 @@ escaped-more range start behind end more e = let r = escaped_split-cons more in 
 pub dashed-more : (range : NumericView → NumericView → PartView) (start behind end more : List ℕ) → dash_split behind ≡ end ∷ dash_split more → halves_read range (start ∷ dash_split behind) ≡ result_and (both_read start end) (Err Malformed)
 dashed-more range start behind end more e = let r = dash_split-cons more in rw (e, r.2) refl
 
--- a text that is cut at an escaped hyphen
+-- a text that is separated by an escaped hyphen
 two : (a b : List ℕ) (rest : List (List ℕ)) → nat_lt 1 (length (a ∷ b ∷ rest)) ≡ true
 two a b rest = grind (arith, nat_tests)
 

@@ -117,7 +117,7 @@ pub particle-is_one : (table : List (List ℕ)) (name particle : List ℕ) → n
 particle-is_one table name particle e =
     last-has (IsParticleOf table name) None (filter (is_particle table) (beginnings name)) particle tt (filter-listed table name (beginnings name) (beginnings-begin name)) e
 
--- another particle of the name stands in the list, and what follows it is longer
+-- another particle of the name appears in the list, and what follows it is longer
 last-from : (o : Option (List ℕ)) (xs : List (List ℕ)) (x : List ℕ) (ys : List (List ℕ)) → last_or o (xs ++ x ∷ ys) ≡ last_or (Some x) ys
 last-from o [] x ys = refl
 last-from o (z ∷ zs) x ys = last-from (Some z) zs x ys

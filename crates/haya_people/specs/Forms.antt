@@ -16,7 +16,7 @@ given_form by_initials given_name =
     then initials_of (record { delimiter = full_stop ∷ blank ∷ []; with_hyphen = true }) given_name
     else given_name
 
--- the family name first: the prefix stands before it, or else behind the given
+-- the family name first: the prefix stands before it, or otherwise behind the given
 -- name; the suffix stands last
 unfoldable pub name_first : Bool → Bool → PersonView → List ℕ
 name_first by_initials prefix_given_name v =

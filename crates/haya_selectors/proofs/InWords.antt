@@ -471,7 +471,7 @@ led-first q xs f called before same (Some i) (Some x) h = same x ∙ ap (λ l. l
 led-first q xs f called before same (Some i) None h = absurd h
 led-first q xs f called before same None (Some x) h = absurd h
 
--- ---- names that don't stand in a selector
+-- ---- names that don't appear in a selector
 or-false : (a b : Bool) → (a || b) ≡ false → (a ≡ false) × (b ≡ false)
 or-false true b h = absurd (cc)
 or-false false b h = (refl, h)

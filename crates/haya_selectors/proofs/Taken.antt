@@ -193,7 +193,7 @@ scalar_parts (c ∷ front) rest h =
     let both = and-both (scalar c) (scalars (front ++ rest)) h in
     let parts = scalar_parts front rest both.1 in (both-and _ _ both.0 parts.0, parts.1)
 
--- the text is cut at this byte into these characters
+-- the text is separated by this byte into these characters
 record CutAt (text front rest : List ℕ) (place : ℕ) : Type 0 where
   boundary : IsCharBoundary text place
   before : chars (take place text) ≡ front

@@ -50,7 +50,7 @@ abbrev pub AddsOnFor : {A : Type 0} → Nodes → List Tree → EntryPairs → E
 AddsOnFor nodes xs old new pairs o =
     AddsOn (slot_names nodes) xs old new (option_map_or pairs o [])
 
--- what was found before still stands in front
+-- what was found before is still in front
 abbrev pub KeepsFound : Nodes → EntryPairs → EntryPairs → Type 0
 KeepsFound nodes old new =
     take (length old) (pairs_view (slot_names nodes) new) ≡ pairs_view (slot_names nodes) old

@@ -48,7 +48,7 @@ abbrev pub first_choice : (Tree → Bool) → (List Tree → Bool) → List Tree
     Option (Tree × List Tree)
 first_choice test others_pass xs = find (λ c. test c.0 && others_pass c.1) (choices xs)
 
--- an entry, or else the one before
+-- an entry, or otherwise the one before
 abbrev pub or_before : Option Tree → Option Tree → Option Tree
 or_before o None = o
 or_before o (Some x) = option_or o (Some x)

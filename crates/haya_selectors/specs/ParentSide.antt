@@ -6,7 +6,7 @@ use Rattle.haya_selectors.specs.Holds.{holds}
 use Rattle.haya_selectors.specs.Syntax.{Syntax, Wildcard, Entry, Neg, Binding, Attr, Alt, Multi, Ancestrage, Syntaxes, none, more}
 
 abbrev mutual
-  -- types, `*`, bracket lists directly over `*`, `|`, names that stand in no list, and `>` with any
+  -- types, `*`, bracket lists directly over `*`, `|`, names that appear in no list, and `>` with any
   -- two sides
   pub asks_one_parent : Syntax → Bool
   asks_one_parent Wildcard = true

@@ -45,7 +45,7 @@ abbrev pub fold_error_view : FoldError → Bool × List Chunk
 fold_error_view (error.Math back) = (true, chunks back)
 fold_error_view (error.OutOfMemory back) = (false, chunks back)
 
--- the text is handed back: for its math, or else since an allocation failed
+-- the text is handed back: for its math, or otherwise since an allocation failed
 abbrev pub RefusesFold : ChunkedString → FoldError → Type 0
 RefusesFold text (error.Math back) = (chunks back ≡ chunks text) × (has_math (chunks text) ≡ true)
 RefusesFold text (error.OutOfMemory back) =

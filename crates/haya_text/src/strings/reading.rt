@@ -229,7 +229,7 @@ fn next_mark(cursor: &mut Cursor) -> Option<Mark>
 }
 
 // The character that a backslash before this place stands for: the control character that follows,
-// which is taken, or else itself.
+// which is taken, or otherwise itself.
 fn escaped(cursor: &mut Cursor) -> char
     ensures reads { (depth : ℕ) (math : Bool) → scan depth math true cursor.old.rest
         ≡ result_after

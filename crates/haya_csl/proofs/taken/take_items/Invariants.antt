@@ -1,6 +1,6 @@
 use Rattle.haya_json.specs.Notes.{notes_view}
-use Rattle.haya_csl.specs.Taken.{TakesFirst}
 use Rattle.haya_csl.specs.Turns.{items_left}
+use Rattle.haya_csl.proofs.TakenLists.{TakesFirst}
 use Rattle.haya_csl.proofs.taken.take_items.Given as goal
 
 -- the items in front of those that are left are taken
