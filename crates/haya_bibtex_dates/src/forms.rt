@@ -203,7 +203,11 @@ pub(crate) fn date_in(text: &[char]) -> Option<Date>
 pub(crate) fn chars_of(alloc: Global, text: &str) -> Result<Vec<char>, AllocError>
     ensures { IfOk result (λ v. v.items ≡ chars text.now) }
 {
-    text.chars().collect(alloc)
+    let mut list = Vec::with_capacity(alloc, text.len())?;
+    'chars: for c in text.chars() {
+        list.push(c)?;
+    }
+    Ok(list)
 }
 
 /// The date of a text in extended date format, or of the first of two with `/` between them that

@@ -57,7 +57,7 @@ fn bare_word(alloc: Global, word: &[char]) -> Result<String, AllocError>
 fn bare_text(alloc: Global, chars: &[char]) -> Result<String, AllocError>
     ensures { IfOk result (λ s. string_bytes s ≡ encode_utf8_all (bare_chars chars.now)) }
 {
-    let mut text = String::new(alloc);
+    let mut text = String::with_capacity(alloc, chars.len())?;
     'chars: for c in chars {
         if is_kept(*c) {
             text.push(c.to_ascii_lowercase())?;

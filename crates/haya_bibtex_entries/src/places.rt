@@ -112,7 +112,14 @@ fn is_among(names: &[&str], name: &str) -> bool
 fn is_always_placed(name: &str) -> bool
     ensures { result ≡ is_always_placed name.now }
 {
-    is_among(PLACED, name)
+    // Most entries have these fields, for which the table is long.
+    match name {
+        "title" | "author" | "editor" | "date" | "year" | "month" => true,
+        "publisher" | "address" | "series" | "volume" | "number" | "pages" => true,
+        "doi" | "url" | "isbn" | "issn" | "langid" | "note" | "abstract" => true,
+        "journal" | "journaltitle" | "booktitle" => false,
+        _ => is_among(PLACED, name),
+    }
 }
 
 // ---- fields that have a place where another field, or the type, gives them one

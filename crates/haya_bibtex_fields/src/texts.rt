@@ -1,6 +1,6 @@
 //! Texts in chunks, and plain texts.
 ghost use Rattle.std.specs.Prelude.{◌≡◌, [], None, flat_map, map, option_map, string_bytes};
-ghost use Rattle.std.specs.Prelude.{IfOk, option_and_then};
+ghost use Rattle.std.specs.Prelude.{IfOk, option_and_then, option_to_list};
 ghost use Rattle.haya_text.specs.Chunks.{chunks};
 ghost use Rattle.haya_bibtex_fields.specs.FieldTexts.{chunks_of_runs, formatted_in, kind_in, plain_kind};
 ghost use Rattle.haya_bibtex_fields.specs.FieldTexts.{plain_in, run_text, title_in, title_kind, unknown_in};
@@ -8,7 +8,7 @@ ghost use Rattle.haya_bibtex_fields.specs.FieldTexts.{unknown_of, unless_empty};
 
 use crate::reading::Reading;
 use haya_latex::{Kind, Run, read_text};
-use haya_text::{ChunkKind, ChunkedString, OutOfMemory};
+use haya_text::{ChunkKind, ChunkedString, OutOfMemory, StringChunk};
 use std::alloc::Global;
 
 /// Which kinds of characters a text keeps.
@@ -51,30 +51,61 @@ fn kind_in(kept: Kept, kind: Kind) -> ChunkKind
     }
 }
 
+// The chunk of a run, if there is one.
+fn last_chunk(alloc: Global, kept: Kept, run: Option<Run>) -> Result<ChunkedString, OutOfMemory>
+    ensures { IfOk result (λ t. chunks t ≡ chunks_of_runs (kind_in kept) (option_to_list run)) }
+{
+    match run {
+        Some(Run { kind, text }) => {
+            let chunk = StringChunk::new(text, kind_in(kept, kind));
+            ChunkedString::from_chunk(alloc, chunk)
+        }
+        None => Ok(ChunkedString::new(alloc)),
+    }
+}
+
 /// The chunks of runs of characters.
 pub(crate) fn chunks_of(
     alloc: Global,
     kept: Kept,
-    runs: &[Run],
+    mut runs: Vec<Run>,
 ) -> Result<ChunkedString, OutOfMemory>
-    ensures { IfOk result (λ t. chunks t ≡ chunks_of_runs (kind_in kept) runs.now) }
+    ensures { IfOk result (λ t. chunks t ≡ chunks_of_runs (kind_in kept) runs.items) }
 {
+    // Most texts are one run.
+    if runs.len() == 1 {
+        return last_chunk(alloc, kept, runs.pop());
+    }
     let mut text = ChunkedString::new(alloc);
-    'runs: for run in runs {
+    'runs: for run in &runs {
         text.push_str(run.text.as_str(), kind_in(kept, run.kind))?;
     }
     Ok(text)
 }
 
 /// The characters of runs alone.
-pub(crate) fn plain_of(alloc: Global, runs: &[Run]) -> Result<String, OutOfMemory>
-    ensures { IfOk result (λ t. string_bytes t ≡ flat_map run_text runs.now) }
+pub(crate) fn plain_of(alloc: Global, mut runs: Vec<Run>) -> Result<String, OutOfMemory>
+    ensures { IfOk result (λ t. string_bytes t ≡ flat_map run_text runs.items) }
 {
+    // Most texts are one run.
+    if runs.len() == 1 {
+        return Ok(last_text(alloc, runs.pop()));
+    }
     let mut text = String::new(alloc);
-    'runs: for run in runs {
+    'runs: for run in &runs {
         text.push_str(run.text.as_str())?;
     }
     Ok(text)
+}
+
+// The characters of a run, if there is one.
+fn last_text(alloc: Global, run: Option<Run>) -> String
+    ensures { string_bytes result ≡ flat_map run_text (option_to_list run) }
+{
+    match run {
+        Some(Run { kind: _, text }) => text,
+        None => String::new(alloc),
+    }
 }
 
 /// A text, unless it has no chunk.
@@ -98,7 +129,7 @@ pub fn read_title(alloc: Global, text: &str) -> Result<Reading<ChunkedString>, O
     ensures unknown { IfOk result (λ r. map string_bytes r.unknown.items ≡ unknown_in text.now) }
 {
     let read = read_text(alloc, text)?;
-    let chunks = chunks_of(alloc, Kept::All, read.runs.as_slice())?;
+    let chunks = chunks_of(alloc, Kept::All, read.runs)?;
     Ok(Reading {
         value: unless_empty(chunks),
         unknown: read.unknown,
@@ -112,7 +143,7 @@ pub fn read_formatted(alloc: Global, text: &str) -> Result<Reading<ChunkedString
     ensures unknown { IfOk result (λ r. map string_bytes r.unknown.items ≡ unknown_in text.now) }
 {
     let read = read_text(alloc, text)?;
-    let chunks = chunks_of(alloc, Kept::NoVerbatim, read.runs.as_slice())?;
+    let chunks = chunks_of(alloc, Kept::NoVerbatim, read.runs)?;
     Ok(Reading {
         value: unless_empty(chunks),
         unknown: read.unknown,
@@ -126,7 +157,7 @@ pub fn read_plain(alloc: Global, text: &str) -> Result<Reading<String>, OutOfMem
     ensures unknown { IfOk result (λ r. map string_bytes r.unknown.items ≡ unknown_in text.now) }
 {
     let read = read_text(alloc, text)?;
-    let plain = plain_of(alloc, read.runs.as_slice())?;
+    let plain = plain_of(alloc, read.runs)?;
     Ok(Reading {
         value: unless_empty_text(plain),
         unknown: read.unknown,

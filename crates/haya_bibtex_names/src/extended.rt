@@ -1,7 +1,8 @@
 //! The parts of a name that are written behind their names.
 ghost use Rattle.std.specs.Prelude.{◌≡◌, ◌++◌, IfOk, OnOk, map, string_bytes};
 ghost use Rattle.std.specs.List.{list_all};
-ghost use Rattle.haya_bibtex_names.specs.Extended.{extended_texts, first_value, is_labelled};
+ghost use Rattle.haya_bibtex_names.specs.Extended.{extended_texts, first_value, is_extended};
+ghost use Rattle.haya_bibtex_names.specs.Extended.{is_labelled};
 ghost use Rattle.haya_bibtex_names.specs.Extended.{is_odd, label, odd_labels, parts, trim, value};
 ghost use Rattle.haya_bibtex_names.specs.Extended.{without_quotes};
 ghost use Rattle.haya_bibtex_names.specs.NameViews.{name_view};
@@ -24,8 +25,19 @@ pub(crate) fn parts<'a>(
     text.split(|x| is_sign(',', x)).collect(alloc)
 }
 
-/// Whether each part has a sign `=` behind a single word.
-pub(crate) fn is_extended(alloc: Global, parts: &[&[(char, Kind)]]) -> Result<bool, AllocError>
+/// Whether each part of a name has a sign `=` behind a single word.
+pub(crate) fn is_extended(alloc: Global, text: &[(char, Kind)]) -> Result<bool, AllocError>
+    ensures { IfOk result (λ b. b ≡ is_extended text.now) }
+{
+    // Most names have no such sign.
+    let Some(_) = sides('=', text) else {
+        return Ok(false);
+    };
+    let parts = parts(alloc, text)?;
+    are_labelled(alloc, parts.as_slice())
+}
+
+fn are_labelled(alloc: Global, parts: &[&[(char, Kind)]]) -> Result<bool, AllocError>
     ensures { IfOk result (λ b. b ≡ list_all is_labelled (texts parts.now)) }
 {
     'parts: for part in parts {

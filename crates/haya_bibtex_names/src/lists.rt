@@ -12,7 +12,7 @@ ghost use Rattle.haya_people.specs.Person.{person_view};
 ghost use Rattle.haya_people.specs.Reading.{text_if_any};
 
 use crate::extended::{extended_texts, is_extended, parts, push_odd};
-use crate::parts::without_gap;
+use crate::parts::{room_for, without_gap};
 use crate::plain::{NameTexts, plain_texts};
 use crate::words::{is_and, is_others, words_of};
 use haya_latex::{Kind, Names, read_names};
@@ -95,8 +95,8 @@ fn push_name(
     }
     let text = with_blanks(alloc, words)?;
     let text = without_gap(text.as_slice());
-    let parts = parts(alloc, text)?;
-    let name = if is_extended(alloc, parts.as_slice())? {
+    let name = if is_extended(alloc, text)? {
+        let parts = parts(alloc, text)?;
         push_odd(alloc, parts.as_slice(), odd_words)?;
         extended_texts(alloc, parts.as_slice())?
     } else {
@@ -122,7 +122,7 @@ fn is_only_others(words: &[&[(char, Kind)]]) -> bool
 fn with_blanks(alloc: Global, words: &[&[(char, Kind)]]) -> Result<Vec<(char, Kind)>, AllocError>
     ensures { IfOk result (λ v. v.items ≡ with_blanks (texts words.now)) }
 {
-    let mut text = Vec::new(alloc);
+    let mut text = Vec::with_capacity(alloc, room_for(words))?;
     'words: for word in words {
         text.push((' ', Kind::Free))?;
         text.extend_from_slice(word)?;

@@ -1,15 +1,25 @@
 //! Texts between signs, and the texts of words.
-ghost use Rattle.std.specs.Prelude.{◌≡◌, ◌++◌, ◌<◌, ◌≤◌, map, encode_utf8_all, length};
-ghost use Rattle.std.specs.Prelude.{string_bytes, IfOk, IfSome, OnOk, option_map};
+ghost use Rattle.std.specs.Prelude.{◌≡◌, ◌∷◌, ◌++◌, ◌<◌, ◌≤◌, ℕ, List, map, length};
+ghost use Rattle.std.specs.Prelude.{encode_utf8_all, string_bytes, IfOk, IfSome, OnOk, option_map};
 ghost use Rattle.std.specs.List.{position, prefix_len};
-ghost use Rattle.haya_bibtex_names.specs.Parts.{is_blank, sides, single_blanks, without_end};
-ghost use Rattle.haya_bibtex_names.specs.Parts.{word_chars, words_text};
+ghost use Rattle.haya_bibtex_names.specs.Parts.{is_blank, sides, single_blanks_in, without_end};
+ghost use Rattle.haya_bibtex_names.specs.Parts.{words_text};
 ghost use Rattle.haya_bibtex_names.specs.Signs.{is_gap, is_sign, is_white};
 ghost use Rattle.haya_bibtex_names.specs.Words.{texts};
 
 use crate::signs::{is_gap, is_sign, is_white};
 use haya_latex::Kind;
 use std::alloc::{AllocError, Global};
+
+// A text that is written with a blank for blanks side by side, and none at its ends.
+#[derive(Drop)]
+struct Spaced {
+    text: String,
+    // Whether it has a character.
+    started: bool,
+    // Whether a blank was given behind its last one.
+    gap: bool,
+}
 
 /// What is before the first such sign that nothing protects, and what is behind it.
 pub(crate) fn sides<'a>(
@@ -65,29 +75,37 @@ pub(crate) fn without_gap(text: &[(char, Kind)]) -> &[(char, Kind)]
 pub(crate) fn words_text(alloc: Global, words: &[&[(char, Kind)]]) -> Result<String, AllocError>
     ensures { IfOk result (λ s. string_bytes s ≡ words_text (texts words.now)) }
 {
-    let chars = word_chars(alloc, words)?;
-    single_blanks(alloc, chars.as_slice())
-}
-
-// The characters of words, with a blank in front of each word.
-fn word_chars(alloc: Global, words: &[&[(char, Kind)]]) -> Result<Vec<char>, AllocError>
-    ensures { IfOk result (λ v. v.items ≡ word_chars (texts words.now)) }
-{
-    let mut chars = Vec::new(alloc);
+    let mut spaced = Spaced {
+        text: String::with_capacity(alloc, room_for(words))?,
+        started: false,
+        gap: false,
+    };
     'words: for word in words {
-        chars.push(' ')?;
-        push_chars(&mut chars, word)?;
+        push_single(&mut spaced, ' ')?;
+        push_word(&mut spaced, word)?;
     }
-    Ok(chars)
+    Ok(spaced.text)
 }
 
-// Puts the characters of a word behind others.
-fn push_chars(chars: &mut Vec<char>, word: &[(char, Kind)]) -> Result<(), AllocError>
-    ensures { OnOk result (chars.new.items ≡ chars.old.items ++ map (λ x. x.0) word.now) }
+/// How many characters words have, with a blank for each.
+pub(crate) fn room_for(words: &[&[(char, Kind)]]) -> usize {
+    let mut room: usize = 0;
+    'words: for word in words {
+        room = room.saturating_add(word.len()).saturating_add(1);
+    }
+    room
+}
+
+// Writes the characters of a word behind others.
+fn push_word(spaced: &mut Spaced, word: &[(char, Kind)]) -> Result<(), AllocError>
+    ensures { OnOk result ((rest : List ℕ) →
+        string_bytes spaced.new.text ++ encode_utf8_all
+        (single_blanks_in spaced.new.started spaced.new.gap rest)
+        ≡ string_bytes spaced.old.text ++ encode_utf8_all
+        (single_blanks_in spaced.old.started spaced.old.gap (map (λ x. x.0) word.now ++ rest))) }
 {
-    chars.reserve(word.len())?;
     'chars: for (c, _) in word {
-        chars.push(*c)?;
+        push_single(spaced, *c)?;
     }
     Ok(())
 }
@@ -99,24 +117,23 @@ fn is_blank(c: char) -> bool
     c == ' ' || c == '\u{a0}'
 }
 
-// The text of characters, with a blank for blanks side by side and none at the ends.
-fn single_blanks(alloc: Global, chars: &[char]) -> Result<String, AllocError>
-    ensures { IfOk result (λ s. string_bytes s ≡ encode_utf8_all (single_blanks chars.now)) }
+// Writes a character behind others, whatever the rest is.
+fn push_single(spaced: &mut Spaced, c: char) -> Result<(), AllocError>
+    ensures { OnOk result ((rest : List ℕ) →
+        string_bytes spaced.new.text ++ encode_utf8_all
+        (single_blanks_in spaced.new.started spaced.new.gap rest)
+        ≡ string_bytes spaced.old.text ++ encode_utf8_all
+        (single_blanks_in spaced.old.started spaced.old.gap (c ∷ rest))) }
 {
-    let mut text = String::with_capacity(alloc, chars.len())?;
-    let mut started = false;
-    let mut gap = false;
-    'chars: for c in chars {
-        if is_blank(*c) {
-            gap = true;
-        } else {
-            if started && gap {
-                text.push(' ')?;
-            }
-            text.push(*c)?;
-            started = true;
-            gap = false;
-        }
+    if is_blank(c) {
+        spaced.gap = true;
+        return Ok(());
     }
-    Ok(text)
+    if spaced.started && spaced.gap {
+        spaced.text.push(' ')?;
+    }
+    spaced.text.push(c)?;
+    spaced.started = true;
+    spaced.gap = false;
+    Ok(())
 }

@@ -9,6 +9,7 @@ pub mod UsesLeft
 pub mod Characters
 pub mod Lookups
 pub mod Keeping
+pub mod Distinct
 pub mod Shorter
 pub mod Reading
 pub mod SomeOutcome

@@ -85,7 +85,10 @@ fn is_mark(c: char) -> bool
 fn in_name(c: char) -> bool
     ensures { result ≡ in_name c }
 {
-    !is_mark(c) && !is_white(c)
+    match c {
+        'a'..='z' => true,
+        _ => !is_mark(c) && !is_white(c),
+    }
 }
 
 #[tactic(auto, unfolding(crate::specs::Classes::in_key))]

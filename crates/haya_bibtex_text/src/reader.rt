@@ -45,11 +45,25 @@ fn read_characters(alloc: Global, text: &[char]) -> Result<Bibliography, ReadErr
     }
 }
 
+// Bytes as characters.
+fn bytes_as_characters(alloc: Global, text: &[u8]) -> Result<Vec<char>, AllocError>
+    ensures { IfOk result (λ v. v.items ≡ text.now) }
+{
+    text.iter().map(|byte| char::from(*byte)).collect(alloc)
+}
+
 // The characters of a text.
 fn characters_of(alloc: Global, text: &str) -> Result<Vec<char>, AllocError>
     ensures { IfOk result (λ v. v.items ≡ chars text.now) }
 {
-    text.chars().collect(alloc)
+    if text.is_ascii() {
+        return bytes_as_characters(alloc, text.as_bytes());
+    }
+    let mut list = Vec::with_capacity(alloc, text.len())?;
+    'chars: for c in text.chars() {
+        list.push(c)?;
+    }
+    Ok(list)
 }
 
 /// The entries of a text in the format of `.bib` files, and what is passed over in it: exactly what

@@ -19,7 +19,7 @@ use crate::entry::{Field, PassedOver};
 use crate::fault::{FaultKind, Stop, stop_at};
 use crate::fields::WrittenField;
 use crate::pieces::Piece;
-use crate::texts::{lowercase, push_characters};
+use crate::texts::{lowercase, push_characters, text_of};
 use std::alloc::{AllocError, Global};
 
 // Adds a text to another.
@@ -112,6 +112,10 @@ pub(crate) fn value_text(
     ensures room { Spends room.old
         (value_uses (strings_view strings.now) (map piece_view value.now)) room.new result }
 {
+    // Most values are one text.
+    if let [Piece::Text(characters)] = value {
+        return Ok(text_of(alloc, characters)?);
+    }
     let mut text = String::new(alloc);
     'pieces: for piece in value {
         match push_piece(alloc, strings, piece, &mut text, room, passed_over) {

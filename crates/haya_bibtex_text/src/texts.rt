@@ -21,7 +21,7 @@ pub(crate) fn push_characters(text: &mut String, characters: &[char]) -> Result<
 pub(crate) fn text_of(alloc: Global, characters: &[char]) -> Result<String, AllocError>
     ensures { IfOk result (λ t. chars (string_bytes t) ≡ characters.now) }
 {
-    let mut text = String::new(alloc);
+    let mut text = String::with_capacity(alloc, characters.len())?;
     push_characters(&mut text, characters)?;
     Ok(text)
 }

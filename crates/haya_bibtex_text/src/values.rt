@@ -31,7 +31,8 @@ pub(crate) fn read_value<'a>(
     ensures fault { IfErr result (StopsBy (FailsValue entry text.now)) }
     ensures shorter { IfOk result (λ v. length v.1.now < length text.now) }
 {
-    let mut pieces = Vec::new(alloc);
+    // Most values have one piece.
+    let mut pieces = Vec::with_capacity(alloc, 1)?;
     let mut left = text;
     'pieces: loop {
         let (piece, behind) = match read_piece(entry, left) {

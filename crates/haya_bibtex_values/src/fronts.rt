@@ -77,14 +77,18 @@ pub(crate) fn begins_letter(text: &[char]) -> bool
 pub(crate) fn chars_of(alloc: Global, text: &str) -> Result<Vec<char>, AllocError>
     ensures { IfOk result (λ v. v.items ≡ chars text.now) }
 {
-    text.chars().collect(alloc)
+    let mut list = Vec::with_capacity(alloc, text.len())?;
+    'chars: for c in text.chars() {
+        list.push(c)?;
+    }
+    Ok(list)
 }
 
 /// Characters as a text.
 pub(crate) fn string_of(alloc: Global, chars: &[char]) -> Result<String, AllocError>
     ensures { IfOk result (λ s. string_bytes s ≡ encode_utf8_all chars.now) }
 {
-    let mut text = String::new(alloc);
+    let mut text = String::with_capacity(alloc, chars.len())?;
     'chars: for c in chars {
         text.push(*c)?;
     }

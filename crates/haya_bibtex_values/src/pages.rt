@@ -36,7 +36,7 @@ pub fn single_hyphens(alloc: Global, text: &str) -> Result<String, AllocError>
 fn hyphens_of(alloc: Global, chars: &[char]) -> Result<String, AllocError>
     ensures { IfOk result (λ s. string_bytes s ≡ encode_utf8_all (single_hyphens chars.now)) }
 {
-    let mut text = String::new(alloc);
+    let mut text = String::with_capacity(alloc, chars.len())?;
     let mut left = chars;
     'chars: while let Some((first, rest)) = left.split_first() {
         if !is_dash(*first) {

@@ -1,6 +1,7 @@
 //! Texts that are taken as they stand.
 ghost use Rattle.std.specs.Prelude.{◌≡◌, ◌≤◌, ◌++◌, IfOk, OnOk, length, option_to_list};
-ghost use Rattle.std.specs.Prelude.{string_bytes};
+ghost use Rattle.std.specs.Prelude.{string_bytes, encode_utf8_all, true};
+ghost use Rattle.std.specs.Str.{chars, trim};
 ghost use Rattle.haya_bibtex_values.specs.Standing.{as_it_stands, backslash_at, brace_at};
 ghost use Rattle.haya_bibtex_values.specs.Standing.{dollar_at, escape_at, has_word, inner_length};
 ghost use Rattle.haya_bibtex_values.specs.Standing.{inside, inside_by, is_escaped, piece_at};
@@ -145,7 +146,7 @@ fn push_sign(chars: &mut Vec<char>, sign: Option<char>) -> Result<(), AllocError
 fn standing(alloc: Global, text: &[char]) -> Result<Vec<char>, AllocError>
     ensures { IfOk result (λ v. v.items ≡ standing text.now) }
 {
-    let mut chars = Vec::new(alloc);
+    let mut chars = Vec::with_capacity(alloc, text.len())?;
     let mut left = text;
     'pieces: while let Some((first, rest)) = left.split_first() {
         let piece = piece_at(*first, rest);
@@ -200,6 +201,20 @@ fn inside(text: &[char]) -> &[char]
     }
 }
 
+// Whether no rule is about a text: each byte is a sign of ASCII that isn't white, and none of these
+// four.
+fn is_plain(text: &str) -> bool
+    ensures { result ≡ true
+        → trim (encode_utf8_all (standing (inside (chars text.now)))) ≡ text.now }
+{
+    'bytes: for byte in text.as_bytes() {
+        if !byte.is_ascii_graphic() || matches!(*byte, b'$' | b'\\' | b'{' | b'}') {
+            return false;
+        }
+    }
+    true
+}
+
 /// The text of an address, a DOI or a date: as it stands, but for LaTeX's ways to write some signs.
 ///
 /// | Text | As it stands |
@@ -210,7 +225,11 @@ fn inside(text: &[char]) -> &[char]
 pub fn as_it_stands(alloc: Global, text: &str) -> Result<String, AllocError>
     ensures { IfOk result (λ s. string_bytes s ≡ as_it_stands text.now) }
 {
-    let chars = chars_of(alloc, text.trim())?;
+    let text = text.trim();
+    if is_plain(text) {
+        return String::from_str(alloc, text);
+    }
+    let chars = chars_of(alloc, text)?;
     let plain = standing(alloc, inside(chars.as_slice()))?;
     let text = string_of(alloc, plain.as_slice())?;
     String::from_str(alloc, text.as_str().trim())

@@ -1,8 +1,10 @@
 mod Arrays
 mod Classes
 mod Copies
+mod Depths
 mod Ending
 mod First
+mod Lanes
 mod Lines
 pub mod Listed
 pub mod PartsOf

@@ -7,13 +7,15 @@ use Rattle.haya_json_elements.specs.declared.place.Brackets.{Brackets}
 use Rattle.haya_json_elements.specs.declared.place.Mode.TheVariants.{Between, Text, Escape}
 use Rattle.haya_json_elements.specs.declared.place.Place.TheVariants.{Element}
 use Rattle.haya_slices.specs.Layout.{IsWhite, inside, within}
+use Rattle.haya_slices.specs.Sought.{is_sought}
+use Rattle.haya_slices.specs.declared.sought.Sought.TheVariants.{Mark}
 use Rattle.haya_slices.proofs.Classes.{class_tells}
 use Rattle.haya_slices.proofs.Lines.{space_class}
 use Rattle.haya_slices.proofs.Scanned.{leads_more}
 
 -- a quote or a backslash
 abbrev pub is_mark : ℕ → Bool
-is_mark x = (x == 34) || (x == 92)
+is_mark = is_sought Mark
 
 -- any other byte stays in the string
 plain : (b : Brackets) (d x : ℕ) → is_mark x ≡ false

@@ -1,3 +1,4 @@
 pub mod Coming
 pub mod Layout
 pub mod Scan
+pub mod Sought

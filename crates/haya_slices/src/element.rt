@@ -9,9 +9,9 @@ ghost use Rattle.haya_json_elements.specs.declared.place.Place.TheVariants.{Elem
 ghost use Rattle.haya_slices.specs.Layout.{IsWhite, inside, is_outside_string, within};
 ghost use Rattle.haya_slices.specs.Scan.{EndsAt};
 
+use crate::nested::{nested_len, string_len};
 use crate::white::white_len;
 use haya_json_elements::{Brackets, Mode};
-use memchr::memchr2;
 
 /// How many bytes the element at the front has, with the white space behind it: a comma or the
 /// bracket that closes is there. `None` where there is no element, or it has no end.
@@ -22,38 +22,36 @@ pub(crate) fn element_len(brackets: Brackets, bytes: &[u8]) -> Option<usize>
         return None;
     }
     let mut mode = Mode::Between;
-    let mut depth = 0u8;
     let mut at = 0;
     'bytes: while at < bytes.len() {
-        let Some((next, deep)) = passed(mode, depth, bytes[at]) else {
-            return end_at(brackets, depth, bytes, at);
+        let Some((next, depth)) = passed(mode, 0, bytes[at]) else {
+            return end_at(brackets, 0, bytes, at);
         };
         at += 1;
-        depth = deep;
-        if let Mode::Text = next {
-            let (_, string) = bytes.split_at(at);
-            at += string_len(string)?;
-            mode = Mode::Between;
-            continue;
-        }
-        if let Mode::Between = next {
-            at += white_behind(bytes, at);
-            mode = Mode::Between;
-            continue;
-        }
-        mode = next;
+        let (_, rest) = bytes.split_at(at);
+        let (len, there) = token_len(next, depth, rest)?;
+        at += len;
+        mode = there;
     }
     None
 }
 
-// How many bytes of white space are behind this place.
-fn white_behind(bytes: &[u8], at: usize) -> usize
-    requires { at ≤ length bytes.now }
-    ensures within { at + result ≤ length bytes.now }
-    ensures white { IsWhite (take result (drop at bytes.now)) }
+// How many bytes lead from a place in an element, behind a bracket of its own if one is open, to one
+// that is in none, and what a byte there is part of.
+#[inline(always)]
+fn token_len(mode: Mode, depth: u8, rest: &[u8]) -> Option<(usize, Mode)>
+    ensures within { IfSome result (λ found. found.0 ≤ length rest.now) }
+    ensures outside { IfSome result (λ found. IsTrue (is_outside_string found.1)) }
+    ensures leads { IfSome result (λ found. (b : BracketsData) → (ys : List ℕ) →
+        inside b mode depth (take found.0 rest.now ++ ys) ≡ inside b found.1 0 ys) }
 {
-    let (_, rest) = bytes.split_at(at);
-    white_len(rest)
+    match (mode, depth) {
+        (Mode::Between, 0) => Some((white_len(rest), Mode::Between)),
+        (Mode::Word, 0) => Some((0, Mode::Word)),
+        (Mode::Text, 0) => Some((string_len(rest)?, Mode::Between)),
+        (Mode::Between, 1) => Some((nested_len(rest)?, Mode::Between)),
+        _ => None,
+    }
 }
 
 // The place, if an element may end there at this depth.
@@ -126,8 +124,8 @@ fn behind_text(byte: u8) -> Mode
     }
 }
 
-// Where a byte leads in a number or a word.
-fn passed_word(depth: u8, byte: u8) -> Option<(Mode, u8)>
+/// Where a byte leads in a number or a word.
+pub(crate) fn passed_word(depth: u8, byte: u8) -> Option<(Mode, u8)>
     ensures { (b : BracketsData) → result ≡ within (step b (Element Word depth) byte).0 }
 {
     match byte {
@@ -170,25 +168,4 @@ fn separated(depth: u8) -> Option<(Mode, u8)>
     } else {
         None
     }
-}
-
-// How many bytes a string has behind its quote, with the quote that closes it.
-fn string_len(bytes: &[u8]) -> Option<usize>
-    ensures within { IfSome result (λ n. n ≤ length bytes.now) }
-    ensures closed { IfSome result (λ n. (b : BracketsData) → (d : ℕ) → (ys : List ℕ) →
-        inside b Text d (take n bytes.now ++ ys) ≡ inside b Between d ys) }
-{
-    let mut at = 0;
-    'bytes: while at < bytes.len() {
-        let (_, rest) = bytes.split_at(at);
-        let mark = memchr2(b'"', b'\\', rest)?;
-        if rest[mark] == b'"' {
-            return Some(at + mark + 1);
-        }
-        if mark + 1 == rest.len() {
-            return None;
-        }
-        at += mark + 2;
-    }
-    None
 }

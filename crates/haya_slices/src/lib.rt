@@ -8,8 +8,10 @@
 mod coming;
 mod element;
 pub mod laws;
+mod nested;
 mod printing;
 mod slices;
+mod sought;
 mod white;
 
 pub use coming::{Coming, Complete, Search};

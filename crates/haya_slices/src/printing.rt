@@ -11,7 +11,7 @@ pub fn list_text(alloc: Global, brackets: Brackets, elements: &[&str]) -> Result
     ensures { IfOk result (λ text.
         string_bytes text ≡ list_text brackets (map (λ s. s.now) elements.now)) }
 {
-    let mut text = String::new(alloc);
+    let mut text = String::with_capacity(alloc, room_for(elements))?;
     let mut is_first = true;
     'elements: for element in elements {
         push_element(&mut text, brackets, is_first, element)?;
@@ -19,6 +19,15 @@ pub fn list_text(alloc: Global, brackets: Brackets, elements: &[&str]) -> Result
     }
     push_end(&mut text, brackets, is_first)?;
     Ok(text)
+}
+
+// How many bytes a list of these elements takes, or as many as there can be.
+fn room_for(elements: &[&str]) -> usize {
+    let mut room = 3usize;
+    'elements: for element in elements {
+        room = room.saturating_add(element.len()).saturating_add(2);
+    }
+    room
 }
 
 /// Puts an element behind a text, the first of a list or a later one.

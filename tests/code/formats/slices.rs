@@ -73,6 +73,49 @@ fn lists_have_their_elements(rt: HostRuntime) {
     }
 }
 
+// Parts of an element, and what is as often behind each.
+const PARTS: &[(&str, &str)] = &[
+    ("{\"", "x"),
+    ("\\\"]}[{\\\\\":", " "),
+    ("[[{}", "\n"),
+    ("],-", "1"),
+    (",\"é", "日"),
+    ("\"]", "\t"),
+    (",\"\":null}", ""),
+];
+
+// An element whose quotes and brackets are this far apart, as many bytes are looked at together.
+fn element_of(rt: &impl Abort, alloc: Global, len: usize) -> String {
+    let mut text = String::new(alloc);
+    for (part, fill) in PARTS {
+        text.push_str(part).expect(rt, "memory is there");
+        for _ in 0..len {
+            text.push_str(fill).expect(rt, "memory is there");
+        }
+    }
+    text
+}
+
+#[test]
+fn elements_end_wherever_their_brackets_are(rt: HostRuntime) {
+    for len in 1..70 {
+        let element = element_of(&rt, rt.alloc(), len);
+        let mut text = String::new(rt.alloc());
+        for part in ["[", element.as_str(), " ,\n", element.as_str(), "]"] {
+            text.push_str(part).expect(&rt, "memory is there");
+        }
+        let found = element_slices(rt.alloc(), Brackets::Square, text.as_str()).expect(
+            &rt,
+            "memory is there",
+        );
+        let elements = found.expect(&rt, "the text is a list");
+        assert!(rt; elements.len() == 2);
+        for it in elements.as_slice() {
+            assert_eq!(rt; *it, element.as_str());
+        }
+    }
+}
+
 #[test]
 fn what_is_no_list_has_none(rt: HostRuntime) {
     for text in ["", "1", "[", "[1", "[1,", "[,]", "{}", "[1] 2", "[\"]"] {

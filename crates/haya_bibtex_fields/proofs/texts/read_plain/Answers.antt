@@ -9,5 +9,5 @@ pub returns-clause-value : goal.returns-clause-value
 returns-clause-value c =
     let cs = text_chars (chars c.args.text.now) in
     let read : string_bytes c.in_ok-plain.plain ≡ flat_map run_text c.in_ok-read.read.runs.items =
-    rw c.as_slice.ensures.value at c.in_ok-plain.ensures in
+    c.in_ok-plain.ensures in
     c.unless_empty_text.ensures ∙ ap unless_empty (read ∙ runs_as_plain c.in_ok-read.read.runs.items cs c.in_ok-read.ensures.bytes)

@@ -10,6 +10,6 @@ pub returns-clause-value : goal.returns-clause-value
 returns-clause-value c =
     let cs = text_chars (chars c.args.text.now) in
     let read : chunks c.in_ok-chunks.chunks ≡ chunks_of_runs title_kind c.in_ok-read.read.runs.items =
-    rw c.as_slice.ensures.value at c.in_ok-chunks.ensures in
+    c.in_ok-chunks.ensures in
     c.unless_empty.ensures
     ∙ ap unless_empty (read ∙ runs_as_characters title_kind c.in_ok-read.read.runs.items cs c.in_ok-read.ensures.bytes c.in_ok-read.ensures.texts)

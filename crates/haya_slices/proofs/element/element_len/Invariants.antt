@@ -11,7 +11,7 @@ invariant-bytes l =
       outside : IsTrue (is_outside_string l.mode);
       leads : (ys : List ℕ) →
           inside l.brackets Between 0 (take l.at l.bytes ++ ys)
-          ≡ inside l.brackets l.mode l.depth ys;
+          ≡ inside l.brackets l.mode 0 ys;
     }
 
 abbrev pub decreases-bytes : goal.decreases-bytes

@@ -2,7 +2,7 @@ use Rattle.std.proofs.Common.{◌≡◌, ◌++◌, ◌-◌, ◌≤◌, ℕ, List
 use Rattle.haya_json_elements.specs.declared.place.Brackets.{Brackets}
 use Rattle.haya_json_elements.specs.declared.place.Mode.TheVariants.{Text}
 use Rattle.haya_slices.specs.Layout.{inside}
-use Rattle.haya_slices.proofs.element.string_len.Given as goal
+use Rattle.haya_slices.proofs.nested.string_len.Given as goal
 
 abbrev pub invariant-bytes : goal.invariant-bytes
 invariant-bytes l =
