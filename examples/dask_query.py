@@ -13,6 +13,7 @@ import json
 import logging
 import os
 import re
+import shutil
 import subprocess
 import sys
 import tempfile
@@ -23,6 +24,7 @@ try:
     import fsspec
     from dask.distributed import Client, LocalCluster
     from dask.utils import parse_bytes
+    from fsspec.implementations.local import LocalFileSystem
     from fsspec.utils import seek_delimiter
 except ImportError as lacking:
     print(f"haya: {lacking}: Dask is Debian's python3-distributed", file=sys.stderr)
@@ -71,20 +73,43 @@ def next_entry(file, place, entry):
     return file.tell() - (len(entry) - 1 if is_found else 0)
 
 
-def text_of(part, entry):
-    """A part's whole lines, piece by piece: those of all parts of a file, joined, are the file."""
+def copy_part(part, entry, text):
+    """Puts a part's whole lines into this file: those of all parts of a file, joined, are the file. Of one of this machine the system copies them."""
     with part.system.open(part.path, "rb") as file:
         start, end = next_entry(file, part.start, entry), next_entry(file, part.end, entry)
+        if isinstance(part.system, LocalFileSystem) and hasattr(os, "sendfile"):
+            while start < end and (copied := os.sendfile(text.fileno(), file.fileno(), start, end - start)):
+                start += copied
+        else:
+            file.seek(start)
+            shutil.copyfileobj(Limited(file, end - start), text, PIECE)
+
+
+class Limited:
+    """The next bytes of a file, so many at most."""
+
+    def __init__(self, file, left):
+        self.file, self.left = file, left
+
+    def read(self, size):
+        piece = self.file.read(min(self.left, size))
+        self.left -= len(piece)
+        return piece
+
+
+def line_feeds(part, entry, start):
+    """How many line feeds the file of a part has from this place up to where the part's first entry begins, and that place."""
+    with part.system.open(part.path, "rb") as file:
+        end = next_entry(file, part.start, entry)
         file.seek(start)
-        while piece := file.read(min(end - start, PIECE)):
-            start += len(piece)
-            yield piece
+        text = Limited(file, end - start)
+        return sum(piece.count(b"\n") for piece in iter(lambda: text.read(PIECE), b"")), end
 
 
 # ---- what a worker does
 
-# What `haya` answers to a text: its status, what it printed and said, and how many line feeds the text has.
-Answer = collections.namedtuple("Answer", "status out said lines")
+# What `haya` answers to a text: its status, and what it printed and said.
+Answer = collections.namedtuple("Answer", "status out said")
 
 
 def new_file():
@@ -92,23 +117,26 @@ def new_file():
     return os.fdopen(os.memfd_create("part"), "w+b") if hasattr(os, "memfd_create") else tempfile.TemporaryFile()
 
 
-def run(command, pieces=()):
-    """Runs `haya` over a text in pieces. Where it is killed there is no answer, and Dask tries the call again."""
-    lines = 0
+def run(command, write=None):
+    """Runs `haya` over a text that is written into a file. Where it is killed there is no answer, and Dask tries the call again."""
     with new_file() as text:
-        for piece in pieces:
-            text.write(piece)
-            lines += piece.count(b"\n")
+        if write:
+            write(text)
         text.seek(0)
         ran = subprocess.run(command, stdin=text, capture_output=True, check=False)
     if ran.returncode not in (0, 1, 2):
         raise ChildProcessError(f"{command[0]} ended with status {ran.returncode}: {ran.stderr.decode(errors='replace')}")
-    return Answer(ran.returncode, ran.stdout, ran.stderr, lines)
+    return Answer(ran.returncode, ran.stdout, ran.stderr)
+
+
+def run_over(command, pieces):
+    """Runs `haya` over a text in pieces."""
+    return run(command, lambda text: text.writelines(pieces))
 
 
 def ask(part, entry, command):
     """What a part answers."""
-    return run(command, text_of(part, entry))
+    return run(command, lambda text: copy_part(part, entry, text))
 
 
 def sort(part, entry, pick, order):
@@ -116,8 +144,8 @@ def sort(part, entry, pick, order):
     picked = ask(part, entry, pick)
     if picked.status == 2:
         return picked
-    ordered = of_hits(run(order, [picked.out]))
-    return ordered._replace(said=picked.said + ordered.said, lines=picked.lines)
+    ordered = of_hits(run_over(order, [picked.out]))
+    return ordered._replace(said=picked.said + ordered.said)
 
 
 def of_hits(answer):
@@ -142,7 +170,7 @@ def sample(answer, distance):
 
 def choose_marks(order, size, *samples):
     """Of the samples of all parts, in order, those that separate all hits into ranges of about so many bytes."""
-    chosen = run(order, (hits for _, hits in samples)).out.splitlines()
+    chosen = run_over(order, (hits for _, hits in samples)).out.splitlines()
     number = min(sum(length for length, _ in samples) // size, len(chosen))
     marks = [json.loads(chosen[len(chosen) * at // (number + 1)]) for at in range(1, number + 1)]
     return [json.dumps(mark | {"key": mark["key"] + "\0"}).encode() + b"\n" for mark in marks]
@@ -154,8 +182,8 @@ def cut(answer, marks, order):
     A mark is a hit with a key that no entry has. It is read first, so in every part it comes before the hits that it ties with.
     """
     hits, marks = answer.out.splitlines(keepends=True), b"".join(marks)
-    marked = set(keys_in(run(order, [marks]).out))
-    ordered = keys_in(run(order, [marks, answer.out]).out)
+    marked = set(keys_in(run_over(order, [marks]).out))
+    ordered = keys_in(run_over(order, [marks, answer.out]).out)
     if len(ordered) != len(hits) + len(marked):
         raise ValueError("the hits of a part can't be cut: one has the key of a mark")
     pieces, rest = [[]], iter(hits)
@@ -174,7 +202,7 @@ def keys_in(hits):
 
 def merge(command, *pieces):
     """What `haya` prints of sorted pieces in the order of their parts: of hits that tie, the earlier comes first."""
-    return of_hits(run(command, pieces))
+    return of_hits(run_over(command, pieces))
 
 
 def keys_of(part, entry, command, number):
@@ -202,19 +230,27 @@ def item(lists, at):
 # ---- what is said
 
 class Messages:
-    """Tells what `haya` says of the parts, which come in order, as it would say it of the files."""
+    """Tells what `haya` says of the parts, which come in order, as it would say it of the files. `entry` is how an entry begins."""
 
-    def __init__(self):
-        self.told, self.passed_over, self.lines = set(), {}, 0
+    def __init__(self, entry):
+        self.entry, self.told, self.passed_over = entry, set(), {}
+        # Up to this place of this file there are so many line feeds. They are counted where a line is told.
+        self.file, self.place, self.lines = None, 0, 0
+
+    def lines_before(self, part):
+        """How many lines of its file come before a part."""
+        if (part.system, part.path) != self.file:
+            self.file, self.place, self.lines = (part.system, part.path), 0, 0
+        more, self.place = line_feeds(part, self.entry, self.place)
+        self.lines += more
+        return self.lines
 
     def take(self, part, answer):
         """Tells what is said of a part, each line once: the line of a fault is that of the file, and a fault comes last."""
-        if part and part.start == 0:
-            self.lines = 0
         said = answer.said.decode(errors="replace").split("\n")[:-1]
         for at, line in enumerate(said):
             if part:
-                line = re.sub(r"^haya: standard input: line (\d+)", lambda it: f"haya: {part.name}: line {int(it[1]) + self.lines}", line)
+                line = re.sub(r"^haya: standard input: line (\d+)", lambda it: f"haya: {part.name}: line {int(it[1]) + self.lines_before(part)}", line)
                 line = re.sub(r"^haya: standard input:", lambda _: f"haya: {part.name}:", line)
             counts = re.fullmatch(r"(.*): passed over: (.* \(\d+\))", line)
             if answer.status == 2 and at == len(said) - 1:
@@ -224,7 +260,6 @@ class Messages:
             elif line not in self.told:
                 self.told.add(line)
                 print(line, file=sys.stderr)
-        self.lines += answer.lines
 
     def count(self, file, names):
         counts = self.passed_over.setdefault(file, collections.Counter())
@@ -247,7 +282,7 @@ class Library:
         self.parts = list(parts_of(words.file, words.part))
         self.entry = ENTRY[words.format]
         self.ahead = 4 * max(1, sum(client.ncores().values()))
-        self.messages = Messages()
+        self.messages = Messages(self.entry)
 
     def haya(self, form, *options):
         return [self.words.haya, "--from", form, *options, *self.words.select, "--", self.words.selector]

@@ -1,5 +1,5 @@
 //! Dates in extended date format.
-ghost use Rattle.std.specs.Prelude.{◌≡◌, ◌≤◌, ◌<◌, IfOk, IfSome, length, option_map};
+ghost use Rattle.std.specs.Prelude.{◌≡◌, ◌≤◌, ◌<◌, IfOk, IfSome, length, option_map, take};
 ghost use Rattle.std.specs.List.{position};
 ghost use Rattle.std.specs.Str.{chars};
 ghost use Rattle.haya_bibtex_dates.specs.Forms.{behind_month, behind_year, date_before, date_in};
@@ -199,6 +199,26 @@ pub(crate) fn date_in(text: &[char]) -> Option<Date>
     }
 }
 
+// How many characters of a text are read without a list of them in memory.
+const ROOM: usize = 32;
+
+// Writes the characters of a text to the front of `room`, if they are no more, and returns how many
+// there are.
+fn write_chars(room: &mut [char], text: &str) -> Option<usize>
+    ensures chars { IfSome result (λ n. take n room.new ≡ chars text.now) }
+    ensures within { IfSome result (λ n. n ≤ length room.new) }
+{
+    let mut count = 0;
+    'chars: for c in text.chars() {
+        if count == room.len() {
+            return None;
+        }
+        room[count] = c;
+        count += 1;
+    }
+    Some(count)
+}
+
 /// The characters of a text.
 pub(crate) fn chars_of(alloc: Global, text: &str) -> Result<Vec<char>, AllocError>
     ensures { IfOk result (λ v. v.items ≡ chars text.now) }
@@ -224,6 +244,10 @@ pub(crate) fn chars_of(alloc: Global, text: &str) -> Result<Vec<char>, AllocErro
 pub fn read_date(alloc: Global, text: &str) -> Result<Option<Date>, AllocError>
     ensures { IfOk result (λ date. date ≡ date_in (chars text.now)) }
 {
+    let mut room = ['\0'; ROOM];
+    if let Some(count) = write_chars(&mut room, text) {
+        return Ok(date_in(&room[..count]));
+    }
     let chars = chars_of(alloc, text)?;
     Ok(date_in(chars.as_slice()))
 }

@@ -6,8 +6,7 @@ ghost use Rattle.haya_bibtex_entries.specs.Containers.{has_title, is_book, is_pe
 ghost use Rattle.haya_bibtex_inherited.specs.Views.{fields_view};
 
 use crate::kinds::{Kind, Takes};
-use crate::texts::has_field;
-use haya_bibtex_inherited::FieldRef;
+use crate::texts::{Fields, has_field};
 use haya_entry::EntryType;
 
 /// Where the titles of journals and books go.
@@ -23,7 +22,7 @@ pub(crate) enum Container {
     Nothing,
 }
 
-fn has_journal(fields: &[FieldRef<'_>]) -> bool
+fn has_journal(fields: &Fields<'_>) -> bool
     ensures { result ≡ has_journal (fields_view fields.now) }
 {
     has_field(fields, "journaltitle")
@@ -32,7 +31,7 @@ fn has_journal(fields: &[FieldRef<'_>]) -> bool
         || has_field(fields, "journaltitleaddon")
 }
 
-fn has_book(fields: &[FieldRef<'_>]) -> bool
+fn has_book(fields: &Fields<'_>) -> bool
     ensures { result ≡ has_book (fields_view fields.now) }
 {
     has_field(fields, "booktitle")
@@ -40,7 +39,7 @@ fn has_book(fields: &[FieldRef<'_>]) -> bool
         || has_field(fields, "booktitleaddon")
 }
 
-fn has_title(fields: &[FieldRef<'_>]) -> bool
+fn has_title(fields: &Fields<'_>) -> bool
     ensures { result ≡ has_title (fields_view fields.now) }
 {
     has_field(fields, "title") || has_field(fields, "subtitle") || has_field(fields, "titleaddon")
@@ -58,7 +57,7 @@ fn is_book(takes: Takes) -> bool
 
 // The title that a host has: the one that is usual for it, or the other one where that alone is
 // there.
-fn container_of_host(takes: Takes, fields: &[FieldRef<'_>]) -> Container
+fn container_of_host(takes: Takes, fields: &Fields<'_>) -> Container
     ensures { result ≡ container_of_host takes (fields_view fields.now) }
 {
     if is_book(takes) {
@@ -85,7 +84,7 @@ fn is_periodical(entry: EntryType) -> bool
 
 /// Where the titles of journals and books go that an entry of this kind names: one of them is the
 /// host's, and a periodical without a title has the journal's.
-pub(crate) fn container_of(kind: Kind, fields: &[FieldRef<'_>]) -> Container
+pub(crate) fn container_of(kind: Kind, fields: &Fields<'_>) -> Container
     ensures { result ≡ container_of kind (fields_view fields.now) }
 {
     match kind.host {

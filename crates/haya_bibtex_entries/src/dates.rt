@@ -1,5 +1,6 @@
 //! The table of dates and addresses.
 ghost use Rattle.std.specs.Prelude.{◌≡◌, ◌++◌, IfOk, OnOk, codes, option_map, map, string_bytes};
+ghost use Rattle.std.specs.Option.{option_or};
 ghost use Rattle.std.specs.Str.{chars};
 ghost use Rattle.haya_bibtex_dates.specs.DateViews.{date_view, text_chars, texts_view};
 ghost use Rattle.haya_bibtex_dates.specs.Entries.{date_of};
@@ -22,12 +23,11 @@ use crate::kinds::Kind;
 use crate::publishers::published_at;
 use crate::rows::{commands, push_names};
 use crate::serials::eprint_of;
-use crate::texts::{has_field, text_of};
+use crate::texts::{Fields, has_field, text_of};
 use crate::values::Value;
 use haya_bibtex_dates::{DateTexts, EntryDate, entry_date, read_date};
 use haya_bibtex_fields::{Eprint, Reading, read_plain, read_standing};
-use haya_bibtex_inherited::FieldRef;
-use haya_bibtex_values::as_it_stands;
+use haya_bibtex_values::{as_it_stands, stands_as_it_is};
 use haya_text::OutOfMemory;
 use haya_time::Date;
 use haya_values::QualifiedUrl;
@@ -42,6 +42,23 @@ fn standing_text(alloc: Global, text: Option<&str>) -> Result<Option<String>, Ou
 {
     match text {
         Some(text) => Ok(Some(as_it_stands(alloc, text)?)),
+        None => Ok(None),
+    }
+}
+
+// The same of a text that doesn't stand as it is.
+fn other_text(alloc: Global, text: Option<&str>) -> Result<Option<String>, OutOfMemory>
+    ensures { IfOk result (λ s. option_map as_it_stands (option_map (λ t. t.now) text.entry)
+        ≡ option_or (option_map string_bytes s) (option_map (λ t. t.now) text.entry)) }
+{
+    match text {
+        Some(text) => {
+            if stands_as_it_is(text) {
+                Ok(None)
+            } else {
+                Ok(Some(as_it_stands(alloc, text)?))
+            }
+        }
         None => Ok(None),
     }
 }
@@ -81,6 +98,21 @@ fn lent(text: &Option<String>) -> Option<&str>
     }
 }
 
+// A text that is lent, where it isn't the text that it is made of.
+fn lent_or<'a>(other: &'a Option<String>, text: Option<&'a str>) -> Option<&'a str>
+    ensures { text_chars result
+        ≡ option_map chars (option_or (option_map string_bytes other.now)
+        (option_map (λ t. t.now) text.entry)) }
+{
+    match other {
+        Some(other) => Some(other.as_str()),
+        None => match text {
+            Some(text) => Some(text),
+            None => None,
+        },
+    }
+}
+
 // The texts of a year.
 fn both<'a>(standing: &'a Option<String>, plain: &'a Option<String>) -> Option<(&'a str, &'a str)>
     ensures { option_map (λ p. (chars p.0.now, chars p.1.now)) result
@@ -102,7 +134,7 @@ struct DayTexts {
     unknown: Vec<String>,
 }
 
-fn day_texts(alloc: Global, fields: &[FieldRef<'_>]) -> Result<DayTexts, OutOfMemory>
+fn day_texts(alloc: Global, fields: &Fields<'_>) -> Result<DayTexts, OutOfMemory>
     ensures year { IfOk result (λ d. option_map string_bytes d.year
         ≡ option_map plain_text (text_of (fields_view fields.now) (codes "year"))) }
     ensures month { IfOk result (λ d. option_map string_bytes d.month
@@ -128,17 +160,19 @@ fn day_texts(alloc: Global, fields: &[FieldRef<'_>]) -> Result<DayTexts, OutOfMe
 
 // The texts of a date that are lent.
 fn lent_texts<'a>(
-    date: &'a Option<String>,
+    date: Option<&'a str>,
+    other: &'a Option<String>,
     year: &'a Option<String>,
     texts: &'a DayTexts,
 ) -> DateTexts<'a>
     ensures { texts_view result
-        ≡ texts_by (option_map string_bytes date.now) (option_map string_bytes year.now)
+        ≡ texts_by (option_or (option_map string_bytes other.now)
+        (option_map (λ t. t.now) date.entry)) (option_map string_bytes year.now)
         (option_map string_bytes texts.now.year) (option_map string_bytes texts.now.month)
         (option_map string_bytes texts.now.day) }
 {
     DateTexts {
-        date: lent(date),
+        date: lent_or(other, date),
         year: both(year, &texts.year),
         month: lent(&texts.month),
         day: lent(&texts.day),
@@ -146,16 +180,17 @@ fn lent_texts<'a>(
 }
 
 // The date that an entry's fields say, and the commands in them that aren't known.
-fn own_date(alloc: Global, fields: &[FieldRef<'_>]) -> Result<(EntryDate, Vec<String>), OutOfMemory>
+fn own_date(alloc: Global, fields: &Fields<'_>) -> Result<(EntryDate, Vec<String>), OutOfMemory>
     ensures date { IfOk result (λ r. date_view r.0
         ≡ date_of (date_texts (fields_view fields.now))) }
     ensures unknown { IfOk result (λ r. map string_bytes r.1.items
         ≡ unknown_dates (fields_view fields.now)) }
 {
-    let date = standing_text(alloc, text_of(fields, "date"))?;
+    let date = text_of(fields, "date");
+    let other = other_text(alloc, date)?;
     let year = standing_text(alloc, text_of(fields, "year"))?;
     let texts = day_texts(alloc, fields)?;
-    let said = entry_date(alloc, lent_texts(&date, &year, &texts))?;
+    let said = entry_date(alloc, lent_texts(date, &other, &year, &texts))?;
     Ok((said, texts.unknown))
 }
 
@@ -188,7 +223,7 @@ fn push_lost(alloc: Global, names: &mut Vec<String>, said: &EntryDate) -> Result
 }
 
 // Whether `date` is read, so that the other fields are left aside.
-fn is_by_date(fields: &[FieldRef<'_>], said: &EntryDate) -> bool
+fn is_by_date(fields: &Fields<'_>, said: &EntryDate) -> bool
     ensures { result ≡ is_by_date (fields_view fields.now) (date_view said.now) }
 {
     text_of(fields, "date").is_some() && !said.lost_date
@@ -207,7 +242,7 @@ fn date_value(date: Option<Date>) -> Option<Value>
 // The commands in the fields of a date, where they are read.
 fn date_commands(
     alloc: Global,
-    fields: &[FieldRef<'_>],
+    fields: &Fields<'_>,
     said: &EntryDate,
     unknown: Vec<String>,
 ) -> Result<Vec<String>, OutOfMemory>
@@ -225,7 +260,7 @@ fn add_own_date(
     alloc: Global,
     draft: &mut Draft,
     key: &str,
-    fields: &[FieldRef<'_>],
+    fields: &Fields<'_>,
 ) -> Result<(), OutOfMemory>
     ensures { OnOk result (so_far draft.new
         ≡ with_row key.now (own_date_row (fields_view fields.now)) (so_far draft.old)) }
@@ -241,6 +276,9 @@ fn add_own_date(
 fn date_said(alloc: Global, text: &str) -> Result<Option<Date>, OutOfMemory>
     ensures { IfOk result (λ d. d ≡ date_said text.now) }
 {
+    if stands_as_it_is(text) {
+        return Ok(read_date(alloc, text)?);
+    }
     let text = as_it_stands(alloc, text)?;
     Ok(read_date(alloc, text.as_str())?)
 }
@@ -272,7 +310,7 @@ fn add_conference_date(
     draft: &mut Draft,
     key: &str,
     is_given: bool,
-    fields: &[FieldRef<'_>],
+    fields: &Fields<'_>,
 ) -> Result<(), OutOfMemory>
     ensures { OnOk result (so_far draft.new
         ≡ with_any_row key.now (conference_date_row is_given (fields_view fields.now))
@@ -289,7 +327,7 @@ fn add_original_date(
     alloc: Global,
     draft: &mut Draft,
     key: &str,
-    fields: &[FieldRef<'_>],
+    fields: &Fields<'_>,
 ) -> Result<(), OutOfMemory>
     ensures { OnOk result (so_far draft.new
         ≡ with_any_row key.now (original_date_row (fields_view fields.now)) (so_far draft.old)) }
@@ -317,10 +355,7 @@ fn eprint_address(eprint: Option<Eprint>) -> Option<String>
 }
 
 /// The address of an entry. The error: there was no memory for it.
-pub(crate) fn address_of(
-    alloc: Global,
-    fields: &[FieldRef<'_>],
-) -> Result<Option<String>, OutOfMemory>
+pub(crate) fn address_of(alloc: Global, fields: &Fields<'_>) -> Result<Option<String>, OutOfMemory>
     ensures { IfOk result (λ a. option_map string_bytes a ≡ address_of (fields_view fields.now)) }
 {
     if let Some(text) = text_of(fields, "url") {
@@ -333,7 +368,7 @@ pub(crate) fn address_of(
 }
 
 // The date of a visit.
-fn visit_of(alloc: Global, fields: &[FieldRef<'_>]) -> Result<Option<Date>, OutOfMemory>
+fn visit_of(alloc: Global, fields: &Fields<'_>) -> Result<Option<Date>, OutOfMemory>
     ensures { IfOk result (λ d. d ≡ visit_of (fields_view fields.now)) }
 {
     match text_of(fields, "urldate") {
@@ -346,7 +381,7 @@ fn add_address(
     alloc: Global,
     draft: &mut Draft,
     key: &str,
-    fields: &[FieldRef<'_>],
+    fields: &Fields<'_>,
 ) -> Result<(), OutOfMemory>
     ensures { OnOk result (so_far draft.new
         ≡ with_any_row key.now (address_row (fields_view fields.now)) (so_far draft.old)) }
@@ -368,7 +403,7 @@ pub(crate) fn add_dates(
     draft: &mut Draft,
     key: &str,
     kind: Kind,
-    fields: &[FieldRef<'_>],
+    fields: &Fields<'_>,
 ) -> Result<(), OutOfMemory>
     ensures { OnOk result (so_far draft.new
         ≡ with_rows key.now (date_rows kind (fields_view fields.now)) (so_far draft.old)) }

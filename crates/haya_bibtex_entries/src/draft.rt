@@ -74,6 +74,7 @@ impl Draft {
     }
 
     /// Puts a value, if there is one, where it goes, and names behind those that are passed over.
+    #[inline]
     pub(crate) fn add(
         &mut self,
         alloc: Global,
@@ -86,7 +87,9 @@ impl Draft {
             ≡ with_row key.now (row level (option_map value_view value)
             (map string_bytes passed_over.items)) (so_far self.old)) }
     {
-        self.passed_over.append(&mut passed_over)?;
+        if !passed_over.is_empty() {
+            self.passed_over.append(&mut passed_over)?;
+        }
         match value {
             Some(value) => self.put(alloc, key, level, value),
             None => Ok(()),
@@ -94,6 +97,7 @@ impl Draft {
     }
 
     /// The same with commands that aren't known.
+    #[inline]
     pub(crate) fn add_read(
         &mut self,
         alloc: Global,
@@ -187,6 +191,8 @@ fn put_new(
     ensures { OnOk result (map view parents.new.items
         ≡ parent_with key.now kind (value_view value) (map view parents.old.items)) }
 {
+    // There is no other: with no more room than for this one.
+    parents.reserve_exact(1)?;
     let mut entry = match Entry::new(alloc, key, kind) {
         Ok(entry) => entry,
         Err(error) => {

@@ -17,8 +17,7 @@ ghost use Rattle.haya_bibtex_inherited.specs.Views.{fields_view};
 
 use crate::draft::Level;
 use crate::rules::{RULES, Rule};
-use crate::texts::{has_field, text_of};
-use haya_bibtex_inherited::FieldRef;
+use crate::texts::{Fields, has_field, text_of};
 use haya_entry::EntryType;
 
 /// What a type says of an entry.
@@ -187,14 +186,14 @@ impl Takes {
 }
 
 /// The kind of an entry of this type. Of one that isn't known it is anything.
-pub(crate) fn kind_of(name: &str, fields: &[FieldRef<'_>]) -> Kind
+pub(crate) fn kind_of(name: &str, fields: &Fields<'_>) -> Kind
     ensures { result ≡ kind_of name.now (fields_view fields.now) }
 {
     kind_named(name, fields).unwrap_or(alone(EntryType::Misc, NumberRule::Serial))
 }
 
 /// The kind of an entry of this type, if that is known.
-pub(crate) fn kind_named(name: &str, fields: &[FieldRef<'_>]) -> Option<Kind>
+pub(crate) fn kind_named(name: &str, fields: &Fields<'_>) -> Option<Kind>
     ensures { result ≡ kind_named name.now (fields_view fields.now) }
 {
     match rule_named(name) {
@@ -223,7 +222,7 @@ fn rule_in(table: &[(&str, Rule)], name: &str) -> Option<Rule>
 }
 
 // The kind of an entry by a rule.
-fn kind_by(rule: Rule, fields: &[FieldRef<'_>]) -> Kind
+fn kind_by(rule: Rule, fields: &Fields<'_>) -> Kind
     ensures { result ≡ kind_by rule (fields_view fields.now) }
 {
     match rule {
@@ -328,7 +327,7 @@ fn in_periodical() -> Kind
 }
 
 /// Whether the subtype of an entry is this word.
-pub(crate) fn is_subtype(word: &str, fields: &[FieldRef<'_>]) -> bool
+pub(crate) fn is_subtype(word: &str, fields: &Fields<'_>) -> bool
     ensures { result ≡ is_subtype word.now (fields_view fields.now) }
 {
     match text_of(fields, "entrysubtype") {
@@ -337,7 +336,7 @@ pub(crate) fn is_subtype(word: &str, fields: &[FieldRef<'_>]) -> bool
     }
 }
 
-fn article_in(fields: &[FieldRef<'_>]) -> Kind
+fn article_in(fields: &Fields<'_>) -> Kind
     ensures { result ≡ article_in (fields_view fields.now) }
 {
     if is_subtype("newspaper", fields) {
@@ -347,14 +346,14 @@ fn article_in(fields: &[FieldRef<'_>]) -> Kind
     }
 }
 
-fn has_event(fields: &[FieldRef<'_>]) -> bool
+fn has_event(fields: &Fields<'_>) -> bool
     ensures { result ≡ has_event (fields_view fields.now) }
 {
     has_field(fields, "eventtitle") || has_field(fields, "eventdate") || has_field(fields, "venue")
 }
 
 // What wasn't published may have been given at a conference.
-fn unpublished_in(fields: &[FieldRef<'_>]) -> Kind
+fn unpublished_in(fields: &Fields<'_>) -> Kind
     ensures { result ≡ unpublished_in (fields_view fields.now) }
 {
     if has_event(fields) {
@@ -364,14 +363,14 @@ fn unpublished_in(fields: &[FieldRef<'_>]) -> Kind
     }
 }
 
-fn is_in_journal(fields: &[FieldRef<'_>]) -> bool
+fn is_in_journal(fields: &Fields<'_>) -> bool
     ensures { result ≡ is_in_journal (fields_view fields.now) }
 {
     has_field(fields, "journaltitle") || has_field(fields, "journal")
 }
 
 // A letter may have been published.
-fn letter_in(fields: &[FieldRef<'_>]) -> Kind
+fn letter_in(fields: &Fields<'_>) -> Kind
     ensures { result ≡ letter_in (fields_view fields.now) }
 {
     if is_in_journal(fields) {

@@ -13,23 +13,22 @@ ghost use Rattle.haya_bibtex_entries.specs.Values.{number_value, pages_value, va
 use crate::draft::{Draft, Level};
 use crate::kinds::{Kind, NumberRule};
 use crate::rows::commands;
-use crate::texts::text_of;
+use crate::texts::{Fields, text_of};
 use crate::values::{CountField, NumberField, Value};
 use haya_bibtex_fields::{Reading, read_number, read_pages};
-use haya_bibtex_inherited::FieldRef;
 use haya_numbers::{Numeric, PageRanges};
 use haya_text::OutOfMemory;
 use haya_values::MaybeTyped;
 use std::alloc::Global;
 
 /// The text of `number`.
-pub(crate) fn number_text<'a>(fields: &[FieldRef<'a>]) -> Option<&'a str>
+pub(crate) fn number_text<'a>(fields: &Fields<'a>) -> Option<&'a str>
     ensures { option_map (λ s. s.now) result ≡ number_text (fields_view fields.now) }
 {
     text_of(fields, "number")
 }
 
-fn issue_text<'a>(rule: NumberRule, fields: &[FieldRef<'a>]) -> Option<&'a str>
+fn issue_text<'a>(rule: NumberRule, fields: &Fields<'a>) -> Option<&'a str>
     ensures { option_map (λ s. s.now) result ≡ issue_text rule (fields_view fields.now) }
 {
     match rule {
@@ -39,7 +38,7 @@ fn issue_text<'a>(rule: NumberRule, fields: &[FieldRef<'a>]) -> Option<&'a str>
 }
 
 // The number of a series.
-fn series_text<'a>(rule: NumberRule, fields: &[FieldRef<'a>]) -> Option<&'a str>
+fn series_text<'a>(rule: NumberRule, fields: &Fields<'a>) -> Option<&'a str>
     ensures { option_map (λ s. s.now) result ≡ series_text rule (fields_view fields.now) }
 {
     match rule {
@@ -48,7 +47,7 @@ fn series_text<'a>(rule: NumberRule, fields: &[FieldRef<'a>]) -> Option<&'a str>
     }
 }
 
-fn edition_text<'a>(fields: &[FieldRef<'a>]) -> Option<&'a str>
+fn edition_text<'a>(fields: &Fields<'a>) -> Option<&'a str>
     ensures { option_map (λ s. s.now) result ≡ edition_text (fields_view fields.now) }
 {
     text_of(fields, "edition").or(text_of(fields, "version"))
@@ -166,7 +165,7 @@ fn add_placed_numbers(
     draft: &mut Draft,
     key: &str,
     kind: Kind,
-    fields: &[FieldRef<'_>],
+    fields: &Fields<'_>,
 ) -> Result<(), OutOfMemory>
     ensures { OnOk result (so_far draft.new
         ≡ with_rows key.now (number_rows kind (fields_view fields.now)) (so_far draft.old)) }
@@ -208,7 +207,7 @@ pub(crate) fn add_numbers(
     draft: &mut Draft,
     key: &str,
     kind: Kind,
-    fields: &[FieldRef<'_>],
+    fields: &Fields<'_>,
 ) -> Result<(), OutOfMemory>
     ensures { OnOk result (so_far draft.new
         ≡ with_rows key.now (own_number_rows (fields_view fields.now))
@@ -223,7 +222,7 @@ fn add_own_numbers(
     alloc: Global,
     draft: &mut Draft,
     key: &str,
-    fields: &[FieldRef<'_>],
+    fields: &Fields<'_>,
 ) -> Result<(), OutOfMemory>
     ensures { OnOk result (so_far draft.new
         ≡ with_rows key.now (own_number_rows (fields_view fields.now)) (so_far draft.old)) }

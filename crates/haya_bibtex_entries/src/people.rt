@@ -22,9 +22,8 @@ ghost use Rattle.haya_bibtex_entries.specs.Values.{editors_value, value_view};
 use crate::draft::{Draft, Level};
 use crate::kinds::{Host, Kind};
 use crate::rows::{commands, push_names};
-use crate::texts::text_of;
+use crate::texts::{Fields, text_of};
 use crate::values::Value;
-use haya_bibtex_inherited::FieldRef;
 use haya_bibtex_names::{Persons, read_persons};
 use haya_people::{Person, PersonRole, PersonsWithRoles};
 use haya_text::OutOfMemory;
@@ -114,7 +113,7 @@ fn add_host_authors(
     draft: &mut Draft,
     key: &str,
     host: Option<Host>,
-    fields: &[FieldRef<'_>],
+    fields: &Fields<'_>,
 ) -> Result<(), OutOfMemory>
     ensures { OnOk result (so_far draft.new
         ≡ with_any_row key.now (host_authors_row host (fields_view fields.now))
@@ -178,7 +177,7 @@ impl Editors {
     fn add(
         &mut self,
         alloc: Global,
-        fields: &[FieldRef<'_>],
+        fields: &Fields<'_>,
         name: &str,
         kind: &str,
     ) -> Result<(), OutOfMemory>
@@ -201,7 +200,7 @@ impl Editors {
 }
 
 // All persons that are editors.
-fn all_editors(alloc: Global, fields: &[FieldRef<'_>]) -> Result<Editors, OutOfMemory>
+fn all_editors(alloc: Global, fields: &Fields<'_>) -> Result<Editors, OutOfMemory>
     ensures { IfOk result (λ e. editors_view e ≡ all_editors (fields_view fields.now)) }
 {
     let mut editors = Editors {
@@ -232,7 +231,7 @@ fn add_editors(
     draft: &mut Draft,
     key: &str,
     kind: Kind,
-    fields: &[FieldRef<'_>],
+    fields: &Fields<'_>,
 ) -> Result<(), OutOfMemory>
     ensures { OnOk result (so_far draft.new
         ≡ with_row key.now (editors_row kind (fields_view fields.now)) (so_far draft.old)) }
@@ -276,7 +275,7 @@ impl Affiliated {
     fn add_typed(
         &mut self,
         alloc: Global,
-        fields: &[FieldRef<'_>],
+        fields: &Fields<'_>,
         name: &str,
         kind: &str,
     ) -> Result<(), OutOfMemory>
@@ -296,7 +295,7 @@ impl Affiliated {
     fn add_role(
         &mut self,
         alloc: Global,
-        fields: &[FieldRef<'_>],
+        fields: &Fields<'_>,
         name: &str,
         role: PersonRole,
     ) -> Result<(), OutOfMemory>
@@ -310,7 +309,7 @@ impl Affiliated {
         }
     }
 
-    fn add_writers(&mut self, alloc: Global, fields: &[FieldRef<'_>]) -> Result<(), OutOfMemory>
+    fn add_writers(&mut self, alloc: Global, fields: &Fields<'_>) -> Result<(), OutOfMemory>
         ensures { OnOk result (affiliated_view self.new
             ≡ with_writers (fields_view fields.now) (affiliated_view self.old)) }
     {
@@ -321,7 +320,7 @@ impl Affiliated {
         Ok(())
     }
 
-    fn add_others(&mut self, alloc: Global, fields: &[FieldRef<'_>]) -> Result<(), OutOfMemory>
+    fn add_others(&mut self, alloc: Global, fields: &Fields<'_>) -> Result<(), OutOfMemory>
         ensures { OnOk result (affiliated_view self.new
             ≡ with_others (fields_view fields.now) (affiliated_view self.old)) }
     {
@@ -334,7 +333,7 @@ impl Affiliated {
 }
 
 // The editors of a type that is a role.
-fn typed_editors(alloc: Global, fields: &[FieldRef<'_>]) -> Result<Affiliated, OutOfMemory>
+fn typed_editors(alloc: Global, fields: &Fields<'_>) -> Result<Affiliated, OutOfMemory>
     ensures { IfOk result (λ a. affiliated_view a ≡ typed_editors (fields_view fields.now)) }
 {
     let mut affiliated = Affiliated {
@@ -349,7 +348,7 @@ fn typed_editors(alloc: Global, fields: &[FieldRef<'_>]) -> Result<Affiliated, O
 }
 
 // All persons with a role.
-fn all_affiliated(alloc: Global, fields: &[FieldRef<'_>]) -> Result<Affiliated, OutOfMemory>
+fn all_affiliated(alloc: Global, fields: &Fields<'_>) -> Result<Affiliated, OutOfMemory>
     ensures { IfOk result (λ a. affiliated_view a ≡ all_affiliated (fields_view fields.now)) }
 {
     let mut affiliated = typed_editors(alloc, fields)?;
@@ -374,7 +373,7 @@ fn add_affiliated(
     alloc: Global,
     draft: &mut Draft,
     key: &str,
-    fields: &[FieldRef<'_>],
+    fields: &Fields<'_>,
 ) -> Result<(), OutOfMemory>
     ensures { OnOk result (so_far draft.new
         ≡ with_row key.now (affiliated_row (fields_view fields.now)) (so_far draft.old)) }
@@ -389,7 +388,7 @@ pub(crate) fn add_people(
     draft: &mut Draft,
     key: &str,
     kind: Kind,
-    fields: &[FieldRef<'_>],
+    fields: &Fields<'_>,
 ) -> Result<(), OutOfMemory>
     ensures { OnOk result (so_far draft.new
         ≡ with_rows key.now (people_rows kind (fields_view fields.now)) (so_far draft.old)) }

@@ -1,5 +1,5 @@
 //! The fields that have a place, by their names.
-ghost use Rattle.std.specs.Prelude.{◌≡◌, IfOk, false, map, unwrap_or};
+ghost use Rattle.std.specs.Prelude.{◌≡◌, IfOk, false, map, true, unwrap_or};
 ghost use Rattle.std.specs.Map.{lookup};
 ghost use Rattle.std.specs.Str.{bytes_eq};
 ghost use Rattle.haya_bibtex_inherited.specs.Entries.{is_among};
@@ -12,8 +12,7 @@ ghost use Rattle.haya_bibtex_entries.specs.Places.{side_names};
 use crate::containers::{Container, container_of};
 use crate::dates::address_of;
 use crate::kinds::{Kind, is_subtype};
-use crate::texts::has_field;
-use haya_bibtex_inherited::FieldRef;
+use crate::texts::{Fields, has_field};
 use haya_text::OutOfMemory;
 use std::alloc::Global;
 
@@ -109,14 +108,32 @@ fn is_among(names: &[&str], name: &str) -> bool
     false
 }
 
+// Whether a field is one of those that most entries have, for which the table is long.
+fn is_usual(name: &str) -> bool
+    ensures { result ≡ true → is_always_placed name.now ≡ true }
+{
+    match name.len() {
+        3 => matches!(name, "doi" | "url"),
+        4 => matches!(name, "date" | "year" | "isbn" | "issn" | "note"),
+        5 => matches!(name, "title" | "month" | "pages"),
+        6 => matches!(
+            name,
+            "author" | "editor" | "series" | "volume" | "number" | "langid"
+        ),
+        7 => name == "address",
+        8 => name == "abstract",
+        9 => name == "publisher",
+        _ => false,
+    }
+}
+
 fn is_always_placed(name: &str) -> bool
     ensures { result ≡ is_always_placed name.now }
 {
-    // Most entries have these fields, for which the table is long.
+    if is_usual(name) {
+        return true;
+    }
     match name {
-        "title" | "author" | "editor" | "date" | "year" | "month" => true,
-        "publisher" | "address" | "series" | "volume" | "number" | "pages" => true,
-        "doi" | "url" | "isbn" | "issn" | "langid" | "note" | "abstract" => true,
         "journal" | "journaltitle" | "booktitle" => false,
         _ => is_among(PLACED, name),
     }
@@ -151,7 +168,7 @@ fn is_short_of_journal(container: Container) -> bool
     }
 }
 
-fn is_subtype_read(kind: Kind, fields: &[FieldRef<'_>]) -> bool
+fn is_subtype_read(kind: Kind, fields: &Fields<'_>) -> bool
     ensures { result ≡ is_subtype_read kind (fields_view fields.now) }
 {
     kind.has_subtype() && (is_subtype("newspaper", fields) || is_subtype("magazine", fields))
@@ -161,7 +178,7 @@ fn is_subtype_read(kind: Kind, fields: &[FieldRef<'_>]) -> bool
 fn is_contained(
     alloc: Global,
     kind: Kind,
-    fields: &[FieldRef<'_>],
+    fields: &Fields<'_>,
     name: &str,
 ) -> Result<bool, OutOfMemory>
     ensures { IfOk result (λ b. b
@@ -184,7 +201,7 @@ fn is_contained(
 fn is_of_parent(
     alloc: Global,
     kind: Kind,
-    fields: &[FieldRef<'_>],
+    fields: &Fields<'_>,
     name: &str,
 ) -> Result<bool, OutOfMemory>
     ensures { IfOk result (λ b. b
@@ -202,7 +219,7 @@ fn is_of_parent(
 fn is_beside(
     alloc: Global,
     kind: Kind,
-    fields: &[FieldRef<'_>],
+    fields: &Fields<'_>,
     name: &str,
 ) -> Result<bool, OutOfMemory>
     ensures { IfOk result (λ b. b
@@ -226,7 +243,7 @@ fn is_beside(
 pub(crate) fn is_placed(
     alloc: Global,
     kind: Kind,
-    fields: &[FieldRef<'_>],
+    fields: &Fields<'_>,
     name: &str,
 ) -> Result<bool, OutOfMemory>
     ensures { IfOk result (λ b. b ≡ is_placed kind (fields_view fields.now) name.now) }

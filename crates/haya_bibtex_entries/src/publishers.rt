@@ -21,10 +21,9 @@ ghost use Rattle.haya_bibtex_entries.specs.Values.{publisher_value, value_view};
 use crate::draft::{Draft, Level};
 use crate::kinds::{Host, Kind, PublisherRule};
 use crate::rows::{add_text, push_names, without_short};
-use crate::texts::{has_field, text_of};
+use crate::texts::{Fields, has_field, text_of};
 use crate::values::{TextField, Value};
 use haya_bibtex_fields::{Reading, formatted_if_any, read_address};
-use haya_bibtex_inherited::FieldRef;
 use haya_text::{ChunkedString, FormatString, OutOfMemory};
 use haya_values::Publisher;
 use std::alloc::Global;
@@ -33,7 +32,7 @@ use std::alloc::Global;
 /// memory for it.
 pub(crate) fn published_at(
     alloc: Global,
-    fields: &[FieldRef<'_>],
+    fields: &Fields<'_>,
 ) -> Result<Option<String>, OutOfMemory>
     ensures { IfOk result (λ a.
         option_map string_bytes a ≡ published_at (fields_view fields.now)) }
@@ -59,7 +58,7 @@ fn address_unless(
 }
 
 // How a work was published, if that is no address of its own.
-fn published_by<'a>(alloc: Global, fields: &[FieldRef<'a>]) -> Result<Option<&'a str>, OutOfMemory>
+fn published_by<'a>(alloc: Global, fields: &Fields<'a>) -> Result<Option<&'a str>, OutOfMemory>
     ensures { IfOk result (λ t.
         option_map (λ s. s.now) t ≡ published_by (fields_view fields.now)) }
 {
@@ -69,10 +68,7 @@ fn published_by<'a>(alloc: Global, fields: &[FieldRef<'a>]) -> Result<Option<&'a
     Ok(text_of(fields, "howpublished"))
 }
 
-fn publisher_text<'a>(
-    alloc: Global,
-    fields: &[FieldRef<'a>],
-) -> Result<Option<&'a str>, OutOfMemory>
+fn publisher_text<'a>(alloc: Global, fields: &Fields<'a>) -> Result<Option<&'a str>, OutOfMemory>
     ensures { IfOk result (λ t.
         option_map (λ s. s.now) t ≡ publisher_text (fields_view fields.now)) }
 {
@@ -82,13 +78,13 @@ fn publisher_text<'a>(
     }
 }
 
-fn place_text<'a>(fields: &[FieldRef<'a>]) -> Option<&'a str>
+fn place_text<'a>(fields: &Fields<'a>) -> Option<&'a str>
     ensures { option_map (λ s. s.now) result ≡ place_text (fields_view fields.now) }
 {
     text_of(fields, "location").or(text_of(fields, "address"))
 }
 
-fn organization_text<'a>(fields: &[FieldRef<'a>]) -> Option<&'a str>
+fn organization_text<'a>(fields: &Fields<'a>) -> Option<&'a str>
     ensures { option_map (λ s. s.now) result ≡ organization_text (fields_view fields.now) }
 {
     text_of(fields, "institution").or(text_of(fields, "school").or(text_of(fields, "organization")))
@@ -98,7 +94,7 @@ fn organization_text<'a>(fields: &[FieldRef<'a>]) -> Option<&'a str>
 fn name_by<'a>(
     alloc: Global,
     rule: PublisherRule,
-    fields: &[FieldRef<'a>],
+    fields: &Fields<'a>,
 ) -> Result<Option<&'a str>, OutOfMemory>
     ensures { IfOk result (λ t.
         option_map (λ s. s.now) t ≡ name_by rule (fields_view fields.now)) }
@@ -113,7 +109,7 @@ fn name_by<'a>(
 fn organization_by<'a>(
     alloc: Global,
     rule: PublisherRule,
-    fields: &[FieldRef<'a>],
+    fields: &Fields<'a>,
 ) -> Result<Option<&'a str>, OutOfMemory>
     ensures { IfOk result (λ t.
         option_map (λ s. s.now) t ≡ organization_by rule (fields_view fields.now)) }
@@ -125,11 +121,7 @@ fn organization_by<'a>(
 }
 
 // The place of the publisher, where it isn't that of the host or of the entry.
-fn publisher_place<'a>(
-    rule: PublisherRule,
-    of_host: bool,
-    fields: &[FieldRef<'a>],
-) -> Option<&'a str>
+fn publisher_place<'a>(rule: PublisherRule, of_host: bool, fields: &Fields<'a>) -> Option<&'a str>
     ensures { option_map (λ s. s.now) result
         ≡ publisher_place rule of_host (fields_view fields.now) }
 {
@@ -140,7 +132,7 @@ fn publisher_place<'a>(
 }
 
 // The place of the publisher, where it is that of the entry.
-fn own_place<'a>(rule: PublisherRule, fields: &[FieldRef<'a>]) -> Option<&'a str>
+fn own_place<'a>(rule: PublisherRule, fields: &Fields<'a>) -> Option<&'a str>
     ensures { option_map (λ s. s.now) result ≡ own_place rule (fields_view fields.now) }
 {
     match rule {
@@ -150,7 +142,7 @@ fn own_place<'a>(rule: PublisherRule, fields: &[FieldRef<'a>]) -> Option<&'a str
 }
 
 // The venue, where it isn't that of a conference.
-fn own_venue<'a>(is_given: bool, fields: &[FieldRef<'a>]) -> Option<&'a str>
+fn own_venue<'a>(is_given: bool, fields: &Fields<'a>) -> Option<&'a str>
     ensures { option_map (λ s. s.now) result ≡ own_venue is_given (fields_view fields.now) }
 {
     if is_given {
@@ -160,7 +152,7 @@ fn own_venue<'a>(is_given: bool, fields: &[FieldRef<'a>]) -> Option<&'a str>
     }
 }
 
-fn own_location<'a>(kind: Kind, fields: &[FieldRef<'a>]) -> Option<&'a str>
+fn own_location<'a>(kind: Kind, fields: &Fields<'a>) -> Option<&'a str>
     ensures { option_map (λ s. s.now) result ≡ own_location kind (fields_view fields.now) }
 {
     own_place(kind.publisher, fields).or(own_venue(kind.is_given, fields))
@@ -210,6 +202,9 @@ fn add_publisher(
         ≡ with_row key.now (publisher_row level (option_map (λ s. s.now) name.entry)
         (option_map (λ s. s.now) place.entry)) (so_far draft.old)) }
 {
+    if name.is_none() && place.is_none() {
+        return Ok(());
+    }
     let Reading {
         value: name,
         mut unknown,
@@ -228,7 +223,7 @@ fn add_kind_publisher(
     draft: &mut Draft,
     key: &str,
     kind: Kind,
-    fields: &[FieldRef<'_>],
+    fields: &Fields<'_>,
 ) -> Result<(), OutOfMemory>
     ensures { OnOk result (so_far draft.new
         ≡ with_row key.now (kind_publisher_row kind (fields_view fields.now))
@@ -244,7 +239,7 @@ fn add_host_location(
     draft: &mut Draft,
     key: &str,
     host: Option<Host>,
-    fields: &[FieldRef<'_>],
+    fields: &Fields<'_>,
 ) -> Result<(), OutOfMemory>
     ensures { OnOk result (so_far draft.new
         ≡ with_any_row key.now (host_location_row host (fields_view fields.now))
@@ -271,7 +266,7 @@ fn add_conference_venue(
     draft: &mut Draft,
     key: &str,
     is_given: bool,
-    fields: &[FieldRef<'_>],
+    fields: &Fields<'_>,
 ) -> Result<(), OutOfMemory>
     ensures { OnOk result (so_far draft.new
         ≡ with_any_row key.now (conference_venue_row is_given (fields_view fields.now))
@@ -295,7 +290,7 @@ fn add_original_publisher(
     alloc: Global,
     draft: &mut Draft,
     key: &str,
-    fields: &[FieldRef<'_>],
+    fields: &Fields<'_>,
 ) -> Result<(), OutOfMemory>
     ensures { OnOk result (so_far draft.new
         ≡ with_row key.now (original_publisher_row (fields_view fields.now))
@@ -312,7 +307,7 @@ pub(crate) fn add_publishers(
     draft: &mut Draft,
     key: &str,
     kind: Kind,
-    fields: &[FieldRef<'_>],
+    fields: &Fields<'_>,
 ) -> Result<(), OutOfMemory>
     ensures { OnOk result (so_far draft.new
         ≡ with_rows key.now (publisher_rows kind (fields_view fields.now)) (so_far draft.old)) }

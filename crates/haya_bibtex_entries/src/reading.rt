@@ -14,8 +14,9 @@ use crate::places::is_placed;
 use crate::publishers::add_publishers;
 use crate::serials::add_serials;
 use crate::sources::add_sources;
+use crate::texts::Fields;
 use crate::titles::add_titles;
-use haya_bibtex_inherited::{EntryRef, FieldRef};
+use haya_bibtex_inherited::EntryRef;
 use haya_entry::Entry;
 use haya_text::OutOfMemory;
 use std::alloc::Global;
@@ -31,11 +32,7 @@ pub struct Reading {
 }
 
 // The name under which an unknown type is passed over.
-fn type_passed(
-    alloc: Global,
-    kind: &str,
-    fields: &[FieldRef<'_>],
-) -> Result<Vec<String>, OutOfMemory>
+fn type_passed(alloc: Global, kind: &str, fields: &Fields<'_>) -> Result<Vec<String>, OutOfMemory>
     ensures { IfOk result (λ v. map string_bytes v.items
         ≡ type_passed kind.now (fields_view fields.now)) }
 {
@@ -54,12 +51,12 @@ fn push_unplaced(
     alloc: Global,
     names: &mut Vec<String>,
     kind: Kind,
-    fields: &[FieldRef<'_>],
+    fields: &Fields<'_>,
 ) -> Result<(), OutOfMemory>
     ensures { OnOk result (map string_bytes names.new.items
         ≡ map string_bytes names.old.items ++ unplaced kind (fields_view fields.now)) }
 {
-    'fields: for field in fields {
+    'fields: for field in fields.list() {
         if is_placed(alloc, kind, fields, field.name)? {
             continue 'fields;
         }
@@ -69,10 +66,15 @@ fn push_unplaced(
 }
 
 // The entry with its key and type alone.
-fn at_first(alloc: Global, entry: &EntryRef<'_>, kind: Kind) -> Result<Draft, OutOfMemory>
+fn at_first(
+    alloc: Global,
+    entry: &EntryRef<'_>,
+    fields: &Fields<'_>,
+    kind: Kind,
+) -> Result<Draft, OutOfMemory>
+    requires { fields.now ≡ entry.now.fields.items }
     ensures { IfOk result (λ d. so_far d ≡ at_first (entry_view entry.now) kind) }
 {
-    let fields = entry.fields.as_slice();
     let mut names = type_passed(alloc, entry.kind, fields)?;
     push_unplaced(alloc, &mut names, kind, fields)?;
     Draft::new(alloc, entry.key, kind.entry, names)
@@ -83,12 +85,13 @@ fn fill(
     alloc: Global,
     draft: &mut Draft,
     entry: &EntryRef<'_>,
+    fields: &Fields<'_>,
     kind: Kind,
 ) -> Result<(), OutOfMemory>
-    requires { so_far draft.old ≡ at_first (entry_view entry.now) kind }
+    requires fields { fields.now ≡ entry.now.fields.items }
+    requires first { so_far draft.old ≡ at_first (entry_view entry.now) kind }
     ensures { OnOk result (so_far draft.new ≡ filled (entry_view entry.now) kind) }
 {
-    let fields = entry.fields.as_slice();
     add_titles(alloc, draft, entry.key, kind, fields)?;
     add_people(alloc, draft, entry.key, kind, fields)?;
     add_publishers(alloc, draft, entry.key, kind, fields)?;
@@ -105,9 +108,14 @@ fn fill(
 pub fn read_entry(alloc: Global, entry: &EntryRef<'_>) -> Result<Reading, OutOfMemory>
     ensures { IfOk result (λ r. reading_view r ≡ entry_said (entry_view entry.now)) }
 {
-    let kind = kind_of(entry.kind, entry.fields.as_slice());
-    let mut draft = at_first(alloc, entry, kind)?;
-    fill(alloc, &mut draft, entry, kind)?;
+    let fields = Fields::new(entry.fields.as_slice());
+    let kind = kind_of(entry.kind, &fields);
+    // By a `match`: a `?` copies the entry once more.
+    let mut draft = match at_first(alloc, entry, &fields, kind) {
+        Ok(draft) => draft,
+        Err(error) => return Err(error),
+    };
+    fill(alloc, &mut draft, entry, &fields, kind)?;
     draft.close(alloc)?;
     let Draft {
         own,

@@ -23,10 +23,15 @@ fn command_name(alloc: Global, name: &str) -> Result<String, OutOfMemory>
 
 /// The names of commands as they are counted, each with its backslash. The error: there was no
 /// memory for them.
+#[inline]
 pub(crate) fn commands(alloc: Global, unknown: Vec<String>) -> Result<Vec<String>, OutOfMemory>
     ensures { IfOk result (λ v.
         map string_bytes v.items ≡ commands (map string_bytes unknown.items)) }
 {
+    // Most texts have none.
+    if unknown.is_empty() {
+        return Ok(unknown);
+    }
     command_names(alloc, unknown.as_slice())
 }
 
@@ -43,11 +48,14 @@ fn command_names(alloc: Global, unknown: &[String]) -> Result<Vec<String>, OutOf
 }
 
 /// Puts names behind others. The error: there was no memory for them.
+#[inline]
 pub(crate) fn push_names(names: &mut Vec<String>, mut more: Vec<String>) -> Result<(), OutOfMemory>
     ensures { OnOk result (map string_bytes names.new.items
         ≡ map string_bytes names.old.items ++ map string_bytes more.items) }
 {
-    names.append(&mut more)?;
+    if !more.is_empty() {
+        names.append(&mut more)?;
+    }
     Ok(())
 }
 

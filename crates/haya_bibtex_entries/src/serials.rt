@@ -19,10 +19,9 @@ use crate::kinds::{Kind, NumberRule};
 use crate::numbers::number_text;
 use crate::publishers::published_at;
 use crate::rows::{commands, without_short};
-use crate::texts::{has_field, text_of};
+use crate::texts::{Fields, has_field, text_of};
 use crate::values::{SerialField, TextField, Value};
 use haya_bibtex_fields::{Eprint, Reading, Serial, read_doi, read_eprint, read_plain, read_serial};
-use haya_bibtex_inherited::FieldRef;
 use haya_text::{ChunkedString, OutOfMemory};
 use std::alloc::Global;
 
@@ -75,7 +74,7 @@ fn add_doi(
 
 // ---- `number` as a serial number, and `eid` where that sets none
 
-fn serial_text<'a>(rule: NumberRule, fields: &[FieldRef<'a>]) -> Option<&'a str>
+fn serial_text<'a>(rule: NumberRule, fields: &Fields<'a>) -> Option<&'a str>
     ensures { option_map (λ s. s.now) result ≡ serial_text rule (fields_view fields.now) }
 {
     match rule {
@@ -127,7 +126,7 @@ fn is_other(alloc: Global, text: Option<&str>) -> Result<bool, OutOfMemory>
 fn eid_text<'a>(
     alloc: Global,
     rule: NumberRule,
-    fields: &[FieldRef<'a>],
+    fields: &Fields<'a>,
 ) -> Result<Option<&'a str>, OutOfMemory>
     ensures { IfOk result (λ t.
         option_map (λ s. s.now) t ≡ eid_text rule (fields_view fields.now)) }
@@ -140,14 +139,14 @@ fn eid_text<'a>(
 
 // ---- the number of an archive
 
-fn archive_text<'a>(fields: &[FieldRef<'a>]) -> Option<&'a str>
+fn archive_text<'a>(fields: &Fields<'a>) -> Option<&'a str>
     ensures { option_map (λ s. s.now) result ≡ archive_text (fields_view fields.now) }
 {
     text_of(fields, "eprinttype").or(text_of(fields, "archiveprefix"))
 }
 
 // What `eprint` says, and the commands in the name of its archive that aren't known.
-fn read_archive(alloc: Global, fields: &[FieldRef<'_>]) -> Result<Reading<Eprint>, OutOfMemory>
+fn read_archive(alloc: Global, fields: &Fields<'_>) -> Result<Reading<Eprint>, OutOfMemory>
     ensures value { IfOk result (λ r. option_map eprint_view r.value
         ≡ eprint_of (fields_view fields.now)) }
     ensures unknown { IfOk result (λ r. commands (map string_bytes r.unknown.items)
@@ -179,10 +178,7 @@ fn read_number_in(
 }
 
 /// What `eprint` says. The error: there was no memory for it.
-pub(crate) fn eprint_of(
-    alloc: Global,
-    fields: &[FieldRef<'_>],
-) -> Result<Option<Eprint>, OutOfMemory>
+pub(crate) fn eprint_of(alloc: Global, fields: &Fields<'_>) -> Result<Option<Eprint>, OutOfMemory>
     ensures { IfOk result (λ e.
         option_map eprint_view e ≡ eprint_of (fields_view fields.now)) }
 {
@@ -192,7 +188,7 @@ pub(crate) fn eprint_of(
 }
 
 // Whether the entry has an address without `eprint`.
-fn has_address(alloc: Global, fields: &[FieldRef<'_>]) -> Result<bool, OutOfMemory>
+fn has_address(alloc: Global, fields: &Fields<'_>) -> Result<bool, OutOfMemory>
     ensures { IfOk result (λ b. b ≡ has_address (fields_view fields.now)) }
 {
     if has_field(fields, "url") {
@@ -242,11 +238,14 @@ fn add_eprint(
     alloc: Global,
     draft: &mut Draft,
     key: &str,
-    fields: &[FieldRef<'_>],
+    fields: &Fields<'_>,
 ) -> Result<(), OutOfMemory>
     ensures { OnOk result (so_far draft.new
         ≡ with_row key.now (eprint_row (fields_view fields.now)) (so_far draft.old)) }
 {
+    if text_of(fields, "eprint").is_none() {
+        return Ok(());
+    }
     let Reading { value, unknown } = read_archive(alloc, fields)?;
     let mut passed_over = commands(alloc, unknown)?;
     let has = has_address(alloc, fields)?;
@@ -273,11 +272,14 @@ fn add_kept(
     alloc: Global,
     draft: &mut Draft,
     key: &str,
-    fields: &[FieldRef<'_>],
+    fields: &Fields<'_>,
 ) -> Result<(), OutOfMemory>
     ensures { OnOk result (so_far draft.new
         ≡ with_row key.now (kept_row (fields_view fields.now)) (so_far draft.old)) }
 {
+    if text_of(fields, "eprint").is_none() {
+        return Ok(());
+    }
     let eprint = eprint_of(alloc, fields)?;
     let number = kept_number(alloc, eprint)?;
     draft.add(alloc, key, Level::Own, number, Vec::new(alloc))
@@ -289,7 +291,7 @@ fn add_archive(
     draft: &mut Draft,
     key: &str,
     kind: Kind,
-    fields: &[FieldRef<'_>],
+    fields: &Fields<'_>,
 ) -> Result<(), OutOfMemory>
     ensures { OnOk result (so_far draft.new
         ≡ with_rows key.now (archive_rows kind (fields_view fields.now)) (so_far draft.old)) }
@@ -307,7 +309,7 @@ fn add_plain(
     draft: &mut Draft,
     key: &str,
     kind: Kind,
-    fields: &[FieldRef<'_>],
+    fields: &Fields<'_>,
 ) -> Result<(), OutOfMemory>
     ensures { OnOk result (so_far draft.new
         ≡ with_rows key.now (plain_rows kind (fields_view fields.now)) (so_far draft.old)) }
@@ -343,7 +345,7 @@ pub(crate) fn add_serials(
     draft: &mut Draft,
     key: &str,
     kind: Kind,
-    fields: &[FieldRef<'_>],
+    fields: &Fields<'_>,
 ) -> Result<(), OutOfMemory>
     ensures { OnOk result (so_far draft.new
         ≡ with_rows key.now (plain_rows kind (fields_view fields.now))

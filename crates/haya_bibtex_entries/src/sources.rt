@@ -13,14 +13,13 @@ ghost use Rattle.haya_bibtex_entries.specs.Values.{language_value, value_view};
 
 use crate::draft::{Draft, Level};
 use crate::rows::{add_text, commands, push_names, text_value};
-use crate::texts::text_of;
+use crate::texts::{Fields, text_of};
 use crate::values::{TextField, Value};
 use haya_bibtex_fields::{Reading, read_genre, read_language, read_note, read_variant};
-use haya_bibtex_inherited::FieldRef;
 use haya_text::OutOfMemory;
 use std::alloc::Global;
 
-fn annotation_text<'a>(fields: &[FieldRef<'a>]) -> Option<&'a str>
+fn annotation_text<'a>(fields: &Fields<'a>) -> Option<&'a str>
     ensures { option_map (λ s. s.now) result ≡ annotation_text (fields_view fields.now) }
 {
     text_of(fields, "annotation").or(text_of(fields, "annote"))
@@ -47,7 +46,7 @@ fn add_note(
     alloc: Global,
     draft: &mut Draft,
     key: &str,
-    fields: &[FieldRef<'_>],
+    fields: &Fields<'_>,
 ) -> Result<(), OutOfMemory>
     ensures { OnOk result (so_far draft.new
         ≡ with_any_row key.now (note_row (fields_view fields.now)) (so_far draft.old)) }
@@ -71,7 +70,7 @@ fn implied_genre<'a>(kind: &'a str) -> Option<&'a str>
     }
 }
 
-fn genre_text<'a>(kind: &'a str, fields: &[FieldRef<'a>]) -> Option<&'a str>
+fn genre_text<'a>(kind: &'a str, fields: &Fields<'a>) -> Option<&'a str>
     ensures { option_map (λ s. s.now) result ≡ genre_text kind.now (fields_view fields.now) }
 {
     text_of(fields, "type").or(implied_genre(kind))
@@ -95,7 +94,7 @@ fn add_genre(
     draft.add_read(alloc, key, Level::Own, value, unknown)
 }
 
-fn language_text<'a>(fields: &[FieldRef<'a>]) -> Option<&'a str>
+fn language_text<'a>(fields: &Fields<'a>) -> Option<&'a str>
     ensures { option_map (λ s. s.now) result ≡ language_text (fields_view fields.now) }
 {
     text_of(fields, "langid").or(text_of(fields, "hyphenation").or(text_of(fields, "language")))
@@ -192,7 +191,7 @@ fn add_language(
     alloc: Global,
     draft: &mut Draft,
     key: &str,
-    fields: &[FieldRef<'_>],
+    fields: &Fields<'_>,
 ) -> Result<(), OutOfMemory>
     ensures { OnOk result (so_far draft.new
         ≡ with_row key.now (language_row (fields_view fields.now)) (so_far draft.old)) }
@@ -208,7 +207,7 @@ pub(crate) fn add_sources(
     draft: &mut Draft,
     key: &str,
     kind: &str,
-    fields: &[FieldRef<'_>],
+    fields: &Fields<'_>,
 ) -> Result<(), OutOfMemory>
     ensures { OnOk result (so_far draft.new
         ≡ with_rows key.now (source_rows kind.now (fields_view fields.now)) (so_far draft.old)) }

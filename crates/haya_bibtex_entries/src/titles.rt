@@ -1,5 +1,5 @@
 //! The table of titles.
-ghost use Rattle.std.specs.Prelude.{◌≡◌, IfOk, OnOk, map, option_and_then, option_map};
+ghost use Rattle.std.specs.Prelude.{◌≡◌, true, IfOk, None, OnOk, map, option_and_then, option_map};
 ghost use Rattle.std.specs.Prelude.{string_bytes};
 ghost use Rattle.haya_text.specs.Chunks.{chunks};
 ghost use Rattle.haya_text.specs.Texts.{text_view};
@@ -21,16 +21,15 @@ use crate::containers::{Container, container_of};
 use crate::draft::{Draft, Level};
 use crate::kinds::{Host, Kind};
 use crate::rows::push_names;
-use crate::texts::text_of;
+use crate::texts::{Fields, text_of};
 use crate::values::Value;
 use haya_bibtex_fields::{
     Reading, TitleTexts, read_series, read_short_title, read_whole_title, title_if_any, with_short,
 };
-use haya_bibtex_inherited::FieldRef;
 use haya_text::{ChunkedString, FormatString, OutOfMemory};
 use std::alloc::Global;
 
-fn own_texts<'a>(fields: &[FieldRef<'a>]) -> TitleTexts<'a>
+fn own_texts<'a>(fields: &Fields<'a>) -> TitleTexts<'a>
     ensures { title_bytes result ≡ own_texts (fields_view fields.now) }
 {
     TitleTexts {
@@ -40,7 +39,7 @@ fn own_texts<'a>(fields: &[FieldRef<'a>]) -> TitleTexts<'a>
     }
 }
 
-fn journal_texts<'a>(fields: &[FieldRef<'a>]) -> TitleTexts<'a>
+fn journal_texts<'a>(fields: &Fields<'a>) -> TitleTexts<'a>
     ensures { title_bytes result ≡ journal_texts (fields_view fields.now) }
 {
     TitleTexts {
@@ -50,7 +49,7 @@ fn journal_texts<'a>(fields: &[FieldRef<'a>]) -> TitleTexts<'a>
     }
 }
 
-fn book_texts<'a>(fields: &[FieldRef<'a>]) -> TitleTexts<'a>
+fn book_texts<'a>(fields: &Fields<'a>) -> TitleTexts<'a>
     ensures { title_bytes result ≡ book_texts (fields_view fields.now) }
 {
     let title = text_of(fields, "booktitle");
@@ -63,7 +62,7 @@ fn book_texts<'a>(fields: &[FieldRef<'a>]) -> TitleTexts<'a>
     }
 }
 
-fn main_texts<'a>(fields: &[FieldRef<'a>]) -> TitleTexts<'a>
+fn main_texts<'a>(fields: &Fields<'a>) -> TitleTexts<'a>
     ensures { title_bytes result ≡ main_texts (fields_view fields.now) }
 {
     let title = text_of(fields, "maintitle");
@@ -76,7 +75,7 @@ fn main_texts<'a>(fields: &[FieldRef<'a>]) -> TitleTexts<'a>
     }
 }
 
-fn event_texts<'a>(fields: &[FieldRef<'a>]) -> TitleTexts<'a>
+fn event_texts<'a>(fields: &Fields<'a>) -> TitleTexts<'a>
     ensures { title_bytes result ≡ event_texts (fields_view fields.now) }
 {
     TitleTexts {
@@ -86,7 +85,7 @@ fn event_texts<'a>(fields: &[FieldRef<'a>]) -> TitleTexts<'a>
     }
 }
 
-fn original_texts<'a>(fields: &[FieldRef<'a>]) -> TitleTexts<'a>
+fn original_texts<'a>(fields: &Fields<'a>) -> TitleTexts<'a>
     ensures { title_bytes result ≡ original_texts (fields_view fields.now) }
 {
     TitleTexts {
@@ -107,6 +106,14 @@ fn title_value(title: Option<FormatString>) -> Option<Value>
     }
 }
 
+// Whether none of the texts of a title is there.
+fn is_missing(texts: TitleTexts<'_>) -> bool
+    ensures { result ≡ true → title_bytes texts.entry
+        ≡ record { title = None; subtitle = None; addition = None } }
+{
+    texts.title.is_none() && texts.subtitle.is_none() && texts.addition.is_none()
+}
+
 // Puts texts joined as a title, with the short form that is written.
 fn add_title(
     alloc: Global,
@@ -120,6 +127,9 @@ fn add_title(
         ≡ with_row key.now (title_row level (title_bytes texts.entry)
         (option_map (λ t. t.now) short.entry)) (so_far draft.old)) }
 {
+    if is_missing(texts) && short.is_none() {
+        return Ok(());
+    }
     let Reading { value, unknown } = read_short_title(alloc, texts, short)?;
     draft.add_read(alloc, key, level, title_value(value), unknown)
 }
@@ -145,7 +155,7 @@ fn add_own_title(
     draft: &mut Draft,
     key: &str,
     container: Container,
-    fields: &[FieldRef<'_>],
+    fields: &Fields<'_>,
 ) -> Result<(), OutOfMemory>
     ensures { OnOk result (so_far draft.new
         ≡ with_row key.now (own_title_row container (fields_view fields.now))
@@ -167,7 +177,7 @@ fn add_host_title(
     key: &str,
     host: Option<Host>,
     container: Container,
-    fields: &[FieldRef<'_>],
+    fields: &Fields<'_>,
 ) -> Result<(), OutOfMemory>
     ensures { OnOk result (so_far draft.new
         ≡ with_any_row key.now (host_title_row host container (fields_view fields.now))
@@ -191,7 +201,7 @@ fn add_main_title(
     alloc: Global,
     draft: &mut Draft,
     key: &str,
-    fields: &[FieldRef<'_>],
+    fields: &Fields<'_>,
 ) -> Result<(), OutOfMemory>
     ensures { OnOk result (so_far draft.new
         ≡ with_row key.now (main_title_row (fields_view fields.now)) (so_far draft.old)) }
@@ -219,7 +229,7 @@ fn add_series_title(
     alloc: Global,
     draft: &mut Draft,
     key: &str,
-    fields: &[FieldRef<'_>],
+    fields: &Fields<'_>,
 ) -> Result<(), OutOfMemory>
     ensures { OnOk result (so_far draft.new
         ≡ with_row key.now (series_title_row (fields_view fields.now)) (so_far draft.old)) }
@@ -241,6 +251,9 @@ fn add_series(
         ≡ with_row key.now (series_row (option_map (λ t. t.now) series.entry)
         (option_map (λ t. t.now) short.entry)) (so_far draft.old)) }
 {
+    if series.is_none() && short.is_none() {
+        return Ok(());
+    }
     let Reading { value, mut unknown } = read_series_if(alloc, series)?;
     let Reading {
         value: short,
@@ -256,7 +269,7 @@ fn add_conference_title(
     draft: &mut Draft,
     key: &str,
     is_given: bool,
-    fields: &[FieldRef<'_>],
+    fields: &Fields<'_>,
 ) -> Result<(), OutOfMemory>
     ensures { OnOk result (so_far draft.new
         ≡ with_any_row key.now (conference_title_row is_given (fields_view fields.now))
@@ -279,7 +292,7 @@ fn add_original_title(
     alloc: Global,
     draft: &mut Draft,
     key: &str,
-    fields: &[FieldRef<'_>],
+    fields: &Fields<'_>,
 ) -> Result<(), OutOfMemory>
     ensures { OnOk result (so_far draft.new
         ≡ with_row key.now (original_title_row (fields_view fields.now)) (so_far draft.old)) }
@@ -300,7 +313,7 @@ fn add_own_titles(
     draft: &mut Draft,
     key: &str,
     kind: Kind,
-    fields: &[FieldRef<'_>],
+    fields: &Fields<'_>,
 ) -> Result<(), OutOfMemory>
     ensures { OnOk result (so_far draft.new
         ≡ with_rows key.now (title_rows kind (fields_view fields.now)) (so_far draft.old)) }
@@ -317,7 +330,7 @@ pub(crate) fn add_titles(
     draft: &mut Draft,
     key: &str,
     kind: Kind,
-    fields: &[FieldRef<'_>],
+    fields: &Fields<'_>,
 ) -> Result<(), OutOfMemory>
     ensures { OnOk result (so_far draft.new
         ≡ with_rows key.now (other_title_rows kind (fields_view fields.now))
@@ -333,7 +346,7 @@ fn add_other_titles(
     draft: &mut Draft,
     key: &str,
     kind: Kind,
-    fields: &[FieldRef<'_>],
+    fields: &Fields<'_>,
 ) -> Result<(), OutOfMemory>
     ensures { OnOk result (so_far draft.new
         ≡ with_rows key.now (other_title_rows kind (fields_view fields.now)) (so_far draft.old)) }

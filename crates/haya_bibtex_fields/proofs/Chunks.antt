@@ -9,8 +9,8 @@ use Rattle.haya_latex.specs.declared.kinds.Kind.{Kind}
 use Rattle.haya_latex.specs.RunViews.{HasText, run_bytes}
 use Rattle.haya_latex.specs.Texts.{bytes_of, char_bytes}
 use Rattle.haya_latex.specs.declared.runs.Run.{Run}
-use Rattle.haya_bibtex_fields.specs.FieldTexts.{character_chunk, chunks_of, chunks_of_runs, followed_by, run_chunk, run_text}
-use Rattle.std.specs.Prelude.{All, encode_utf8, encode_utf8_all}
+use Rattle.haya_bibtex_fields.specs.FieldTexts.{character_chunk, chunks_of, chunks_of_runs, followed_by, run_chunk, run_text, unless_empty}
+use Rattle.std.specs.Prelude.{All, Some, encode_utf8, encode_utf8_all}
 use Rattle.std.proofs.lemmas.List.Elements.{All-head, All-tail}
 use Rattle.std.proofs.lemmas.Str.{len_utf8_bounds, length-encode}
 
@@ -121,6 +121,21 @@ runs_as_characters kind_of rs xs same some =
     ∙ ap (λ bs. followed_by [] (by_bytes kind_of bs)) same
     ∙ sym (characters_by_bytes kind_of [] xs)
 
+-- a text with the bytes of characters is their one chunk
+text_as_characters : (kind_of : Kind → ChunkKind) (k : Kind) (text : List ℕ) (xs : List (ℕ × Kind)) →
+    flat_map char_bytes xs ≡ bytes_of k text → 0 < length text →
+    chunks_of kind_of xs ≡ (text, kind_of k) ∷ []
+text_as_characters kind_of k text xs same some =
+    characters_by_bytes kind_of [] xs
+    ∙ ap (λ bs. followed_by [] (by_bytes kind_of bs)) same
+    ∙ text_pushed kind_of [] k text some
+
+-- which isn't empty
+pub one_chunk_in : (kind_of : Kind → ChunkKind) (k : Kind) (text : List ℕ) (xs : List (ℕ × Kind)) →
+    flat_map char_bytes xs ≡ bytes_of k text → 0 < length text →
+    unless_empty (chunks_of kind_of xs) ≡ Some ((text, kind_of k) ∷ [])
+one_chunk_in kind_of k text xs same some = ap unless_empty (text_as_characters kind_of k text xs same some)
+
 -- ---- plain text
 
 values_of : (k : Kind) (bs : List ℕ) → map (λ b. b.0) (bytes_of k bs) ≡ bs
@@ -153,3 +168,17 @@ plain_characters (x ∷ xs) =
 pub runs_as_plain : (rs : List Run) (xs : List (ℕ × Kind)) → flat_map run_bytes rs ≡ flat_map char_bytes xs →
     flat_map run_text rs ≡ encode_utf8_all (map (λ c. c.0) xs)
 runs_as_plain rs xs same = plain_runs rs ∙ ap (λ bs. map (λ b. b.0) bs) same ∙ plain_characters xs
+
+-- a text with the bytes of characters is theirs
+text_as_plain : (k : Kind) (text : List ℕ) (xs : List (ℕ × Kind)) → flat_map char_bytes xs ≡ bytes_of k text →
+    text ≡ encode_utf8_all (map (λ c. c.0) xs)
+text_as_plain k text xs same = sym (values_of k text) ∙ (sym (ap (λ bs. map (λ b. b.0) bs) same) ∙ plain_characters xs)
+
+some_text : (text : List ℕ) → 0 < length text → unless_empty text ≡ Some text
+some_text [] some = absurd (omega arith)
+some_text (b ∷ bs) some = refl
+
+pub plain_text_in : (k : Kind) (text : List ℕ) (xs : List (ℕ × Kind)) →
+    flat_map char_bytes xs ≡ bytes_of k text → 0 < length text →
+    unless_empty (encode_utf8_all (map (λ c. c.0) xs)) ≡ Some text
+plain_text_in k text xs same some = ap unless_empty (sym (text_as_plain k text xs same)) ∙ some_text text some

@@ -1,5 +1,6 @@
 //! Languages.
-ghost use Rattle.std.specs.Prelude.{◌≡◌, ◌==◌, ◌<◌, IfOk, map, option_map, string_bytes};
+ghost use Rattle.std.specs.Prelude.{◌≡◌, ◌==◌, ◌<◌, IfOk, map, option_map, string_bytes, true};
+ghost use Rattle.std.specs.Char.{to_ascii_lowercase};
 ghost use Rattle.std.specs.List.{slice_split};
 ghost use Rattle.haya_bibtex_fields.specs.FieldTexts.{unknown_in};
 ghost use Rattle.haya_bibtex_fields.specs.Languages.{comma, language_in, language_tags, tag_of};
@@ -9,7 +10,7 @@ ghost use Rattle.haya_bibtex_fields.specs.Tables.{text_under};
 
 use crate::reading::Reading;
 use crate::tables::text_under;
-use crate::texts::read_plain;
+use crate::texts::{is_itself, read_plain};
 use haya_text::OutOfMemory;
 use std::alloc::{AllocError, Global};
 
@@ -98,6 +99,9 @@ const LANGUAGES: &[(&str, &str)] = &[
     ("korean", "ko-KR"),
 ];
 
+// How long the shortest of these names is.
+const SHORTEST: usize = 4;
+
 // The tag of a language by its name in lower case.
 #[tactic(auto, unfolding(crate::specs::Languages::language_tags))]
 fn lower_tag(name: &str) -> Option<&'static str>
@@ -106,10 +110,29 @@ fn lower_tag(name: &str) -> Option<&'static str>
     text_under(LANGUAGES, name)
 }
 
+// Whether a text has no capital letter of ASCII.
+fn is_lower(text: &str) -> bool
+    ensures { result ≡ true → map to_ascii_lowercase text.now ≡ text.now }
+{
+    'bytes: for byte in text.as_bytes() {
+        if byte.is_ascii_uppercase() {
+            return false;
+        }
+    }
+    true
+}
+
 // The tag of a language by its name, in any case.
 fn tag_of(alloc: Global, name: &str) -> Result<Option<&'static str>, AllocError>
     ensures { IfOk result (λ t. option_map (λ s. s.now) t ≡ tag_of name.now) }
 {
+    // No name is as short.
+    if name.len() < SHORTEST {
+        return Ok(None);
+    }
+    if is_lower(name) {
+        return Ok(lower_tag(name));
+    }
     let mut lower = String::from_str(alloc, name)?;
     lower.make_ascii_lowercase();
     Ok(lower_tag(lower.as_str()))
@@ -121,6 +144,17 @@ pub fn read_language(alloc: Global, text: &str) -> Result<Reading<String>, OutOf
     ensures value { IfOk result (λ r. option_map string_bytes r.value ≡ language_in text.now) }
     ensures unknown { IfOk result (λ r. map string_bytes r.unknown.items ≡ unknown_in text.now) }
 {
+    if is_itself(text) {
+        let language = match tag_of(alloc, text)? {
+            Some(tag) => tag,
+            None => text,
+        };
+        let language = String::from_str(alloc, language)?;
+        return Ok(Reading {
+            value: Some(language),
+            unknown: Vec::new(alloc),
+        });
+    }
     let Reading { value, unknown } = read_plain(alloc, text)?;
     let Some(name) = value else {
         return Ok(Reading {

@@ -7,7 +7,7 @@ ghost use Rattle.haya_bibtex_fields.specs.FieldTexts.{unknown_in};
 ghost use Rattle.haya_bibtex_fields.specs.Numbers.{number_in, pages_in};
 
 use crate::reading::Reading;
-use crate::texts::read_plain;
+use crate::texts::{is_itself, read_plain};
 use haya_bibtex_values::single_hyphens;
 use haya_numbers::{Numeric, PageRanges};
 use haya_text::{OutOfMemory, ReadText};
@@ -21,6 +21,13 @@ pub fn read_number(alloc: Global, text: &str) -> Result<Reading<MaybeTyped<Numer
         option_map (maybe_typed_view numeric_view) r.value ≡ number_in text.now) }
     ensures unknown { IfOk result (λ r. map string_bytes r.unknown.items ≡ unknown_in text.now) }
 {
+    if is_itself(text) {
+        let number = MaybeTyped::from_str(alloc, text)?;
+        return Ok(Reading {
+            value: Some(number),
+            unknown: Vec::new(alloc),
+        });
+    }
     let Reading { value, unknown } = read_plain(alloc, text)?;
     let Some(plain) = value else {
         return Ok(Reading {

@@ -1,5 +1,6 @@
 //! Texts in chunks, and plain texts.
-ghost use Rattle.std.specs.Prelude.{◌≡◌, [], None, flat_map, map, option_map, string_bytes};
+ghost use Rattle.std.specs.Prelude.{◌≡◌, ◌∷◌, [], None, Some, flat_map, map, option_map, true};
+ghost use Rattle.std.specs.Prelude.{string_bytes};
 ghost use Rattle.std.specs.Prelude.{IfOk, option_and_then, option_to_list};
 ghost use Rattle.haya_text.specs.Chunks.{chunks};
 ghost use Rattle.haya_bibtex_fields.specs.FieldTexts.{chunks_of_runs, formatted_in, kind_in, plain_kind};
@@ -7,7 +8,7 @@ ghost use Rattle.haya_bibtex_fields.specs.FieldTexts.{plain_in, run_text, title_
 ghost use Rattle.haya_bibtex_fields.specs.FieldTexts.{unknown_of, unless_empty};
 
 use crate::reading::Reading;
-use haya_latex::{Kind, Run, read_text};
+use haya_latex::{Kind, Run, read_text, says_itself};
 use haya_text::{ChunkKind, ChunkedString, OutOfMemory, StringChunk};
 use std::alloc::Global;
 
@@ -122,12 +123,41 @@ pub(crate) fn unless_empty_text(text: String) -> Option<String>
     if text.is_empty() { None } else { Some(text) }
 }
 
+/// Whether a text says just itself.
+pub(crate) fn is_itself(text: &str) -> bool
+    ensures title { result ≡ true
+        → title_in text.now ≡ Some ((text.now, ChunkKind.Normal) ∷ []) }
+    ensures formatted { result ≡ true
+        → formatted_in text.now ≡ Some ((text.now, ChunkKind.Normal) ∷ []) }
+    ensures plain { result ≡ true → plain_in text.now ≡ Some text.now }
+    ensures unknown { result ≡ true → unknown_in text.now ≡ [] }
+{
+    says_itself(text)
+}
+
+// A text as its one chunk.
+fn one_chunk(alloc: Global, text: &str) -> Result<Reading<ChunkedString>, OutOfMemory>
+    ensures value { IfOk result (λ r.
+        option_map chunks r.value ≡ Some ((text.now, ChunkKind.Normal) ∷ [])) }
+    ensures unknown { IfOk result (λ r. map string_bytes r.unknown.items ≡ []) }
+{
+    let chunk = StringChunk::new(String::from_str(alloc, text)?, ChunkKind::Normal);
+    let chunks = ChunkedString::from_chunk(alloc, chunk)?;
+    Ok(Reading {
+        value: Some(chunks),
+        unknown: Vec::new(alloc),
+    })
+}
+
 /// What the text of a title says, with all its kinds of characters: those that braces protect are
 /// verbatim, formulas are math. Nothing where no character is left.
 pub fn read_title(alloc: Global, text: &str) -> Result<Reading<ChunkedString>, OutOfMemory>
     ensures value { IfOk result (λ r. option_map chunks r.value ≡ title_in text.now) }
     ensures unknown { IfOk result (λ r. map string_bytes r.unknown.items ≡ unknown_in text.now) }
 {
+    if is_itself(text) {
+        return one_chunk(alloc, text);
+    }
     let read = read_text(alloc, text)?;
     let chunks = chunks_of(alloc, Kept::All, read.runs)?;
     Ok(Reading {
@@ -142,6 +172,9 @@ pub fn read_formatted(alloc: Global, text: &str) -> Result<Reading<ChunkedString
     ensures value { IfOk result (λ r. option_map chunks r.value ≡ formatted_in text.now) }
     ensures unknown { IfOk result (λ r. map string_bytes r.unknown.items ≡ unknown_in text.now) }
 {
+    if is_itself(text) {
+        return one_chunk(alloc, text);
+    }
     let read = read_text(alloc, text)?;
     let chunks = chunks_of(alloc, Kept::NoVerbatim, read.runs)?;
     Ok(Reading {
@@ -156,6 +189,12 @@ pub fn read_plain(alloc: Global, text: &str) -> Result<Reading<String>, OutOfMem
     ensures value { IfOk result (λ r. option_map string_bytes r.value ≡ plain_in text.now) }
     ensures unknown { IfOk result (λ r. map string_bytes r.unknown.items ≡ unknown_in text.now) }
 {
+    if is_itself(text) {
+        return Ok(Reading {
+            value: Some(String::from_str(alloc, text)?),
+            unknown: Vec::new(alloc),
+        });
+    }
     let read = read_text(alloc, text)?;
     let plain = plain_of(alloc, read.runs)?;
     Ok(Reading {

@@ -83,7 +83,7 @@ targets_within es (r ∷ rs) j c = by (targets_within es rs j) (position_of es r
     | inr later ↦ more later
   ]
 
-targets_at : (es : List EntryBytes) (i : ℕ) → i < length es → targets (reference_graph es) i ≡ entry_targets es (entry_at es i)
+pub targets_at : (es : List EntryBytes) (i : ℕ) → i < length es → targets (reference_graph es) i ≡ entry_targets es (entry_at es i)
 targets_at es i l = get_or-map (entry_targets es) es i no_entry [] l
 
 pub references_whole : (es : List EntryBytes) → IsWhole (reference_graph es)

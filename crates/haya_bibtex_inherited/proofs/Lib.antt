@@ -10,3 +10,4 @@ pub mod Giving
 pub mod Positions
 pub mod Filling
 pub mod Making
+pub mod Alone

@@ -1,6 +1,7 @@
 //! The entries of a library, with all their fields.
 ghost use Rattle.std.specs.Prelude.{◌≡◌, ◌<◌, ◌≤◌, ◌++◌, ℕ, All, List, IfOk, IfSome, OnOk, filter};
-ghost use Rattle.std.specs.Prelude.{get_or, length, map};
+ghost use Rattle.std.specs.Prelude.{[], codes, false, get_or, length, map};
+ghost use Rattle.std.specs.Str.{bytes_eq};
 ghost use Rattle.haya_bibtex_inherited.specs.Entries.{EntryBytes};
 ghost use Rattle.haya_bibtex_inherited.specs.Graphs.{IsInOrder};
 ghost use Rattle.haya_bibtex_inherited.specs.Inherited.{AreAllFields, IsLibrary, all_fields};
@@ -10,7 +11,7 @@ ghost use Rattle.haya_bibtex_inherited.specs.Inherited.{reference_graph, referen
 ghost use Rattle.haya_bibtex_inherited.specs.Inherited.{with_source};
 ghost use Rattle.haya_bibtex_inherited.specs.Lists.{have_same_rank, lists_view};
 ghost use Rattle.haya_bibtex_inherited.specs.FieldNames.{KnowsNames};
-ghost use Rattle.haya_bibtex_inherited.specs.References.{ReferenceBytes};
+ghost use Rattle.haya_bibtex_inherited.specs.References.{ReferenceBytes, references};
 ghost use Rattle.haya_bibtex_inherited.specs.Sources.{all_sources_view, source_view};
 ghost use Rattle.haya_bibtex_inherited.specs.Sources.{sources_view};
 ghost use Rattle.haya_bibtex_inherited.specs.Views.{entry_bytes, entry_view, fields_view};
@@ -19,7 +20,7 @@ ghost use Rattle.haya_bibtex_inherited.specs.Views.{reference_view};
 use crate::changes::changes_between;
 use crate::field::{FieldRef, Fields, add_given, own_fields, own_list};
 use crate::order::{Order, in_order};
-use crate::reference::Reference;
+use crate::reference::{Reference, may_refer};
 use crate::source::{Source, all_sources, reference_graph};
 use haya_bibtex_text::Entry;
 use std::alloc::{AllocError, Global};
@@ -201,6 +202,13 @@ fn passed_over<'a>(
     Ok(passed_over)
 }
 
+// Whether an entry is of the type `xdata`, which only gives others its fields.
+fn is_xdata(entry: &Entry) -> bool
+    ensures { result ≡ bytes_eq (entry_bytes entry.now).kind (codes "xdata") }
+{
+    entry.kind.as_str() == "xdata"
+}
+
 // The entries with these fields, but those of the type `xdata`. The error: there was no memory.
 fn entries_with<'a>(
     alloc: Global,
@@ -214,7 +222,7 @@ fn entries_with<'a>(
     let mut library = Vec::new(alloc);
     'lists: while let Some(fields) = lists.pop() {
         let entry = &entries[lists.len()];
-        if entry.kind.as_str() == "xdata" {
+        if is_xdata(entry) {
             continue 'lists;
         }
         library.push(EntryRef {
@@ -227,10 +235,41 @@ fn entries_with<'a>(
     Ok(library)
 }
 
-/// The entries of the library that entries of a `.bib` file make, each with its own fields and
-/// those that it inherits, and the references that are passed over. The error: there was no memory
-/// for them.
-pub fn library_entries<'a>(
+// Whether any of the entries may refer to others.
+fn may_any_refer(entries: &[Entry]) -> bool
+    ensures { result ≡ false → All (λ e. references e ≡ []) (map entry_bytes entries.now) }
+{
+    'entries: for entry in entries {
+        if may_refer(entry) {
+            return true;
+        }
+    }
+    false
+}
+
+// The entries with their own fields alone, but those of the type `xdata`. The error: there was no
+// memory for them.
+fn own_entries<'a>(alloc: Global, entries: &'a [Entry]) -> Result<Vec<EntryRef<'a>>, AllocError>
+    ensures { IfOk result (λ v. map entry_view v.items ≡ entries_with
+        (map entry_bytes entries.now) (map (λ e. e.fields) (map entry_bytes entries.now))) }
+{
+    let mut library = Vec::with_capacity(alloc, entries.len())?;
+    'entries: for entry in entries {
+        if is_xdata(entry) {
+            continue 'entries;
+        }
+        let fields = own_list(alloc, entry.fields.as_slice())?;
+        library.push(EntryRef {
+            kind: entry.kind.as_str(),
+            key: entry.key.as_str(),
+            fields,
+        })?;
+    }
+    Ok(library)
+}
+
+// The library of entries that may refer to each other.
+fn referring_entries<'a>(
     alloc: Global,
     entries: &'a [Entry],
 ) -> Result<LibraryEntries<'a>, AllocError>
@@ -249,5 +288,31 @@ pub fn library_entries<'a>(
     Ok(LibraryEntries {
         entries,
         passed_over,
+    })
+}
+
+/// The entries of the library that entries of a `.bib` file make, each with its own fields and
+/// those that it inherits, and the references that are passed over. The error: there was no memory
+/// for them.
+pub fn library_entries<'a>(
+    alloc: Global,
+    entries: &'a [Entry],
+) -> Result<LibraryEntries<'a>, AllocError>
+    ensures is { IfOk result (λ l. IsLibrary (map entry_bytes entries.now)
+        (map entry_view l.entries.items) (map reference_view l.passed_over.items)) }
+    ensures only { IfOk result (λ l. (es : List EntryBytes) (rs : List ReferenceBytes) →
+        IsLibrary (map entry_bytes entries.now) es rs →
+        (es ≡ map entry_view l.entries.items) × (rs ≡ map reference_view l.passed_over.items)) }
+{
+    if may_any_refer(entries) {
+        return match referring_entries(alloc, entries) {
+            Ok(library) => Ok(library),
+            Err(error) => Err(error),
+        };
+    }
+    let entries = own_entries(alloc, entries)?;
+    Ok(LibraryEntries {
+        entries,
+        passed_over: Vec::new(alloc),
     })
 }

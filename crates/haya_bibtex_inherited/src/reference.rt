@@ -1,5 +1,5 @@
 //! The keys by which an entry refers to others.
-ghost use Rattle.std.specs.Prelude.{◌≡◌, ◌==◌, ◌++◌, IfOk, OnOk, codes, map, option_map};
+ghost use Rattle.std.specs.Prelude.{◌≡◌, ◌==◌, ◌++◌, [], IfOk, OnOk, codes, false, map, option_map};
 ghost use Rattle.std.specs.List.{slice_split};
 ghost use Rattle.haya_bibtex_inherited.specs.Entries.{text_of};
 ghost use Rattle.haya_bibtex_inherited.specs.References.{comma, crossref_references, key_in};
@@ -130,6 +130,14 @@ fn push_crossref<'a>(
     };
     push_key(references, Link::Crossref, text)?;
     Ok(())
+}
+
+/// Whether an entry may refer to others: it has a field in which it would.
+pub(crate) fn may_refer(entry: &Entry) -> bool
+    ensures { result ≡ false → references (entry_bytes entry.now) ≡ [] }
+{
+    let fields = entry.fields.as_slice();
+    text_of(fields, "xdata").is_some() || text_of(fields, "crossref").is_some()
 }
 
 /// The references of an entry: those in `xdata`, and then the one in `crossref`. The error: there

@@ -8,10 +8,10 @@ ghost use Rattle.haya_bibtex_names.specs.Extended.{without_quotes};
 ghost use Rattle.haya_bibtex_names.specs.NameViews.{name_view};
 ghost use Rattle.haya_bibtex_names.specs.Words.{texts};
 
-use crate::parts::{sides, white_length, without_gap, words_text};
+use crate::parts::{sides, spaced_text, white_length, without_gap};
 use crate::plain::NameTexts;
 use crate::signs::is_sign;
-use crate::words::words_of;
+use crate::words::is_single;
 use haya_latex::Kind;
 use std::alloc::{AllocError, Global};
 
@@ -34,26 +34,26 @@ pub(crate) fn is_extended(alloc: Global, text: &[(char, Kind)]) -> Result<bool, 
         return Ok(false);
     };
     let parts = parts(alloc, text)?;
-    are_labelled(alloc, parts.as_slice())
+    Ok(are_labelled(parts.as_slice()))
 }
 
-fn are_labelled(alloc: Global, parts: &[&[(char, Kind)]]) -> Result<bool, AllocError>
-    ensures { IfOk result (λ b. b ≡ list_all is_labelled (texts parts.now)) }
+fn are_labelled(parts: &[&[(char, Kind)]]) -> bool
+    ensures { result ≡ list_all is_labelled (texts parts.now) }
 {
     'parts: for part in parts {
-        if !is_labelled(alloc, part)? {
-            return Ok(false);
+        if !is_labelled(part) {
+            return false;
         }
     }
-    Ok(true)
+    true
 }
 
-fn is_labelled(alloc: Global, part: &[(char, Kind)]) -> Result<bool, AllocError>
-    ensures { IfOk result (λ b. b ≡ is_labelled part.now) }
+fn is_labelled(part: &[(char, Kind)]) -> bool
+    ensures { result ≡ is_labelled part.now }
 {
     match sides('=', part) {
-        Some((front, _)) => Ok(words_of(alloc, front)?.len() == 1),
-        None => Ok(false),
+        Some((front, _)) => is_single(front),
+        None => false,
     }
 }
 
@@ -62,7 +62,7 @@ fn label(alloc: Global, part: &[(char, Kind)]) -> Result<String, AllocError>
     ensures { IfOk result (λ s. string_bytes s ≡ label part.now) }
 {
     match sides('=', part) {
-        Some((front, _)) => words_text(alloc, words_of(alloc, front)?.as_slice()),
+        Some((front, _)) => spaced_text(alloc, front),
         None => Ok(String::new(alloc)),
     }
 }
@@ -96,10 +96,7 @@ fn value(alloc: Global, part: &[(char, Kind)]) -> Result<String, AllocError>
     ensures { IfOk result (λ s. string_bytes s ≡ value part.now) }
 {
     match sides('=', part) {
-        Some((_, behind)) => {
-            let words = words_of(alloc, without_quotes(trim(behind)))?;
-            words_text(alloc, words.as_slice())
-        }
+        Some((_, behind)) => spaced_text(alloc, without_quotes(trim(behind))),
         None => Ok(String::new(alloc)),
     }
 }

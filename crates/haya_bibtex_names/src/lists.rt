@@ -1,12 +1,12 @@
 //! The persons of a list of names.
-ghost use Rattle.std.specs.Prelude.{◌≡◌, ◌++◌, IfOk, OnOk, map, option_map};
+ghost use Rattle.std.specs.Prelude.{◌≡◌, ◌++◌, IfOk, OnOk, flat_map, map, option_map};
 ghost use Rattle.std.specs.Prelude.{string_bytes};
 ghost use Rattle.std.specs.List.{slice_split};
 ghost use Rattle.std.specs.Str.{chars};
 ghost use Rattle.haya_bibtex_names.specs.Lists.{is_only_others, odd_words, odd_words_in, person_of};
 ghost use Rattle.haya_bibtex_names.specs.Lists.{persons, persons_in, with_blanks};
-ghost use Rattle.haya_bibtex_names.specs.NameViews.{name_view, names_view};
-ghost use Rattle.haya_bibtex_names.specs.Words.{is_and, texts};
+ghost use Rattle.haya_bibtex_names.specs.NameViews.{name_view};
+ghost use Rattle.haya_bibtex_names.specs.Words.{is_and, texts, words};
 ghost use Rattle.haya_latex.specs.Texts.{name_unknown};
 ghost use Rattle.haya_people.specs.Person.{person_view};
 ghost use Rattle.haya_people.specs.Reading.{text_if_any};
@@ -14,7 +14,7 @@ ghost use Rattle.haya_people.specs.Reading.{text_if_any};
 use crate::extended::{extended_texts, is_extended, parts, push_odd};
 use crate::parts::{room_for, without_gap};
 use crate::plain::{NameTexts, plain_texts};
-use crate::words::{is_and, is_others, words_of};
+use crate::words::{is_and, is_others, next_word};
 use haya_latex::{Kind, Names, read_names};
 use haya_people::Person;
 use std::alloc::{AllocError, Global};
@@ -53,13 +53,9 @@ pub fn read_persons(alloc: Global, text: &str) -> Result<Persons, AllocError>
         ≡ name_unknown (chars text.now)) }
 {
     let Names { chars, unknown } = read_names(alloc, text)?;
-    let words = words_of(alloc, chars.as_slice())?;
     let mut persons = Vec::new(alloc);
     let mut odd_words = Vec::new(alloc);
-    let names = names_of(alloc, words.as_slice())?;
-    'names: for name in &names {
-        push_name(alloc, name, &mut persons, &mut odd_words)?;
-    }
+    push_names(alloc, chars.as_slice(), &mut persons, &mut odd_words)?;
     Ok(Persons {
         persons,
         odd_words,
@@ -67,21 +63,41 @@ pub fn read_persons(alloc: Global, text: &str) -> Result<Persons, AllocError>
     })
 }
 
-// The names that words say, each as its words.
-fn names_of<'a, 'b>(
+// Puts what the names of a text say behind what others say.
+fn push_names(
     alloc: Global,
-    words: &'a [&'b [(char, Kind)]],
-) -> Result<Vec<&'a [&'b [(char, Kind)]]>, AllocError>
-    ensures { IfOk result (λ v. names_view v.items ≡ slice_split is_and (texts words.now)) }
+    text: &[(char, Kind)],
+    persons: &mut Vec<Person>,
+    odd_words: &mut Vec<String>,
+) -> Result<(), AllocError>
+    ensures persons { OnOk result (map person_view persons.new.items
+        ≡ map person_view persons.old.items
+        ++ flat_map persons_in (slice_split is_and (words text.now))) }
+    ensures odd { OnOk result (map string_bytes odd_words.new.items
+        ≡ map string_bytes odd_words.old.items
+        ++ flat_map odd_words_in (slice_split is_and (words text.now))) }
 {
-    let names = words.split(|word| is_and(word)).collect(alloc)?;
-    Ok(names)
+    let mut name = Vec::new(alloc);
+    let mut room = Vec::new(alloc);
+    let mut left = text;
+    'words: while let Some((word, behind)) = next_word(left) {
+        if is_and(word) {
+            push_name(alloc, name.as_slice(), &mut room, persons, odd_words)?;
+            name.clear();
+        } else {
+            name.push(word)?;
+        }
+        left = behind;
+    }
+    push_name(alloc, name.as_slice(), &mut room, persons, odd_words)?;
+    Ok(())
 }
 
-// Puts what a name of these words says behind what others say.
+// Puts what a name of these words says behind what others say; its text is written to `room`.
 fn push_name(
     alloc: Global,
     words: &[&[(char, Kind)]],
+    room: &mut Vec<(char, Kind)>,
     persons: &mut Vec<Person>,
     odd_words: &mut Vec<String>,
 ) -> Result<(), AllocError>
@@ -93,8 +109,8 @@ fn push_name(
     if is_only_others(words) {
         return Ok(());
     }
-    let text = with_blanks(alloc, words)?;
-    let text = without_gap(text.as_slice());
+    with_blanks(room, words)?;
+    let text = without_gap(room.as_slice());
     let name = if is_extended(alloc, text)? {
         let parts = parts(alloc, text)?;
         push_odd(alloc, parts.as_slice(), odd_words)?;
@@ -118,16 +134,17 @@ fn is_only_others(words: &[&[(char, Kind)]]) -> bool
     }
 }
 
-// Words as a text, with a blank in front of each.
-fn with_blanks(alloc: Global, words: &[&[(char, Kind)]]) -> Result<Vec<(char, Kind)>, AllocError>
-    ensures { IfOk result (λ v. v.items ≡ with_blanks (texts words.now)) }
+// Writes words as a text, with a blank in front of each.
+fn with_blanks(text: &mut Vec<(char, Kind)>, words: &[&[(char, Kind)]]) -> Result<(), AllocError>
+    ensures { OnOk result (text.new.items ≡ with_blanks (texts words.now)) }
 {
-    let mut text = Vec::with_capacity(alloc, room_for(words))?;
+    text.clear();
+    text.reserve(room_for(words))?;
     'words: for word in words {
         text.push((' ', Kind::Free))?;
         text.extend_from_slice(word)?;
     }
-    Ok(text)
+    Ok(())
 }
 
 // A text, if it isn't empty.

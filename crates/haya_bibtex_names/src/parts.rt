@@ -1,11 +1,12 @@
 //! Texts between signs, and the texts of words.
 ghost use Rattle.std.specs.Prelude.{◌≡◌, ◌∷◌, ◌++◌, ◌<◌, ◌≤◌, ℕ, List, map, length};
 ghost use Rattle.std.specs.Prelude.{encode_utf8_all, string_bytes, IfOk, IfSome, OnOk, option_map};
+ghost use Rattle.std.specs.Prelude.{if◌then◌else◌};
 ghost use Rattle.std.specs.List.{position, prefix_len};
 ghost use Rattle.haya_bibtex_names.specs.Parts.{is_blank, sides, single_blanks_in, without_end};
 ghost use Rattle.haya_bibtex_names.specs.Parts.{words_text};
 ghost use Rattle.haya_bibtex_names.specs.Signs.{is_gap, is_sign, is_white};
-ghost use Rattle.haya_bibtex_names.specs.Words.{texts};
+ghost use Rattle.haya_bibtex_names.specs.Words.{texts, words};
 
 use crate::signs::{is_gap, is_sign, is_white};
 use haya_latex::Kind;
@@ -83,6 +84,30 @@ pub(crate) fn words_text(alloc: Global, words: &[&[(char, Kind)]]) -> Result<Str
     'words: for word in words {
         push_single(&mut spaced, ' ')?;
         push_word(&mut spaced, word)?;
+    }
+    Ok(spaced.text)
+}
+
+// A character, or a blank in place of a white one.
+fn shown(x: &(char, Kind)) -> char
+    ensures { result ≡ (if is_white x.now then 32 else x.now.0) }
+{
+    let (c, _) = *x;
+    if is_white(x) { ' ' } else { c }
+}
+
+/// The text of the words of a text: without U+00A0, and with single blanks.
+#[tactic(auto, using(crate::proofs::SpacedTexts::spaced))]
+pub(crate) fn spaced_text(alloc: Global, text: &[(char, Kind)]) -> Result<String, AllocError>
+    ensures { IfOk result (λ s. string_bytes s ≡ words_text (words text.now)) }
+{
+    let mut spaced = Spaced {
+        text: String::with_capacity(alloc, text.len())?,
+        started: false,
+        gap: true,
+    };
+    'chars: for x in text {
+        push_single(&mut spaced, shown(x))?;
     }
     Ok(spaced.text)
 }

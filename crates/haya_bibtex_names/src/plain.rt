@@ -1,14 +1,14 @@
 //! The parts of a name by its words and commas.
-ghost use Rattle.std.specs.Prelude.{◌≡◌, ◌≤◌, IfOk, length};
+ghost use Rattle.std.specs.Prelude.{◌≡◌, ◌≤◌, IfOk, drop, length, string_bytes, take};
 ghost use Rattle.haya_bibtex_names.specs.NameViews.{name_view};
 ghost use Rattle.std.specs.List.{position_or_len};
-ghost use Rattle.haya_bibtex_names.specs.Parts.{sides};
+ghost use Rattle.haya_bibtex_names.specs.Parts.{sides, words_text};
 ghost use Rattle.haya_bibtex_names.specs.Plain.{by_second, by_words, front, given_count, low_end};
-ghost use Rattle.haya_bibtex_names.specs.Plain.{name_texts, plain_texts, prefix_count};
-ghost use Rattle.haya_bibtex_names.specs.Words.{is_low, texts};
+ghost use Rattle.haya_bibtex_names.specs.Plain.{plain_texts, prefix_count};
+ghost use Rattle.haya_bibtex_names.specs.Words.{is_low, texts, words};
 
-use crate::parts::{sides, words_text};
-use crate::words::{is_low, words_of};
+use crate::parts::{sides, spaced_text, words_text};
+use crate::words::{is_low, is_single, words_of};
 use haya_latex::Kind;
 use std::alloc::{AllocError, Global};
 
@@ -76,23 +76,29 @@ fn prefix_count(words: &[&[(char, Kind)]]) -> usize
     low_end(front(words))
 }
 
-// The texts of a family part, a suffix and a given name.
-fn name_texts(
-    alloc: Global,
-    family: &[&[(char, Kind)]],
-    suffix: &[&[(char, Kind)]],
-    given: &[&[(char, Kind)]],
-) -> Result<NameTexts, AllocError>
-    ensures { IfOk result (λ t. name_view t
-        ≡ name_texts (texts family.now) (texts suffix.now) (texts given.now)) }
+// The name and the prefix of a family part of these words.
+fn family_of(alloc: Global, words: &[&[(char, Kind)]]) -> Result<(String, String), AllocError>
+    ensures name { IfOk result (λ p. string_bytes p.0
+        ≡ words_text (drop (prefix_count (texts words.now)) (texts words.now))) }
+    ensures prefix { IfOk result (λ p. string_bytes p.1
+        ≡ words_text (take (prefix_count (texts words.now)) (texts words.now))) }
 {
-    let (prefix, name) = family.split_at(prefix_count(family));
-    Ok(NameTexts {
-        family: words_text(alloc, name)?,
-        prefix: words_text(alloc, prefix)?,
-        given: words_text(alloc, given)?,
-        suffix: words_text(alloc, suffix)?,
-    })
+    let (prefix, name) = words.split_at(prefix_count(words));
+    Ok((words_text(alloc, name)?, words_text(alloc, prefix)?))
+}
+
+// The name and the prefix of a family part.
+fn family_in(alloc: Global, text: &[(char, Kind)]) -> Result<(String, String), AllocError>
+    ensures name { IfOk result (λ p. string_bytes p.0
+        ≡ words_text (drop (prefix_count (words text.now)) (words text.now))) }
+    ensures prefix { IfOk result (λ p. string_bytes p.1
+        ≡ words_text (take (prefix_count (words text.now)) (words text.now))) }
+{
+    // Most family parts are a single word, which has no prefix.
+    if is_single(text) {
+        return Ok((spaced_text(alloc, text)?, String::new(alloc)));
+    }
+    family_of(alloc, words_of(alloc, text)?.as_slice())
 }
 
 // The texts of a name without commas.
@@ -100,7 +106,13 @@ fn by_words(alloc: Global, words: &[&[(char, Kind)]]) -> Result<NameTexts, Alloc
     ensures { IfOk result (λ t. name_view t ≡ by_words (texts words.now)) }
 {
     let (given, family) = words.split_at(given_count(words));
-    name_texts(alloc, family, &[], given)
+    let (family, prefix) = family_of(alloc, family)?;
+    Ok(NameTexts {
+        family,
+        prefix,
+        given: words_text(alloc, given)?,
+        suffix: String::new(alloc),
+    })
 }
 
 // The texts of a family part, and of what is behind its comma.
@@ -112,23 +124,17 @@ fn by_commas(
     ensures { IfOk result (λ t. name_view t
         ≡ by_second family.now rest.now (sides 44 rest.now)) }
 {
-    let family = words_of(alloc, family)?;
-    match sides(',', rest) {
-        None => {
-            let given = words_of(alloc, rest)?;
-            name_texts(alloc, family.as_slice(), &[], given.as_slice())
-        }
-        Some((suffix, given)) => {
-            let suffix = words_of(alloc, suffix)?;
-            let given = words_of(alloc, given)?;
-            name_texts(
-                alloc,
-                family.as_slice(),
-                suffix.as_slice(),
-                given.as_slice(),
-            )
-        }
-    }
+    let (family, prefix) = family_in(alloc, family)?;
+    let (given, suffix) = match sides(',', rest) {
+        None => (spaced_text(alloc, rest)?, String::new(alloc)),
+        Some((suffix, given)) => (spaced_text(alloc, given)?, spaced_text(alloc, suffix)?),
+    };
+    Ok(NameTexts {
+        family,
+        prefix,
+        given,
+        suffix,
+    })
 }
 
 /// The texts of a name by its words and its first two commas.

@@ -1,10 +1,10 @@
 -- Texts that grow by a character.
-use Rattle.std.proofs.Common.{◌≡◌, ◌<◌, ℕ, ◌+◌, ◌≤◌, List, [], ◌∷◌, ◌++◌, length, take, map, get_or, ap, sym, ◌∙◌, arith, append_assoc, append-nil, length-append}
+use Rattle.std.proofs.Common.{◌≡◌, ◌<◌, ℕ, ◌+◌, ◌≤◌, List, [], ◌∷◌, ◌++◌, length, take, drop, map, get_or, ap, sym, ◌∙◌, arith, append_assoc, append-nil, length-append}
 use Rattle.std.proofs.Math.Seq.{drop-append_seam, take-append_seam}
-use Rattle.std.proofs.lemmas.Str.{IsCharBoundary-from_take, IsUtf8-drop, IsUtf8-string_bytes, chars-append, chars-nil, chars_past_char}
-use Rattle.std.proofs.lemmas.List.{map-append, take_more}
+use Rattle.std.proofs.lemmas.Str.{IsCharBoundary-from_take, IsUtf8-drop, IsUtf8-string_bytes, IsUtf8-take, chars-append, chars-nil, chars_past_char}
+use Rattle.std.proofs.lemmas.List.{map-append, take-append-drop, take_more}
 use Rattle.std.specs.Char.{encode_utf8}
-use Rattle.std.specs.Str.{IsUtf8, chars}
+use Rattle.std.specs.Str.{IsCharBoundary, IsUtf8, chars}
 use Rattle.std.specs.Prelude.{String}
 use Rattle.std.specs.String.{string_bytes}
 use Rattle.std.specs.declared.alloc.Global.{Global}
@@ -47,3 +47,9 @@ pub take-more : (before old new xs : List ℕ) (i c : ℕ) → i < length xs →
 take-more before old new xs i c l at so_far grown =
     let more : take (i + 1) xs ≡ take i xs ++ (c ∷ []) = take_more xs i c l ∙ ap (λ x. take i xs ++ (x ∷ [])) (sym at) in
     rw (grown, so_far, more) (append_assoc before (take i xs) (c ∷ []))
+
+-- a text that is cut between two characters
+pub chars-cut : (bs front back : List ℕ) (n : ℕ) → IsUtf8 bs → IsCharBoundary bs n → front ≡ take n bs → back ≡ drop n bs
+    → chars bs ≡ chars front ++ chars back
+chars-cut bs front back n u at f b =
+    rw (f, b) (ap chars (sym (take-append-drop n bs)) ∙ chars-append (take n bs) (drop n bs) (IsUtf8-take bs n u at))

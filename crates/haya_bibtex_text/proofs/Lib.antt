@@ -6,6 +6,7 @@ pub mod ItemByItem
 pub mod Stopping
 pub mod Spending
 pub mod UsesLeft
+pub mod Collecting
 pub mod Characters
 pub mod Lookups
 pub mod Keeping
@@ -14,3 +15,7 @@ pub mod Shorter
 pub mod Reading
 pub mod SomeOutcome
 pub mod Outcome
+pub mod Plain
+pub mod Bits
+pub mod White
+pub mod Filled

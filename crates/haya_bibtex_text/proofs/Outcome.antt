@@ -1,7 +1,7 @@
 -- A text has one outcome.
 use Rattle.std.proofs.Common.{◌≡◌, ℕ, List, ◌⊎◌, Result, Ok, Err, inl, inr, ap, refl, sym, ◌∙◌}
 use Rattle.haya_bibtex_text.specs.Bibliography.{BibliographyTexts, bibliography}
-use Rattle.haya_bibtex_text.specs.Items.{Fails, RawItem, Says}
+use Rattle.haya_bibtex_text.specs.Items.{RawItem, Says}
 use Rattle.haya_bibtex_text.specs.Outcomes.{ErrsBy, HasFault, IsRefused, Reads, by_grammar, by_strings, error_of}
 use Rattle.haya_bibtex_text.specs.Stops.{StopsBy}
 use Rattle.haya_bibtex_text.specs.declared.fault.Stop.{Stop}
@@ -46,15 +46,10 @@ same_fault text f g h k = h.is ∙ ap (fault_of text) (one_refusal h.refused k.r
 pub not_both : (text : List ℕ) (b : BibliographyTexts) (f : Fault) → Reads text b → HasFault text f → ⊥
 not_both text b f r h = reads_or_refused r.said r.fits h.refused
 
--- the error of a stop, in reading the items and in what they come to
-pub errs_of_grammar : (text : List ℕ) (e : Stop) → StopsBy (Fails text) e → ErrsBy (HasFault text) (error_of text e)
-errs_of_grammar text (stop.Refused f) fails = record { refusal = f; refused = by_grammar fails; is = refl }
-errs_of_grammar text stop.OutOfMemory fails = tt
-
-pub errs_of_strings : (text : List ℕ) (is : List RawItem) → Says text is → (e : Stop)
-    → StopsBy (λ f. spend (room_of text) (uses is) ≡ Err f) e → ErrsBy (HasFault text) (error_of text e)
-errs_of_strings text is said (stop.Refused f) none = record { refusal = f; refused = by_strings said none; is = refl }
-errs_of_strings text is said stop.OutOfMemory none = tt
+-- the error of a stop
+pub errs_of_refusal : (text : List ℕ) (e : Stop) → StopsBy (IsRefused text) e → ErrsBy (HasFault text) (error_of text e)
+errs_of_refusal text (stop.Refused f) fails = record { refusal = f; refused = fails; is = refl }
+errs_of_refusal text stop.OutOfMemory fails = tt
 
 pub errs_by : (P Q : Fault → Type 0) → ((f : Fault) → P f → Q f) → (e : ReadError) → ErrsBy P e → ErrsBy Q e
 errs_by P Q more (Refused f) p = more f p

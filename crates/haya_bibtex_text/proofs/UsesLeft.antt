@@ -1,14 +1,10 @@
 -- The uses of strings in what is left of a list, by its first element.
 use Rattle.std.proofs.Common.{◌≡◌, ℕ, ◌+◌, ◌<◌, List, ◌∷◌, ◌++◌, length, get_or, drop, map, ap, sym, ◌∙◌, add-one, drop-cons}
-use Rattle.haya_bibtex_text.specs.Bibliography.{keys_behind, strings_behind}
-use Rattle.haya_bibtex_text.specs.FieldViews.{field_view}
-use Rattle.haya_bibtex_text.specs.ItemViews.{item_view}
-use Rattle.haya_bibtex_text.specs.Names.{Names}
+use Rattle.haya_bibtex_text.specs.FieldViews.{field_view, pieces_of}
 use Rattle.haya_bibtex_text.specs.PieceViews.{piece_view}
 use Rattle.haya_bibtex_text.specs.Strings.{Strings, with_definition}
-use Rattle.haya_bibtex_text.specs.Uses.{definition_uses, field_uses, item_uses, piece_uses, uses_behind, value_uses}
+use Rattle.haya_bibtex_text.specs.Uses.{definition_uses, field_uses, piece_uses, value_uses}
 use Rattle.haya_bibtex_text.specs.declared.fields.WrittenField.{WrittenField}
-use Rattle.haya_bibtex_text.specs.declared.items.Item.{Item}
 use Rattle.haya_bibtex_text.specs.declared.pieces.Piece.{Piece}
 
 drop_here : {A : Type 0} (xs : List A) (i : ℕ) (d : A) → i < length xs → drop i xs ≡ get_or xs i d ∷ drop (i + 1) xs
@@ -21,21 +17,14 @@ of_value ss ps i d h = ap (λ (l : List Piece). value_uses ss (map piece_view l)
 
 pub of_fields : (ss : Strings) (fs : List WrittenField) (i : ℕ) (f : WrittenField) → i < length fs → f ≡ get_or fs i f →
     field_uses ss (map field_view (drop i fs))
-    ≡ value_uses ss (map piece_view f.value.items) ++ field_uses ss (map field_view (drop (i + 1) fs))
+    ≡ value_uses ss (map piece_view (pieces_of f.value)) ++ field_uses ss (map field_view (drop (i + 1) fs))
 of_fields ss fs i f h is =
     ap (λ (l : List WrittenField). field_uses ss (map field_view l)) (drop_here fs i f h)
-    ∙ ap (λ (x : WrittenField). value_uses ss (map piece_view x.value.items) ++ field_uses ss (map field_view (drop (i + 1) fs))) (sym is)
+    ∙ ap (λ (x : WrittenField). value_uses ss (map piece_view (pieces_of x.value)) ++ field_uses ss (map field_view (drop (i + 1) fs))) (sym is)
 
 pub of_definitions : (ss : Strings) (fs : List WrittenField) (i : ℕ) (f : WrittenField) → i < length fs → f ≡ get_or fs i f →
     definition_uses ss (map field_view (drop i fs))
-    ≡ value_uses ss (map piece_view f.value.items) ++ definition_uses (with_definition ss (field_view f)) (map field_view (drop (i + 1) fs))
+    ≡ value_uses ss (map piece_view (pieces_of f.value)) ++ definition_uses (with_definition ss (field_view f)) (map field_view (drop (i + 1) fs))
 of_definitions ss fs i f h is =
     ap (λ (l : List WrittenField). definition_uses ss (map field_view l)) (drop_here fs i f h)
-    ∙ ap (λ (x : WrittenField). value_uses ss (map piece_view x.value.items) ++ definition_uses (with_definition ss (field_view x)) (map field_view (drop (i + 1) fs))) (sym is)
-
-pub of_items : (ss : Strings) (keys : Names) (is : List Item) (i : ℕ) (x : Item) → i < length is → x ≡ get_or is i x →
-    uses_behind ss keys (map item_view (drop i is))
-    ≡ item_uses ss keys (item_view x) ++ uses_behind (strings_behind ss (item_view x)) (keys_behind keys (item_view x)) (map item_view (drop (i + 1) is))
-of_items ss keys is i x h same =
-    ap (λ (l : List Item). uses_behind ss keys (map item_view l)) (drop_here is i x h)
-    ∙ ap (λ (y : Item). item_uses ss keys (item_view y) ++ uses_behind (strings_behind ss (item_view y)) (keys_behind keys (item_view y)) (map item_view (drop (i + 1) is))) (sym same)
+    ∙ ap (λ (x : WrittenField). value_uses ss (map piece_view (pieces_of x.value)) ++ definition_uses (with_definition ss (field_view x)) (map field_view (drop (i + 1) fs))) (sym is)

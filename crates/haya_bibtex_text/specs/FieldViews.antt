@@ -1,13 +1,20 @@
 -- Fields by value, and what begins a text behind one.
-use Rattle.std.specs.Prelude.{map, ℕ, suc, ◌≤◌, length, ⊤}
+use Rattle.std.specs.Prelude.{map, ℕ, suc, ◌≤◌, length, ⊤, List, [], ◌∷◌}
 use Rattle.haya_bibtex_text.specs.Fields.{Front, RawField, ended, more, other, nothing}
 use Rattle.haya_bibtex_text.specs.PieceViews.{piece_view}
 use Rattle.haya_bibtex_text.specs.declared.fields.Front.{Front as FrontOf}
 use Rattle.haya_bibtex_text.specs.declared.fields.Front.TheVariants.{Ended, More, Other, Nothing}
 use Rattle.haya_bibtex_text.specs.declared.fields.WrittenField.{WrittenField}
+use Rattle.haya_bibtex_text.specs.declared.pieces.Piece.{Piece}
+use Rattle.haya_bibtex_text.specs.declared.values.Pieces.{Pieces}
+use Rattle.haya_bibtex_text.specs.declared.values.Pieces.TheVariants.{One, Several}
+
+abbrev pub pieces_of : Pieces → List Piece
+pieces_of (One p) = p ∷ []
+pieces_of (Several v) = v.items
 
 abbrev pub field_view : WrittenField → RawField
-field_view f = record { name = f.name.now; value = map piece_view f.value.items }
+field_view f = record { name = f.name.now; value = map piece_view (pieces_of f.value) }
 
 abbrev pub front_view : FrontOf → Front
 front_view (Ended rest) = ended rest.now

@@ -1,8 +1,23 @@
 //! Blanks at the front of a text.
-ghost use Rattle.std.specs.Prelude.{◌≡◌, ◌≤◌, length};
-ghost use Rattle.haya_bibtex_text.specs.Blanks.{behind_blank};
+ghost use Rattle.std.specs.Prelude.{◌≡◌, ◌≤◌, length, true, false};
+ghost use Rattle.haya_bibtex_text.specs.Blanks.{behind_blank, behind_blank_in};
 
 use crate::classes::is_white;
+
+// What is left behind the end of the line that a remark goes on to.
+fn behind_remark(text: &[char]) -> &[char]
+    ensures left { behind_blank_in true text.now ≡ behind_blank_in false result.now }
+    ensures shorter { length result.now ≤ length text.now }
+{
+    let mut rest = text;
+    'characters: while let Some((first, behind)) = rest.split_first() {
+        rest = behind;
+        if *first == '\n' {
+            return rest;
+        }
+    }
+    rest
+}
 
 /// What is left behind white space and remarks.
 pub(crate) fn behind_blank(text: &[char]) -> &[char]
@@ -10,16 +25,19 @@ pub(crate) fn behind_blank(text: &[char]) -> &[char]
     ensures shorter { length result.now ≤ length text.now }
 {
     let mut rest = text;
-    let mut remark = false;
     'characters: while let Some((first, behind)) = rest.split_first() {
-        if remark {
-            remark = *first != '\n';
-        } else if *first == '%' {
-            remark = true;
-        } else if !is_white(*first) {
-            return rest;
+        // Most blanks are spaces, and most other characters are letters and signs.
+        match *first {
+            ' ' => rest = behind,
+            '&'..='~' => return rest,
+            '%' => rest = behind_remark(behind),
+            c => {
+                if !is_white(c) {
+                    return rest;
+                }
+                rest = behind;
+            }
         }
-        rest = behind;
     }
     rest
 }

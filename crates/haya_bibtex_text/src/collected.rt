@@ -1,7 +1,6 @@
 //! What the items of a text come to.
-ghost use Rattle.std.specs.Prelude.{◌≡◌, ◌++◌, IfOk, OnOk, map};
-ghost use Rattle.haya_bibtex_text.specs.Bibliography.{bibliography, definition_notes};
-ghost use Rattle.haya_bibtex_text.specs.Bibliography.{with_definitions};
+ghost use Rattle.std.specs.Prelude.{◌≡◌, ◌++◌, ◌⊎◌, List, IfErr, IfOk, OnOk, map};
+ghost use Rattle.haya_bibtex_text.specs.Bibliography.{definition_notes, with_definitions};
 ghost use Rattle.haya_bibtex_text.specs.Bibliography.{item_entries, item_notes};
 ghost use Rattle.haya_bibtex_text.specs.Bibliography.{keys_behind, strings_behind};
 ghost use Rattle.haya_bibtex_text.specs.BibliographyViews.{bibliography_view, entry_view};
@@ -9,14 +8,18 @@ ghost use Rattle.haya_bibtex_text.specs.BibliographyViews.{note_view};
 ghost use Rattle.haya_bibtex_text.specs.Definitions.{strings_view};
 ghost use Rattle.haya_bibtex_text.specs.FieldViews.{field_view};
 ghost use Rattle.haya_bibtex_text.specs.ItemViews.{item_view, written_view};
+ghost use Rattle.haya_bibtex_text.specs.Items.{Fails, RawItem, Says};
 ghost use Rattle.haya_bibtex_text.specs.Names.{names_view};
-ghost use Rattle.haya_bibtex_text.specs.Uses.{FitsIn, Spends, definition_uses, item_uses, uses};
+ghost use Rattle.haya_bibtex_text.specs.Outcomes.{IsRefused, Reads};
+ghost use Rattle.haya_bibtex_text.specs.Stops.{StopsBy};
+ghost use Rattle.haya_bibtex_text.specs.Uses.{Spends, definition_uses, item_uses, room_of};
+ghost use Rattle.haya_bibtex_text.specs.declared.fault.Stop.TheVariants.{Refused};
 
 use crate::definitions::{Definitions, define, first_definitions};
 use crate::entry::{Bibliography, Entry, PassedOver};
 use crate::fault::Stop;
 use crate::fields::WrittenField;
-use crate::items::{Item, WrittenEntry};
+use crate::items::{Item, WrittenEntry, next_item};
 use crate::kept::keep_last;
 use crate::names::{Names, add_name, no_names};
 use crate::resolved::{filled_fields, value_text};
@@ -128,24 +131,50 @@ fn take_item(
     }
 }
 
-/// What the items of a text come to, where there is so much room for what strings stand for in them.
-/// The error: there was no memory for it, or no room for a string.
-pub(crate) fn collect(alloc: Global, room: usize, items: &[Item<'_>]) -> Result<Bibliography, Stop>
-    ensures is { IfOk result (λ b. bibliography_view b ≡ bibliography (map item_view items.now)) }
-    ensures room { FitsIn room (uses (map item_view items.now)) result }
+// The first of the stops at a place of a text and behind it: faults of the grammar come first.
+fn first_stop(alloc: Global, text: &[char], stop: Stop) -> Stop
+    ensures { StopsBy (λ f. Fails text.now f
+        ⊎ (((is : List RawItem) × Says text.now is) × (stop ≡ Refused f))) result }
+{
+    let mut left = text;
+    'items: loop {
+        match next_item(alloc, left) {
+            Ok(Some((_, rest))) => left = rest,
+            Ok(None) => return stop,
+            Err(earlier) => return earlier,
+        }
+    }
+}
+
+// How many characters the strings of a text may stand for.
+fn room_of(text: &[char]) -> usize
+    ensures { result ≡ room_of text.now }
+{
+    text.len().saturating_mul(64).saturating_add(65536)
+}
+
+/// What a text says. The error: a fault of the text, or there was no memory.
+pub(crate) fn collect(alloc: Global, text: &[char]) -> Result<Bibliography, Stop>
+    ensures is { IfOk result (λ b. Reads text.now (bibliography_view b)) }
+    ensures fault { IfErr result (StopsBy (IsRefused text.now)) }
 {
     let mut strings = first_definitions(alloc);
     let mut keys = no_names(alloc);
-    let mut room = room;
+    let mut room = room_of(text);
     let mut found = Bibliography {
         entries: Vec::new(alloc),
         passed_over: Vec::new(alloc),
     };
-    'items: for item in items {
-        match take_item(alloc, item, &mut strings, &mut keys, &mut room, &mut found) {
-            Ok(()) => {}
+    let mut left = text;
+    'items: loop {
+        let (item, rest) = match next_item(alloc, left) {
+            Ok(Some(read)) => read,
+            Ok(None) => return Ok(found),
             Err(stop) => return Err(stop),
+        };
+        match take_item(alloc, &item, &mut strings, &mut keys, &mut room, &mut found) {
+            Ok(()) => left = rest,
+            Err(stop) => return Err(first_stop(alloc, rest, stop)),
         }
     }
-    Ok(found)
 }

@@ -8,15 +8,17 @@ ghost use Rattle.haya_bibtex_text.specs.Stops.{StopsBy};
 use crate::blanks::behind_blank;
 use crate::classes::Class;
 use crate::fault::{FaultKind, Refusal, Stop, stop_at};
-use crate::pieces::Piece;
-use crate::values::read_value;
+use crate::values::{Pieces, read_value};
 use std::alloc::Global;
+
+// How many fields an entry has room for at first: most have fewer.
+const FIELDS: usize = 12;
 
 /// A field as it is written: its name, and the pieces of its value.
 #[derive(Drop)]
 pub(crate) struct WrittenField<'a> {
     pub(crate) name: &'a [char],
-    pub(crate) value: Vec<Piece<'a>>,
+    pub(crate) value: Pieces<'a>,
 }
 
 /// What begins a text where a field may begin, or behind one.
@@ -124,7 +126,7 @@ pub(crate) fn read_fields<'a>(
     ensures fault { IfErr result (StopsBy (FailFields entry close text.now)) }
     ensures shorter { IfOk result (λ v. length v.1.now < length text.now) }
 {
-    let mut fields = Vec::new(alloc);
+    let mut fields = Vec::with_capacity(alloc, FIELDS)?;
     let mut left = text;
     'fields: loop {
         match front_of(close, left) {

@@ -1,9 +1,11 @@
 //! The items of a text.
-ghost use Rattle.std.specs.Prelude.{◌≡◌, ◌≤◌, ◌<◌, ◌++◌, Ok, Err, OnOk, map, IfOk, IfErr, length};
+ghost use Rattle.std.specs.Prelude.{◌≡◌, ◌≤◌, ◌<◌, ◌∷◌, [], List, Ok, Err, IfOk, IfErr, IfNone};
+ghost use Rattle.std.specs.Prelude.{IfSome, length};
 ghost use Rattle.haya_bibtex_text.specs.ItemViews.{item_view};
-ghost use Rattle.haya_bibtex_text.specs.Items.{Fails, FailsItem, IsItem, Says};
-ghost use Rattle.haya_bibtex_text.specs.Items.{key_at, signs, comment_at};
+ghost use Rattle.haya_bibtex_text.specs.Items.{Fails, FailsItem, IsItem, RawItem, Says};
+ghost use Rattle.haya_bibtex_text.specs.Items.{key_at, comment_at};
 ghost use Rattle.haya_bibtex_text.specs.Stops.{StopsBy};
+ghost use Rattle.haya_bibtex_text.specs.declared.fault.Refusal.{Refusal as FirstFault};
 
 use crate::blanks::behind_blank;
 use crate::classes::Class;
@@ -11,7 +13,7 @@ use crate::fault::{FaultKind, Refusal, Stop, stop_at};
 use crate::fields::{Front, WrittenField, front_of, read_fields};
 use crate::groups::{End, end_of};
 use crate::opening::{behind_at, is_remark, is_skipped, is_strings, read_opening};
-use std::alloc::{AllocError, Global};
+use std::alloc::Global;
 
 /// An entry as it is written: its type, its key, and its fields in order.
 #[derive(Drop)]
@@ -114,30 +116,28 @@ fn read_item<'a>(
     }
 }
 
-// Adds the item of an `@` that begins no entry, with what follows it.
-fn push_sign(items: &mut Vec<Item<'_>>, next: &[char]) -> Result<(), AllocError>
-    ensures { OnOk result
-        (map item_view items.new.items ≡ map item_view items.old.items ++ signs next.now) }
-{
-    if !is_remark(next) {
-        items.push(Item::Sign)?;
-    }
-    Ok(())
-}
-
-/// The items of a text, in order.
-pub(crate) fn read_items<'a>(alloc: Global, text: &'a [char]) -> Result<Vec<Item<'a>>, Stop>
-    ensures ok { IfOk result (λ v. Says text.now (map item_view v.items)) }
+/// The next item of a text, and what is left behind it. Nothing where there is none.
+pub(crate) fn next_item<'a>(
+    alloc: Global,
+    text: &'a [char],
+) -> Result<Option<(Item<'a>, &'a [char])>, Stop>
+    ensures item { IfOk result (λ o. IfSome o (λ v. (is : List RawItem) →
+        Says v.1.now is → Says text.now (item_view v.0 ∷ is))) }
+    ensures behind { IfOk result (λ o. IfSome o (λ v. (f : FirstFault) →
+        Fails v.1.now f → Fails text.now f)) }
+    ensures none { IfOk result (λ o. IfNone o (Says text.now [])) }
     ensures fault { IfErr result (StopsBy (Fails text.now)) }
+    ensures shorter { IfOk result (λ o. IfSome o (λ v. length v.1.now < length text.now)) }
 {
-    let mut items = Vec::new(alloc);
     let mut left = text;
     'items: loop {
         let Some(next) = behind_at(left) else {
-            return Ok(items);
+            return Ok(None);
         };
         let Some(opening) = read_opening(next) else {
-            push_sign(&mut items, next)?;
+            if !is_remark(next) {
+                return Ok(Some((Item::Sign, next)));
+            }
             left = next;
             continue 'items;
         };
@@ -150,12 +150,9 @@ pub(crate) fn read_items<'a>(alloc: Global, text: &'a [char]) -> Result<Vec<Item
             continue 'items;
         }
         let inside = behind_blank(opening.rest);
-        match read_item(alloc, entry, opening.close, opening.kind, inside) {
-            Ok((item, rest)) => {
-                items.push(item)?;
-                left = rest;
-            }
-            Err(stop) => return Err(stop),
-        }
+        return match read_item(alloc, entry, opening.close, opening.kind, inside) {
+            Ok((item, rest)) => Ok(Some((item, rest))),
+            Err(stop) => Err(stop),
+        };
     }
 }

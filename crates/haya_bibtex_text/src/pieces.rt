@@ -1,10 +1,11 @@
 //! The pieces of a value.
-ghost use Rattle.std.specs.Prelude.{◌≡◌, ◌≤◌, ◌<◌, Ok, Err, IfOk, IfErr, length};
+ghost use Rattle.std.specs.Prelude.{◌≡◌, ◌≤◌, ◌<◌, Ok, Err, IfOk, IfErr, length, nat_lt};
+ghost use Rattle.std.specs.List.{prefix_len};
 ghost use Rattle.haya_bibtex_text.specs.GroupViews.{IsBefore, end_view};
 ghost use Rattle.haya_bibtex_text.specs.Groups.{end_of};
 ghost use Rattle.haya_bibtex_text.specs.Pieces.{enclosed_piece, piece_at, word_at};
 ghost use Rattle.haya_bibtex_text.specs.PieceViews.{piece_view};
-ghost use Rattle.haya_bibtex_text.specs.Signs.{close_brace, quote};
+ghost use Rattle.haya_bibtex_text.specs.Signs.{close_brace, open_brace, quote};
 
 use crate::classes::Class;
 use crate::fault::{FaultKind, Refusal};
@@ -42,14 +43,32 @@ pub(crate) fn read_piece<'a>(
     }
 }
 
+// How many characters of a text are counted, four at a time, that come before its first brace.
+fn plain_len(text: &[char]) -> usize
+    ensures plain { result ≤ prefix_len (λ c. nat_lt c open_brace) text.now }
+    ensures within { result ≤ length text.now }
+{
+    let mut count = 0;
+    let mut rest = text;
+    'runs: while let [a, b, c, d, behind @ ..] = rest {
+        if *a >= '{' || *b >= '{' || *c >= '{' || *d >= '{' {
+            return count;
+        }
+        count += 4;
+        rest = behind;
+    }
+    count
+}
+
 // Where the balanced text ends that a brace closes. Most characters come before both braces.
 fn braces_end(text: &[char]) -> End
     ensures end { end_view result ≡ end_of close_brace text.now }
     ensures within { IsBefore (length text.now) result }
 {
     let mut depth: usize = 0;
-    let mut count: usize = 0;
-    'characters: for c in text {
+    let mut count = plain_len(text);
+    let rest = &text[count..];
+    'characters: for c in rest {
         if *c >= '{' {
             if *c == '{' {
                 depth += 1;

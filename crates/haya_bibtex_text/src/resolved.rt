@@ -1,5 +1,6 @@
 //! The texts of values and fields.
-ghost use Rattle.std.specs.Prelude.{◌≡◌, ◌++◌, IfOk, OnOk, Some, length, map, string_bytes};
+ghost use Rattle.std.specs.Prelude.{◌≡◌, ◌++◌, ◌∷◌, [], IfOk, OnOk, Some, length, map};
+ghost use Rattle.std.specs.Prelude.{string_bytes};
 ghost use Rattle.std.specs.List.{list_all};
 ghost use Rattle.std.specs.Str.{chars};
 ghost use Rattle.haya_bibtex_text.specs.Bibliography.{filled_fields, field_if_filled};
@@ -9,7 +10,8 @@ ghost use Rattle.haya_bibtex_text.specs.Classes.{is_white};
 ghost use Rattle.haya_bibtex_text.specs.Definitions.{strings_view};
 ghost use Rattle.haya_bibtex_text.specs.FieldViews.{field_view};
 ghost use Rattle.haya_bibtex_text.specs.PieceViews.{piece_view};
-ghost use Rattle.haya_bibtex_text.specs.Strings.{piece_text, piece_unknown_names};
+ghost use Rattle.haya_bibtex_text.specs.Pieces.{text};
+ghost use Rattle.haya_bibtex_text.specs.Strings.{Strings, piece_text, piece_unknown_names};
 ghost use Rattle.haya_bibtex_text.specs.Strings.{value_text, value_unknown_names};
 ghost use Rattle.haya_bibtex_text.specs.Uses.{Spends, field_uses, piece_uses, use_of, value_uses};
 
@@ -112,10 +114,6 @@ pub(crate) fn value_text(
     ensures room { Spends room.old
         (value_uses (strings_view strings.now) (map piece_view value.now)) room.new result }
 {
-    // Most values are one text.
-    if let [Piece::Text(characters)] = value {
-        return Ok(text_of(alloc, characters)?);
-    }
     let mut text = String::new(alloc);
     'pieces: for piece in value {
         match push_piece(alloc, strings, piece, &mut text, room, passed_over) {
@@ -131,6 +129,33 @@ fn is_blank(text: &str) -> bool
     ensures { result ≡ list_all is_white (chars text.now) }
 {
     text.chars().all(|c| is_white(c))
+}
+
+// Whether characters are white.
+fn are_white(characters: &[char]) -> bool
+    ensures { result ≡ list_all is_white characters.now }
+{
+    characters.iter().all(|c| is_white(*c))
+}
+
+// Adds a field of these characters, unless they are white. The error: there was no memory for it.
+fn push_text_of(
+    alloc: Global,
+    name: &[char],
+    characters: &[char],
+    fields: &mut Vec<Field>,
+) -> Result<(), AllocError>
+    ensures { (ss : Strings) → OnOk result (map field_texts fields.new.items
+        ≡ map field_texts fields.old.items ++ field_if_filled ss
+        (record { name = name.now; value = text characters.now ∷ [] })) }
+{
+    if are_white(characters) {
+        return Ok(());
+    }
+    let text = text_of(alloc, characters)?;
+    let name = lowercase(alloc, name)?;
+    fields.push(Field { name, text })?;
+    Ok(())
 }
 
 // Adds a field, unless its text is white.
@@ -152,6 +177,11 @@ fn push_filled(
     ensures room { Spends room.old
         (value_uses (strings_view strings.now) (field_view written.now).value) room.new result }
 {
+    // Most values are one text.
+    if let Some(characters) = written.value.only_text() {
+        push_text_of(alloc, written.name, characters, fields)?;
+        return Ok(());
+    }
     let text = match value_text(alloc, strings, written.value.as_slice(), room, passed_over) {
         Ok(text) => text,
         Err(stop) => return Err(stop),

@@ -7,7 +7,7 @@ use Rattle.std.proofs.lemmas.Str.{chars-IsAscii, encodes-IsAscii}
 use Rattle.std.proofs.lemmas.Str.Ascii.{IsAscii-from_all}
 use Rattle.std.specs.Char.{is_ascii_graphic, is_whitespace}
 use Rattle.std.specs.Str.{chars, drop_trailing_whitespace, skip_leading_whitespace, trim, trim_end, trim_start, IsAscii}
-use Rattle.haya_bibtex_values.specs.Standing.{inside, piece_at, piece_of, standing}
+use Rattle.haya_bibtex_values.specs.Standing.{as_it_stands, inside, piece_at, piece_of, standing}
 use Rattle.std.proofs.Common.{Some}
 
 -- a sign of ASCII that isn't white, but for $ \ { and }
@@ -84,3 +84,9 @@ stands_as_it_is cs h =
     ∙ (ap (λ l. trim (encode_utf8_all l)) (stands_itself cs h)
     ∙ (ap trim (encodes-IsAscii cs (all_ascii cs h))
     ∙ (ap trim_end (trims_start cs h) ∙ trims_end cs h))))
+
+-- no white is at its ends either
+pub kept_as_it_is : (cs : List ℕ) → all_plain cs ≡ true → as_it_stands cs ≡ cs
+kept_as_it_is cs h =
+    ap (λ l. trim (encode_utf8_all (standing (inside (chars l))))) (ap trim_end (trims_start cs h) ∙ trims_end cs h)
+    ∙ stands_as_it_is cs h

@@ -6,7 +6,9 @@ ghost use Rattle.std.specs.Str.{chars};
 ghost use Rattle.haya_bibtex_values.specs.Addresses.{behind_host, doi_in, is_address};
 ghost use Rattle.haya_bibtex_values.specs.Addresses.{is_more, without_blanks};
 
-use crate::fronts::{begins_in_any_case, begins_with, behind, chars_of, string_of};
+use crate::fronts::{
+    ROOM, begins_in_any_case, begins_with, behind, chars_of, string_of, write_chars,
+};
 use std::alloc::{AllocError, Global};
 
 // Whether a character is white.
@@ -99,6 +101,10 @@ fn doi_of(text: &[char]) -> &[char]
 pub fn doi_in(alloc: Global, text: &str) -> Result<String, AllocError>
     ensures { IfOk result (λ s. string_bytes s ≡ encode_utf8_all (doi_in (chars text.now))) }
 {
+    let mut room = ['\0'; ROOM];
+    if let Some(count) = write_chars(&mut room, text) {
+        return string_of(alloc, doi_of(&room[..count]));
+    }
     let chars = chars_of(alloc, text)?;
     string_of(alloc, doi_of(chars.as_slice()))
 }

@@ -1,6 +1,6 @@
 //! What a text begins with.
-ghost use Rattle.std.specs.Prelude.{◌≡◌, ◌≤◌, ◌+◌, IfOk, drop, encode_utf8_all, length};
-ghost use Rattle.std.specs.Prelude.{string_bytes};
+ghost use Rattle.std.specs.Prelude.{◌≡◌, ◌≤◌, ◌+◌, IfOk, IfSome, drop, encode_utf8_all};
+ghost use Rattle.std.specs.Prelude.{length, string_bytes, take};
 ghost use Rattle.std.specs.Str.{chars};
 ghost use Rattle.haya_bibtex_values.specs.Fronts.{begins_in_any_case, begins_letter, begins_white};
 ghost use Rattle.haya_bibtex_values.specs.Fronts.{begins_with};
@@ -71,6 +71,26 @@ pub(crate) fn begins_letter(text: &[char]) -> bool
         Some((first, _)) => first.is_ascii_alphabetic(),
         None => false,
     }
+}
+
+/// How many characters of a text are read without a list of them in memory.
+pub(crate) const ROOM: usize = 64;
+
+/// Writes the characters of a text to the front of `room`, if they are no more, and returns how many
+/// there are.
+pub(crate) fn write_chars(room: &mut [char], text: &str) -> Option<usize>
+    ensures chars { IfSome result (λ n. take n room.new ≡ chars text.now) }
+    ensures within { IfSome result (λ n. n ≤ length room.new) }
+{
+    let mut count = 0;
+    'chars: for c in text.chars() {
+        if count == room.len() {
+            return None;
+        }
+        room[count] = c;
+        count += 1;
+    }
+    Some(count)
 }
 
 /// The characters of a text.

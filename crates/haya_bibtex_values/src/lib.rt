@@ -10,4 +10,4 @@ mod standing;
 pub use addresses::{doi_in, is_address};
 pub use archives::{arxiv_number, is_of_arxiv};
 pub use pages::single_hyphens;
-pub use standing::as_it_stands;
+pub use standing::{as_it_stands, stands_as_it_is};

@@ -3,7 +3,7 @@ ghost use Rattle.std.specs.Prelude.{◌≡◌, IfOk, encode_utf8_all, string_byt
 ghost use Rattle.std.specs.Str.{chars};
 ghost use Rattle.haya_bibtex_values.specs.PageTexts.{begins_dash, is_dash, single_hyphens};
 
-use crate::fronts::chars_of;
+use crate::fronts::{ROOM, chars_of, write_chars};
 use std::alloc::{AllocError, Global};
 
 // Whether a character is a hyphen, a dash or a minus.
@@ -28,6 +28,10 @@ pub fn single_hyphens(alloc: Global, text: &str) -> Result<String, AllocError>
     ensures { IfOk result (λ s. string_bytes s
         ≡ encode_utf8_all (single_hyphens (chars text.now))) }
 {
+    let mut room = ['\0'; ROOM];
+    if let Some(count) = write_chars(&mut room, text) {
+        return hyphens_of(alloc, &room[..count]);
+    }
     let chars = chars_of(alloc, text)?;
     hyphens_of(alloc, chars.as_slice())
 }

@@ -204,15 +204,27 @@ fn inside(text: &[char]) -> &[char]
 // Whether no rule is about a text: each byte is a sign of ASCII that isn't white, and none of these
 // four.
 fn is_plain(text: &str) -> bool
-    ensures { result ≡ true
+    ensures trimmed { result ≡ true
         → trim (encode_utf8_all (standing (inside (chars text.now)))) ≡ text.now }
+    ensures whole { result ≡ true → as_it_stands text.now ≡ text.now }
 {
     'bytes: for byte in text.as_bytes() {
+        // Most characters are small letters.
+        if byte.is_ascii_lowercase() {
+            continue 'bytes;
+        }
         if !byte.is_ascii_graphic() || matches!(*byte, b'$' | b'\\' | b'{' | b'}') {
             return false;
         }
     }
     true
+}
+
+/// Whether a text is known to stand as it is: then it need not be written anew.
+pub fn stands_as_it_is(text: &str) -> bool
+    ensures { result ≡ true → as_it_stands text.now ≡ text.now }
+{
+    is_plain(text)
 }
 
 /// The text of an address, a DOI or a date: as it stands, but for LaTeX's ways to write some signs.

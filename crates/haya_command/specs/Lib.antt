@@ -3,6 +3,7 @@ pub mod AskedLines
 pub mod Bound
 pub mod Form
 pub mod InTurn
+pub mod KeptElements
 pub mod Picks
 pub mod Printed
 pub mod Reading

@@ -172,6 +172,7 @@ pub(crate) fn add_part(
         TellsBy options.now (string_bytes input.now.text) (notes_view notes) →
         OnOk result (AddsPart options.now (string_bytes input.now.text) library.old library.new
         (told_views told.old.items) (told_views told.new.items)) }
+    ensures pushed { OnOk result (library.new ≡ all_pushed library.old part) }
     ensures names { OnOk result (told_names told.new.items
         ≡ told_names told.old.items ++ string_bytes input.now.name ∷ []) }
     ensures fault { IsReadAs options.now (string_bytes input.now.text) part → IfErr result (λ e.

@@ -236,15 +236,16 @@ fn print_source<W: Write, E: Write>(
 {
     check_selector(alloc, options.selector.as_str())?;
     let kind = kind_of_inputs(alloc, options, form, inputs)?;
+    let sources = read_sources(alloc, keys, options, kind, inputs)?;
+    let asked = ask_source(alloc, keys, options, kind, &sources);
+    let hint = hint_for(alloc, options, &sources.library, &asked);
     let Sources {
         library,
         told,
-        places,
-    } = read_sources(alloc, keys, options, kind, inputs)?;
-    let asked = ask_source(alloc, keys, &library, options, kind, &places);
-    let hint = hint_for(alloc, options, &library, &asked);
+        elements,
+    } = sources;
     mem::forget(library);
-    mem::forget(places);
+    mem::forget(elements);
     let answer = asked?;
     print_told(
         alloc,

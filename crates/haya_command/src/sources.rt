@@ -1,8 +1,11 @@
 //! The elements of inputs that are read as a library, under the keys of their entries.
-ghost use Rattle.std.specs.Prelude.{◌≡◌, ◌≢◌, ◌⊎◌, ◌++◌, List, IfErr, IfOk, None, OnOk, Some};
-ghost use Rattle.std.specs.Prelude.{string_bytes};
-ghost use Rattle.haya_source.specs.Elements.{AreElementsOf, Describes, Element};
+ghost use Rattle.std.specs.Prelude.{◌≡◌, ◌≢◌, ◌⊎◌, ◌++◌, ◌∷◌, [], List, IfErr, IfOk, None, OnOk};
+ghost use Rattle.std.specs.Prelude.{Some, map, string_bytes};
+ghost use Rattle.hayagriva.specs.Library.{from_entries};
+ghost use Rattle.haya_source.specs.Elements.{AreElementsOf, Describes, Element, entries_of};
+ghost use Rattle.haya_source.specs.Elements.{parts_of};
 ghost use Rattle.haya_source.specs.Places.{ArePlacesOf};
+ghost use Rattle.haya_command.specs.KeptElements.{AreKept};
 ghost use Rattle.haya_command.specs.Reading.{AddsPart, AreCollected, format_in, texts};
 ghost use Rattle.haya_command.specs.Source.{AreElementsIn, AreOfKind, IsKindError, IsKindFault};
 ghost use Rattle.haya_command.specs.Source.{IsSourceFault};
@@ -21,6 +24,7 @@ use haya_formats::{Format, format_for};
 use haya_source::laws::parts_say_entries;
 use haya_source::{ElementKind, Places, elements};
 use haya_text::OutOfMemory;
+use hayagriva::laws::distinct_entries_stand;
 use hayagriva::{HashKeys, Library};
 use std::alloc::Global;
 
@@ -114,6 +118,15 @@ pub(crate) fn source_fault(alloc: Global, input: &Input, error: SourceError) -> 
     }
 }
 
+/// The elements that the entries of a library were read from.
+#[derive(Drop)]
+pub(crate) enum Elements<'t> {
+    /// Those of the only input, in order.
+    InOrder(Vec<&'t str>),
+    /// Those of all inputs, under the keys of their entries.
+    Keyed(Places<'t>),
+}
+
 /// The library of all inputs, what is told of each, and the elements that its entries were read
 /// from.
 #[derive(Drop)]
@@ -122,8 +135,8 @@ pub(crate) struct Sources<'t> {
     pub(crate) library: Library,
     /// What is told, in the order of the inputs.
     pub(crate) told: Vec<InputNotes>,
-    /// The elements, under the keys of their entries.
-    pub(crate) places: Places<'t>,
+    /// The elements.
+    pub(crate) elements: Elements<'t>,
 }
 
 /// The library of all inputs, as `read_inputs` reads them, and their elements, which are of this
@@ -139,7 +152,65 @@ pub(crate) fn read_sources<'t>(
         AreCollected options.now (texts inputs.now) read.library (told_views read.told.items)) }
     ensures elements { (form : FormData) → AreOfKind options.now form (texts inputs.now) kind →
         IfOk result (λ read. (es : List Element) × AreElementsIn kind (texts inputs.now) es
-        × ArePlacesOf es read.places) }
+        × AreKept kind es read.library read.elements) }
+{
+    match inputs {
+        [input] => read_source(alloc, keys, options, kind, input),
+        _ => read_several(alloc, keys, options, kind, inputs),
+    }
+}
+
+// The same of one input.
+fn read_source<'t>(
+    alloc: Global,
+    keys: HashKeys,
+    options: &Options,
+    kind: ElementKind,
+    input: &'t Input,
+) -> Result<Sources<'t>, CommandError>
+    ensures read { IfOk result (λ read. AreCollected options.now (string_bytes input.now.text ∷ [])
+        read.library (told_views read.told.items)) }
+    ensures elements { (form : FormData) →
+        kind_in form (format_in options.now (string_bytes input.now.text)) ≡ Some kind →
+        IfOk result (λ read. (es : List Element)
+        × AreElementsOf kind (string_bytes input.now.text) es
+        × AreKept kind es read.library read.elements) }
+{
+    distinct_entries_stand();
+    let (part, notes) = read_input(alloc, keys, options, input)?;
+    // No two entries of a library have one key.
+    drop(part.iter());
+    let parts = match elements_of(alloc, kind, input, &part) {
+        Ok(parts) => parts,
+        Err(fault) => {
+            drop(part);
+            drop(notes);
+            return Err(fault);
+        }
+    };
+    let mut library = Library::with_hash_keys(alloc, keys);
+    let mut told = Vec::new(alloc);
+    add_part(alloc, options, input, part, notes, &mut library, &mut told)?;
+    Ok(Sources {
+        library,
+        told,
+        elements: Elements::InOrder(parts),
+    })
+}
+
+// The same of any number of inputs.
+fn read_several<'t>(
+    alloc: Global,
+    keys: HashKeys,
+    options: &Options,
+    kind: ElementKind,
+    inputs: &'t [Input],
+) -> Result<Sources<'t>, CommandError>
+    ensures read { IfOk result (λ read.
+        AreCollected options.now (texts inputs.now) read.library (told_views read.told.items)) }
+    ensures elements { (form : FormData) → AreOfKind options.now form (texts inputs.now) kind →
+        IfOk result (λ read. (es : List Element) × AreElementsIn kind (texts inputs.now) es
+        × AreKept kind es read.library read.elements) }
 {
     let mut library = Library::with_hash_keys(alloc, keys);
     let mut told = Vec::new(alloc);
@@ -162,7 +233,7 @@ pub(crate) fn read_sources<'t>(
     Ok(Sources {
         library,
         told,
-        places,
+        elements: Elements::Keyed(places),
     })
 }
 
@@ -210,9 +281,25 @@ fn add_elements<'t>(
         × AreElementsOf kind (string_bytes input.now.text) es
         × ArePlacesOf (before ++ es) places.new) }
 {
+    let parts = elements_of(alloc, kind, input, part)?;
+    Ok(places.add(alloc, keys, kind, parts.as_slice(), part)?)
+}
+
+// The elements of an input, which describes this library.
+fn elements_of<'t>(
+    alloc: Global,
+    kind: ElementKind,
+    input: &'t Input,
+    part: &Library,
+) -> Result<Vec<&'t str>, CommandError>
+    ensures { Describes kind (string_bytes input.now.text) part.now → IfOk result (λ parts.
+        (es : List Element) × AreElementsOf kind (string_bytes input.now.text) es
+        × (map (λ s. s.now) parts.items ≡ parts_of es)
+        × (part.now ≡ from_entries (entries_of es))) }
+{
     parts_say_entries();
     match elements(alloc, kind, input.text.as_str())? {
-        Some(parts) => Ok(places.add(alloc, keys, kind, parts.as_slice(), part)?),
+        Some(parts) => Ok(parts),
         None => Err(source_fault(alloc, input, SourceError::NoElements)),
     }
 }

@@ -1,26 +1,19 @@
 -- What simple texts say: themselves.
 use Rattle.std.specs.Prelude.{All}
-use Rattle.std.proofs.Common.{◌≡◌, ◌++◌, ◌==◌, ◌&&◌, ◌<◌, ℕ, Bool, true, false, not, nat_lt, List, [], ◌∷◌, if◌then◌else◌, flat_map, reverse, refl, sym, ◌∙◌, ap, arith, append_assoc}
+use Rattle.std.proofs.Common.{◌≡◌, ◌++◌, ◌==◌, ◌&&◌, ◌<◌, ℕ, Bool, true, false, not, nat_lt, List, [], ◌∷◌, if◌then◌else◌, reverse, refl, sym, ◌∙◌, ap, arith, append_assoc}
 use Rattle.std.proofs.lemmas.Bool.Decides.{nat_tests}
 use Rattle.std.proofs.lemmas.List.{append-nil, map-append, reverse-append, reverse-reverse}
-use Rattle.std.proofs.lemmas.List.Concat.{flat_map-cons}
 use Rattle.std.proofs.lemmas.List.Elements.{All-cons, All-nil}
 use Rattle.std.proofs.lemmas.Str.{chars-IsAscii, encode_ascii}
 use Rattle.std.proofs.lemmas.Str.Ascii.{IsAscii-from_all}
 use Rattle.std.specs.Char.{is_whitespace}
 use Rattle.std.specs.Str.{chars}
-use Rattle.std.specs.Prelude.{String}
-use Rattle.std.specs.String.{string_bytes}
-use Rattle.std.specs.declared.alloc.Global.{Global}
 use Rattle.haya_latex.specs.Reading.{Reader, is_inside, read, read_all, start, write}
-use Rattle.haya_latex.specs.RunViews.{run_bytes}
 use Rattle.haya_latex.specs.Scans.{begins_white}
 use Rattle.haya_latex.specs.Simple.{is_plain, is_simple, of_kind}
-use Rattle.haya_latex.specs.Texts.{bytes_of, char_bytes, single_blanks, text_chars, text_unknown, trimmed, without_first_blank, without_last_blank}
+use Rattle.haya_latex.specs.Texts.{bytes_of, char_bytes, without_first_blank, without_last_blank}
 use Rattle.haya_latex.specs.Tokens.{one, plain, token_at}
 use Rattle.haya_latex.specs.declared.kinds.Kind.{Kind}
-use Rattle.haya_latex.specs.declared.kinds.Kind.TheVariants.{Normal}
-use Rattle.haya_latex.specs.declared.runs.Run.{Run}
 use Rattle.haya_latex.proofs.Itself.{one_on, settle_free}
 
 -- the first character of a simple text is a blank or plain, and the rest is simple
@@ -28,18 +21,18 @@ data First (b : Bool) (x : ℕ) (xs : List ℕ) : Type 0 where
   blank : x ≡ 32 → (x == 32) ≡ true → b ≡ false → is_simple true xs ≡ true → First b x xs
   other : (x == 32) ≡ false → x < 128 → is_plain x ≡ true → is_simple false xs ≡ true → First b x xs
 
-is_32 : (x : ℕ) → (x == 32) ≡ true → x ≡ 32
+pub is_32 : (x : ℕ) → (x == 32) ≡ true → x ≡ 32
 is_32 x e = grind (arith, nat_tests)
 
-is_below : (x : ℕ) → nat_lt x 128 ≡ true → x < 128
+pub is_below : (x : ℕ) → nat_lt x 128 ≡ true → x < 128
 is_below x e = grind (arith, nat_tests)
 
-both : (a b : Bool) → (a && b) ≡ true → (a ≡ true) × (b ≡ true)
+pub both : (a b : Bool) → (a && b) ≡ true → (a ≡ true) × (b ≡ true)
 both true true e = (refl, refl)
 both true false e = cc
 both false b e = cc
 
-is_not : (b : Bool) → not b ≡ true → b ≡ false
+pub is_not : (b : Bool) → not b ≡ true → b ≡ false
 is_not false e = refl
 is_not true e = cc
 
@@ -69,16 +62,8 @@ below b (x ∷ xs) h =
 chars_are : (xs : List ℕ) → is_simple true xs ≡ true → chars xs ≡ xs
 chars_are xs h = chars-IsAscii xs (IsAscii-from_all xs (below true xs h))
 
-char_bytes_are : (k : Kind) (x : ℕ) → x < 128 → char_bytes (x, k) ≡ (x, k) ∷ []
+pub char_bytes_are : (k : Kind) (x : ℕ) → x < 128 → char_bytes (x, k) ≡ (x, k) ∷ []
 char_bytes_are k x l = ap (bytes_of k) (encode_ascii x l)
-
-bytes_are : (k : Kind) (b : Bool) (xs : List ℕ) → is_simple b xs ≡ true → flat_map char_bytes (of_kind k xs) ≡ bytes_of k xs
-bytes_are k b [] h = refl
-bytes_are k b (x ∷ xs) h =
-    elim (first_of b x xs h) [
-      | blank e t f r ↦ flat_map-cons char_bytes (x, k) (of_kind k xs) ∙ (ap (λ l. l ++ flat_map char_bytes (of_kind k xs)) (char_bytes_are k x (omega arith)) ∙ ap (λ l. (x, k) ∷ l) (bytes_are k true xs r))
-      | other t l p r ↦ flat_map-cons char_bytes (x, k) (of_kind k xs) ∙ (ap (λ l. l ++ flat_map char_bytes (of_kind k xs)) (char_bytes_are k x l) ∙ ap (λ l. (x, k) ∷ l) (bytes_are k false xs r))
-    ]
 
 -- each character is a token that writes it
 pub plain_token : (k : Kind) (n : ℕ) (g : Bool) (x : ℕ) (xs : List ℕ) → is_plain x ≡ true → token_at k n g x xs ≡ plain (one x) 0
@@ -108,57 +93,19 @@ says_itself b (x ∷ xs) s h free =
       | other t l p r ↦ one_on s x x xs (plain_token k s.inner.depth (is_inside s.outer) x xs p) free ∙ (says_itself false xs next r free ∙ joined)
     ]
 
--- no blank is behind another one
-singles : (k : Kind) (b : Bool) (xs : List ℕ) → is_simple b xs ≡ true → single_blanks b (of_kind k xs) ≡ of_kind k xs
-singles k b [] h = refl
-singles k b (x ∷ xs) h =
-    elim (first_of b x xs h) [
-      | blank e t f r ↦ rw (t, f) (ap (λ l. (x, k) ∷ l) (singles k true xs r))
-      | other t l p r ↦ rw t (ap (λ l. (x, k) ∷ l) (singles k false xs r))
-    ]
+-- a text whose last character is no blank
+pub record Ends (xs : List ℕ) : Type 0 where
+  pub front : List ℕ
+  pub last : ℕ
+  pub joins : xs ≡ front ++ (last ∷ [])
+  pub stays : (last == 32) ≡ false
 
--- and none is last
-record Ends (xs : List ℕ) : Type 0 where
-  front : List ℕ
-  last : ℕ
-  joins : xs ≡ front ++ (last ∷ [])
-  stays : (last == 32) ≡ false
-
-ends : (b : Bool) (x : ℕ) (xs : List ℕ) → is_simple b (x ∷ xs) ≡ true → Ends (x ∷ xs)
-ends b x [] h =
-    elim (first_of b x [] h)
-    [ blank e t f r ↦ cc | other t l p r ↦ record { front = []; last = x; joins = refl; stays = t } ]
-ends b x (y ∷ ys) h =
-    let more : Ends (y ∷ ys) → Ends (x ∷ y ∷ ys) =
-    λ w. record { front = x ∷ w.front; last = w.last; joins = ap (λ l. x ∷ l) w.joins; stays = w.stays } in
-    elim (first_of b x (y ∷ ys) h) [ blank e t f r ↦ more (ends true y ys r) | other t l p r ↦ more (ends false y ys r) ]
-
-last_by : (k : Kind) (xs : List ℕ) → Ends xs → without_last_blank (of_kind k xs) ≡ of_kind k xs
+pub last_by : (k : Kind) (xs : List ℕ) → Ends xs → without_last_blank (of_kind k xs) ≡ of_kind k xs
 last_by k xs w =
     let all : of_kind k xs ≡ of_kind k w.front ++ ((w.last, k) ∷ []) = ap (of_kind k) w.joins ∙ map-append (λ x. (x, k)) w.front (w.last ∷ []) in
     let back : reverse (of_kind k xs) ≡ (w.last, k) ∷ reverse (of_kind k w.front) = ap reverse all ∙ reverse-append (of_kind k w.front) ((w.last, k) ∷ []) in
     let kept : without_first_blank ((w.last, k) ∷ reverse (of_kind k w.front)) ≡ (w.last, k) ∷ reverse (of_kind k w.front) = rw w.stays refl in
     ap (λ l. reverse (without_first_blank l)) back ∙ (ap reverse (kept ∙ sym back) ∙ reverse-reverse (of_kind k xs))
 
-trims : (k : Kind) (xs : List ℕ) → is_simple true xs ≡ true → trimmed (of_kind k xs) ≡ of_kind k xs
-trims k [] h = cc
-trims k (x ∷ xs) h = ap without_last_blank (singles k true (x ∷ xs) h) ∙ last_by k (x ∷ xs) (ends true x xs h)
-
 pub reads_itself : (k : Kind) (xs : List ℕ) → is_simple true xs ≡ true → read_all k (chars xs) ≡ write (of_kind k xs) (start k)
 reads_itself k xs h = ap (read_all k) (chars_are xs h) ∙ says_itself true xs (start k) h refl
-
-simple_bytes : (xs : List ℕ) → is_simple true xs ≡ true → flat_map char_bytes (text_chars (chars xs)) ≡ bytes_of Normal xs
-simple_bytes xs h =
-    ap (λ (r : Reader). flat_map char_bytes (trimmed r.chars)) (reads_itself Normal xs h)
-    ∙ (ap (flat_map char_bytes) (trims Normal xs h) ∙ bytes_are Normal true xs h)
-
-pub simple_unknown : (xs : List ℕ) → is_simple true xs ≡ true → text_unknown (chars xs) ≡ []
-simple_unknown xs h = ap (λ (r : Reader). r.counted) (reads_itself Normal xs h)
-
-pub one_run : (t : String Global) (rs : List Run) (xs : List ℕ) → rs ≡ record { kind = Normal; text = t } ∷ [] →
-    string_bytes t ≡ xs → is_simple true xs ≡ true → flat_map run_bytes rs ≡ flat_map char_bytes (text_chars (chars xs))
-one_run t rs xs e is h =
-    let r : Run = record { kind = Normal; text = t } in
-    ap (flat_map run_bytes) e
-    ∙ (flat_map-cons run_bytes r []
-    ∙ (append-nil (run_bytes r) ∙ (ap (bytes_of Normal) is ∙ sym (simple_bytes xs h))))

@@ -22,4 +22,4 @@ mod tokens;
 
 pub use kinds::Kind;
 pub use runs::Run;
-pub use text::{Names, Text, read_names, read_text};
+pub use text::{Names, Text, read_names, read_text, says_itself};

@@ -1,20 +1,20 @@
 //! The text of a value, and names.
-ghost use Rattle.std.specs.Prelude.{◌≡◌, ◌<◌, ◌^◌, true, flat_map, length, map, reverse};
-ghost use Rattle.std.specs.Prelude.{string_bytes, All, IfOk, OnOk};
+ghost use Rattle.std.specs.Prelude.{◌≡◌, ◌≤◌, ◌<◌, ◌^◌, [], true, flat_map, length, map, reverse};
+ghost use Rattle.std.specs.Prelude.{string_bytes, take, All, IfOk, IfSome, OnOk};
 ghost use Rattle.std.specs.Str.{chars};
 ghost use Rattle.haya_latex.specs.Reading.{read_all, write};
 ghost use Rattle.haya_latex.specs.ReadingViews.{reader_view};
 ghost use Rattle.haya_latex.specs.RunViews.{HasText, run_bytes, run_kind};
 ghost use Rattle.haya_latex.specs.Simple.{behind_quiet, is_simple, left_behind_quiet, of_kind};
 ghost use Rattle.haya_latex.specs.Simple.{quiet_front, quiet_rest};
-ghost use Rattle.haya_latex.specs.Texts.{alternates, char_bytes, name_chars, name_unknown};
-ghost use Rattle.haya_latex.specs.Texts.{text_chars, text_unknown};
+ghost use Rattle.haya_latex.specs.Texts.{alternates, bytes_of, char_bytes, name_chars};
+ghost use Rattle.haya_latex.specs.Texts.{name_unknown, text_chars, text_unknown};
 
 use crate::kinds::Kind;
 use crate::readers::{Reader, is_inside, put_alone, put_output, settle, start, take_turn};
 use crate::runs::{Run, trimmed_runs};
 use crate::scans::begins_white;
-use crate::simple::{is_plain, is_simple};
+use crate::simple::{is_literal, is_plain, is_simple};
 use crate::tokens::token_at;
 use std::alloc::{AllocError, Global};
 
@@ -34,6 +34,17 @@ pub struct Names {
     pub chars: Vec<(char, Kind)>,
     /// The commands that aren't known, in order, without their backslashes.
     pub unknown: Vec<String>,
+}
+
+/// Whether a text says just itself, as one run: it is in ASCII, of single blanks and hyphens, and of
+/// characters that no other rule of LaTeX is about.
+pub fn says_itself(text: &str) -> bool
+    ensures bytes { result ≡ true → flat_map char_bytes (text_chars (chars text.now))
+        ≡ bytes_of Kind.Normal text.now }
+    ensures some { result ≡ true → 0 < length text.now }
+    ensures unknown { result ≡ true → text_unknown (chars text.now) ≡ [] }
+{
+    is_literal(text.as_bytes())
 }
 
 /// What the text of a value says: its characters, without blanks at both ends and without each
@@ -60,8 +71,8 @@ pub fn read_text(alloc: Global, text: &str) -> Result<Text, AllocError>
     ensures unknown { IfOk result (λ t. map string_bytes t.unknown.items
         ≡ text_unknown (chars text.now)) }
 {
-    if is_simple(text.as_bytes()) {
-        return simple_text(alloc, text);
+    if says_itself(text) {
+        return one_run(alloc, text);
     }
     let reader = read(alloc, Kind::Normal, text)?;
     let Reader {
@@ -109,9 +120,12 @@ pub fn read_names(alloc: Global, text: &str) -> Result<Names, AllocError>
     })
 }
 
-// What a simple text says: itself.
-fn simple_text(alloc: Global, text: &str) -> Result<Text, AllocError>
-    requires { is_simple true text.now ≡ true }
+// What a text says that says just itself.
+fn one_run(alloc: Global, text: &str) -> Result<Text, AllocError>
+    requires bytes { flat_map char_bytes (text_chars (chars text.now))
+        ≡ bytes_of Kind.Normal text.now }
+    requires some { 0 < length text.now }
+    requires unknown { text_unknown (chars text.now) ≡ [] }
     ensures bytes { IfOk result (λ t. flat_map run_bytes t.runs.items
         ≡ flat_map char_bytes (text_chars (chars text.now))) }
     ensures runs { IfOk result (λ t. alternates (reverse (map run_kind t.runs.items)) ≡ true) }
@@ -147,8 +161,32 @@ fn read_simple(alloc: Global, kind: Kind, text: &[u8]) -> Result<Reader, AllocEr
 fn read(alloc: Global, kind: Kind, text: &str) -> Result<Reader, AllocError>
     ensures { IfOk result (λ r. reader_view r ≡ read_all kind (chars text.now)) }
 {
+    let mut room = ['\0'; ROOM];
+    if let Some(count) = write_chars(&mut room, text) {
+        return read_all(alloc, kind, &room[..count]);
+    }
     let chars = chars_of(alloc, text)?;
     read_all(alloc, kind, chars.as_slice())
+}
+
+// How many characters of a text are read without a list of them in memory.
+const ROOM: usize = 64;
+
+// Writes the characters of a text to the front of `room`, if they are no more, and returns how many
+// there are.
+fn write_chars(room: &mut [char], text: &str) -> Option<usize>
+    ensures chars { IfSome result (λ n. take n room.new ≡ chars text.now) }
+    ensures within { IfSome result (λ n. n ≤ length room.new) }
+{
+    let mut count = 0;
+    'chars: for c in text.chars() {
+        if count == room.len() {
+            return None;
+        }
+        room[count] = c;
+        count += 1;
+    }
+    Some(count)
 }
 
 // The characters of a text.

@@ -9,7 +9,7 @@ use Rattle.haya_json_elements.specs.declared.place.Mode.TheVariants.{Between, Wo
 use Rattle.haya_json_elements.specs.declared.place.Place.TheVariants.{Element, Next}
 use Rattle.haya_slices.specs.Layout.{inside, is_outside_string, within}
 use Rattle.haya_slices.specs.Sought.{IsFirst, is_bracket, is_sought}
-use Rattle.haya_slices.specs.declared.sought.Sought.TheVariants.{Turn}
+use Rattle.haya_slices.specs.declared.signs.Sought.TheVariants.{Turn}
 use Rattle.haya_slices.proofs.Classes.{class_tells}
 use Rattle.haya_slices.proofs.Scanned.{between_word, leads_more}
 

@@ -1,4 +1,5 @@
 mod Arrays
+mod Bits
 mod Classes
 mod Copies
 mod Depths

@@ -8,7 +8,7 @@ use Rattle.haya_json_elements.specs.declared.place.Mode.TheVariants.{Between, Te
 use Rattle.haya_json_elements.specs.declared.place.Place.TheVariants.{Element}
 use Rattle.haya_slices.specs.Layout.{IsWhite, inside, within}
 use Rattle.haya_slices.specs.Sought.{is_sought}
-use Rattle.haya_slices.specs.declared.sought.Sought.TheVariants.{Mark}
+use Rattle.haya_slices.specs.declared.signs.Sought.TheVariants.{Mark}
 use Rattle.haya_slices.proofs.Classes.{class_tells}
 use Rattle.haya_slices.proofs.Lines.{space_class}
 use Rattle.haya_slices.proofs.Scanned.{leads_more}

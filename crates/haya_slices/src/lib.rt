@@ -10,8 +10,8 @@ mod element;
 pub mod laws;
 mod nested;
 mod printing;
+mod signs;
 mod slices;
-mod sought;
 mod white;
 
 pub use coming::{Coming, Complete, Search};

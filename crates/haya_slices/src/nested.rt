@@ -8,7 +8,7 @@ ghost use Rattle.haya_json_elements.specs.declared.place.Place.TheVariants.{Elem
 ghost use Rattle.haya_slices.specs.Layout.{inside, within};
 
 use crate::element::passed_word;
-use crate::sought::Sought;
+use crate::signs::{Signs, Sought};
 use haya_json_elements::Mode;
 
 /// How many bytes are behind a bracket that opens, up to the one that closes it, with that. `None`
@@ -19,39 +19,34 @@ pub(crate) fn nested_len(bytes: &[u8]) -> Option<usize>
         inside b Between 1 (take n bytes.now ++ ys) ≡ inside b Between 0 ys) }
 {
     let mut depth = 1u8;
-    let mut at = 0;
-    'turns: while at < bytes.len() {
-        let (_, rest) = bytes.split_at(at);
-        let len = Sought::Turn.first(rest)?;
-        let (_, behind) = rest.split_at(len + 1);
-        if rest[len] == b'"' {
-            if !may_quote(depth, rest, len) {
+    let mut signs = Signs::new();
+    'turns: loop {
+        let len = signs.first(bytes, Sought::Turn)?;
+        let sign = bytes[signs.start - 1];
+        if sign == b'"' {
+            if len > 0 && !may_quote(depth, bytes[signs.start - 2]) {
                 return None;
             }
-            at += len + 1 + string_len(behind)?;
+            signs.pass_string(bytes)?;
             continue;
         }
-        at += len + 1;
-        let Some((Mode::Between, deep)) = passed_word(depth, rest[len]) else {
+        let Some((Mode::Between, deep)) = passed_word(depth, sign) else {
             return None;
         };
         if deep == 0 {
-            return Some(at);
+            return Some(signs.start);
         }
         depth = deep;
     }
-    None
 }
 
-// Whether a string may begin behind so many bytes that are no quotes and no brackets: the last of
-// them is part of no word.
-fn may_quote(depth: u8, bytes: &[u8], len: usize) -> bool
-    requires { len ≤ length bytes.now }
-    ensures { IsTrue result → (len ≡ 0) ⊎ ((d : ℕ) × ((b : BracketsData) →
-        within (step b (Element Word depth) (slice_index bytes.now (len - 1))).0
-        ≡ Some (Between, d))) }
+// Whether a string may begin behind this byte, which is no quote and no bracket: it is part of no
+// word.
+fn may_quote(depth: u8, byte: u8) -> bool
+    ensures { IsTrue result → (d : ℕ) × ((b : BracketsData) →
+        within (step b (Element Word depth) byte).0 ≡ Some (Between, d)) }
 {
-    len == 0 || matches!(passed_word(depth, bytes[len - 1]), Some((Mode::Between, _)))
+    matches!(passed_word(depth, byte), Some((Mode::Between, _)))
 }
 
 /// How many bytes a string has behind its quote, with the quote that closes it.
@@ -60,17 +55,7 @@ pub(crate) fn string_len(bytes: &[u8]) -> Option<usize>
     ensures closed { IfSome result (λ n. (b : BracketsData) → (d : ℕ) → (ys : List ℕ) →
         inside b Text d (take n bytes.now ++ ys) ≡ inside b Between d ys) }
 {
-    let mut at = 0;
-    'bytes: while at < bytes.len() {
-        let (_, rest) = bytes.split_at(at);
-        let mark = Sought::Mark.first(rest)?;
-        if rest[mark] == b'"' {
-            return Some(at + mark + 1);
-        }
-        if mark + 1 == rest.len() {
-            return None;
-        }
-        at += mark + 2;
-    }
-    None
+    let mut signs = Signs::new();
+    signs.pass_string(bytes)?;
+    Some(signs.start)
 }

@@ -136,7 +136,7 @@ rest_distinct : (e : Element) (es : List Element) → AreDistinct (entries_of (e
 rest_distinct e es d = λ i j k below within. d (suc i) (suc j) k (omega arith) (omega arith)
 
 -- each element is that of its key, where no key comes twice
-each_found : (es : List Element) → AreDistinct (entries_of es)
+pub each_found : (es : List Element) → AreDistinct (entries_of es)
     → AllByRecursion (λ x. part_for (key_of x.1) es ≡ Some x.0) es
 each_found [] d = tt
 each_found (e ∷ es) d =

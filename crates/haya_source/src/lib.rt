@@ -12,11 +12,13 @@ mod dividing;
 mod keyed;
 mod kind;
 pub mod laws;
+mod order;
 mod places;
 mod printing;
 
 pub use dividing::elements;
 pub use keyed::element_key;
 pub use kind::ElementKind;
+pub use order::parts_in_order;
 pub use places::Places;
 pub use printing::printed_text;

@@ -75,7 +75,7 @@ fn lists_have_their_elements(rt: HostRuntime) {
 
 // Parts of an element, and what is as often behind each.
 const PARTS: &[(&str, &str)] = &[
-    ("{\"", "x"),
+    ("{\"|", "|"),
     ("\\\"]}[{\\\\\":", " "),
     ("[[{}", "\n"),
     ("],-", "1"),
@@ -98,7 +98,7 @@ fn element_of(rt: &impl Abort, alloc: Global, len: usize) -> String {
 
 #[test]
 fn elements_end_wherever_their_brackets_are(rt: HostRuntime) {
-    for len in 1..70 {
+    for len in 1..140 {
         let element = element_of(&rt, rt.alloc(), len);
         let mut text = String::new(rt.alloc());
         for part in ["[", element.as_str(), " ,\n", element.as_str(), "]"] {

@@ -12,7 +12,7 @@ pub returns-in-Err-clause-room : goal.returns-in-Err-clause-room
 returns-in-Err-clause-room c =
     turn_stops _ _ _ (definition_uses (strings_view c.args.strings.now) (map field_view c.args.fields.now)) c.fields.room c.args.room.now
     (of_definitions (strings_view c.fields.strings) c.args.fields.now c.fields.field-index c.field-item.result c.fields-test.true c.field-item.is)
-    c.fields.invariant.room c.in-Err.stop (rw c.as_slice.ensures.value at c.in-Err.ensures.room)
+    c.fields.invariant.room c.in-Err.stop (rw c.as_slice.ensures at c.in-Err.ensures.room)
 
 pub fields-preserved : goal.fields-preserved
 fields-preserved c = record {
@@ -22,5 +22,5 @@ fields-preserved c = record {
       first_of (search rules, grind (arith, common_steps)) in
       rw defined (turn_on _ _ _ (definition_uses (strings_view c.args.strings.now) (map field_view c.args.fields.now)) c.fields.room c.value_text.new.room c.args.room.now
       (of_definitions (strings_view c.fields.strings) c.args.fields.now c.fields.field-index c.field-item.result c.fields-test.true c.field-item.is)
-      c.fields.invariant.room (rw c.as_slice.ensures.value at c.in-Ok.ensures.room));
+      c.fields.invariant.room (rw c.as_slice.ensures at c.in-Ok.ensures.room));
 }

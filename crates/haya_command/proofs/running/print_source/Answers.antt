@@ -8,11 +8,11 @@ use Rattle.haya_command.proofs.running.print_source.Goals as goal
 pub returns-in_err-print_told-clause-fault : goal.returns-in_err-print_told-clause-fault
 returns-in_err-print_told-clause-fault g c =
     let kinds = c.in_ok-kind.ensures in
-    let e = c.in_ok-library.ensures.elements c.args.form kinds in
-    let answers : IfOk c.ask_source-asked.result (λ answer. IsSourceAnswer c.args.options.now c.in_ok-kind.kind e.0 c.in_ok-library.field-0.library (string_bytes answer.text) answer.found) =
+    let e = c.in_ok-sources.ensures.elements c.args.form kinds in
+    let answers : IfOk c.ask_source-asked.result (λ answer. IsSourceAnswer c.args.options.now c.in_ok-kind.kind e.0 c.in_ok-sources.sources.library (string_bytes answer.text) answer.found) =
     c.ask_source-asked.ensures e.0 e.2 in
     let was : c.ask_source-asked.result ≡ Ok c.in_ok-answer.answer = c.in_ok-answer.was in
-    let answer = subst (λ r. IfOk r (λ answer. IsSourceAnswer c.args.options.now c.in_ok-kind.kind e.0 c.in_ok-library.field-0.library (string_bytes answer.text) answer.found)) was answers in
+    let answer = subst (λ r. IfOk r (λ answer. IsSourceAnswer c.args.options.now c.in_ok-kind.kind e.0 c.in_ok-sources.sources.library (string_bytes answer.text) answer.found)) was answers in
     let begun : (first : List ℕ) × (rest : List ℕ) × (string_bytes c.in_ok-answer.answer.text ≡ first ++ rest)
     × Appends (g.W.Write.contents c.args.out.now) (g.W.Write.contents c.print_told.new.out) first =
     c.in_err-print_told.ensures.begun in
@@ -24,11 +24,11 @@ returns-in_err-print_told-clause-fault g c =
       answers = record {
         kind = c.in_ok-kind.kind;
         elements = e.0;
-        library = c.in_ok-library.field-0.library;
+        library = c.in_ok-sources.sources.library;
         kinds = kinds;
         are = e.1;
-        reads = c.in_ok-library.ensures.read.reads;
-        answers = subst (λ text. IsSourceAnswer c.args.options.now c.in_ok-kind.kind e.0 c.in_ok-library.field-0.library text c.in_ok-answer.answer.found)
+        reads = c.in_ok-sources.ensures.read.reads;
+        answers = subst (λ text. IsSourceAnswer c.args.options.now c.in_ok-kind.kind e.0 c.in_ok-sources.sources.library text c.in_ok-answer.answer.found)
             begun.2 answer;
       };
       prints = begun.3;
@@ -37,20 +37,20 @@ returns-in_err-print_told-clause-fault g c =
 pub returns-clause-answer : goal.returns-clause-answer
 returns-clause-answer g c =
     let kinds = c.in_ok-kind.ensures in
-    let e = c.in_ok-library.ensures.elements c.args.form kinds in
-    let answers : IfOk c.ask_source-asked.result (λ answer. IsSourceAnswer c.args.options.now c.in_ok-kind.kind e.0 c.in_ok-library.field-0.library (string_bytes answer.text) answer.found) =
+    let e = c.in_ok-sources.ensures.elements c.args.form kinds in
+    let answers : IfOk c.ask_source-asked.result (λ answer. IsSourceAnswer c.args.options.now c.in_ok-kind.kind e.0 c.in_ok-sources.sources.library (string_bytes answer.text) answer.found) =
     c.ask_source-asked.ensures e.0 e.2 in
     let was : c.ask_source-asked.result ≡ Ok c.in_ok-answer.answer = c.in_ok-answer.was in
-    let answer = subst (λ r. IfOk r (λ answer. IsSourceAnswer c.args.options.now c.in_ok-kind.kind e.0 c.in_ok-library.field-0.library (string_bytes answer.text) answer.found)) was answers in
+    let answer = subst (λ r. IfOk r (λ answer. IsSourceAnswer c.args.options.now c.in_ok-kind.kind e.0 c.in_ok-sources.sources.library (string_bytes answer.text) answer.found)) was answers in
     record {
       text = string_bytes c.in_ok-answer.answer.text;
       answers = record {
         kind = c.in_ok-kind.kind;
         elements = e.0;
-        library = c.in_ok-library.field-0.library;
+        library = c.in_ok-sources.sources.library;
         kinds = kinds;
         are = e.1;
-        reads = c.in_ok-library.ensures.read.reads;
+        reads = c.in_ok-sources.ensures.read.reads;
         answers = answer;
       };
       prints = c.in_ok-print_told.ensures.written;

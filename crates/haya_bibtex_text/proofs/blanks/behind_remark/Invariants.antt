@@ -1,0 +1,13 @@
+use Rattle.std.proofs.Common.{◌≡◌, ◌≤◌, length, true}
+use Rattle.haya_bibtex_text.specs.Blanks.{behind_blank_in}
+use Rattle.haya_bibtex_text.proofs.blanks.behind_remark.Given as goal
+
+-- what is left behind the remark is left behind that of the rest
+abbrev pub invariant-characters : goal.invariant-characters
+invariant-characters l = record {
+  left : behind_blank_in true l.text ≡ behind_blank_in true l.rest;
+  shorter : length l.rest ≤ length l.text;
+}
+
+abbrev pub decreases-characters : goal.decreases-characters
+decreases-characters l = length l.rest
