@@ -9,6 +9,7 @@ import argparse
 import asyncio
 import collections
 import contextlib
+import fcntl
 import json
 import logging
 import os
@@ -74,7 +75,7 @@ def next_entry(file, place, entry):
 
 
 def copy_part(part, entry, text):
-    """Puts a part's whole lines into this file: those of all parts of a file, joined, are the file. Of one of this machine the system copies them."""
+    """Writes a part's whole lines: those of all parts of a file, joined, are the file. Those of a file of this machine the system hands on."""
     with part.system.open(part.path, "rb") as file:
         start, end = next_entry(file, part.start, entry), next_entry(file, part.end, entry)
         if isinstance(part.system, LocalFileSystem) and hasattr(os, "sendfile"):
@@ -113,20 +114,36 @@ Answer = collections.namedtuple("Answer", "status out said")
 
 
 def new_file():
-    """A file without a name, in memory where the system has such: `haya` reads it in its own blocks, and a pipe in few kilobytes each."""
+    """A file without a name, in memory where the system has such."""
     return os.fdopen(os.memfd_create("part"), "w+b") if hasattr(os, "memfd_create") else tempfile.TemporaryFile()
 
 
+def widen(pipe):
+    """Has a pipe hold a megabyte where the system allows it, so that its two ends take fewer turns."""
+    if hasattr(fcntl, "F_SETPIPE_SZ"):
+        with contextlib.suppress(OSError):
+            fcntl.fcntl(pipe, fcntl.F_SETPIPE_SZ, PIECE)
+
+
+def whole(file):
+    """What is in a file."""
+    file.seek(0)
+    return file.read()
+
+
 def run(command, write=None):
-    """Runs `haya` over a text that is written into a file. Where it is killed there is no answer, and Dask tries the call again."""
-    with new_file() as text:
-        if write:
-            write(text)
-        text.seek(0)
-        ran = subprocess.run(command, stdin=text, capture_output=True, check=False)
-    if ran.returncode not in (0, 1, 2):
-        raise ChildProcessError(f"{command[0]} ended with status {ran.returncode}: {ran.stderr.decode(errors='replace')}")
-    return Answer(ran.returncode, ran.stdout, ran.stderr)
+    """Runs `haya` over a text that is written to it. Where it is killed there is no answer, and Dask tries the call again."""
+    with new_file() as out, new_file() as said:
+        with subprocess.Popen(command, stdin=subprocess.PIPE, stdout=out, stderr=said) as child:
+            # (at a fault it ends before the text does)
+            with contextlib.suppress(BrokenPipeError), child.stdin as text:
+                widen(text)
+                if write:
+                    write(text)
+        answer = Answer(child.returncode, whole(out), whole(said))
+    if answer.status not in (0, 1, 2):
+        raise ChildProcessError(f"{command[0]} ended with status {answer.status}: {answer.said.decode(errors='replace')}")
+    return answer
 
 
 def run_over(command, pieces):

@@ -139,10 +139,14 @@ fn push_entry(
     ensures notes { OnOk result (notes_view notes.new
         ≡ all_kept (entry_told (entry_view entry.now)) (notes_view notes.old)) }
 {
+    // By a `match`: a `?` copies the entry once more.
     let Reading {
         entry: read,
         passed_over,
-    } = read_entry(alloc, entry)?;
+    } = match read_entry(alloc, entry) {
+        Ok(reading) => reading,
+        Err(error) => return Err(error),
+    };
     match tell_names(alloc, notes, entry.key, passed_over.as_slice()) {
         Ok(()) => library.insert(read),
         Err(error) => {

@@ -10,9 +10,10 @@ ghost use Rattle.haya_bibtex_dates.specs.Years.{first_of, year_in};
 
 use crate::calendar::{in_month, less_one, on_day, with_season};
 use crate::digits::short_number;
-use crate::forms::{chars_of, read_date};
+use crate::forms::read_date;
 use crate::months::{MonthText, month_in};
 use crate::years::year_in;
+use haya_characters::chars_of;
 use haya_time::Date;
 use std::alloc::{AllocError, Global};
 

@@ -1,5 +1,5 @@
 //! Dates in extended date format.
-ghost use Rattle.std.specs.Prelude.{◌≡◌, ◌≤◌, ◌<◌, IfOk, IfSome, length, option_map, take};
+ghost use Rattle.std.specs.Prelude.{◌≡◌, ◌≤◌, ◌<◌, IfOk, IfSome, length, option_map};
 ghost use Rattle.std.specs.List.{position};
 ghost use Rattle.std.specs.Str.{chars};
 ghost use Rattle.haya_bibtex_dates.specs.Forms.{behind_month, behind_year, date_before, date_in};
@@ -10,6 +10,7 @@ ghost use Rattle.haya_bibtex_dates.specs.Forms.{year_at, year_end};
 use crate::calendar::{Part, date_by, marked, with_sign};
 use crate::clock::is_rest;
 use crate::digits::{behind_sign, digit, hundreds, tens, two_digits};
+use haya_characters::{chars_of, write_chars};
 use haya_time::Date;
 use std::alloc::{AllocError, Global};
 
@@ -201,34 +202,6 @@ pub(crate) fn date_in(text: &[char]) -> Option<Date>
 
 // How many characters of a text are read without a list of them in memory.
 const ROOM: usize = 32;
-
-// Writes the characters of a text to the front of `room`, if they are no more, and returns how many
-// there are.
-fn write_chars(room: &mut [char], text: &str) -> Option<usize>
-    ensures chars { IfSome result (λ n. take n room.new ≡ chars text.now) }
-    ensures within { IfSome result (λ n. n ≤ length room.new) }
-{
-    let mut count = 0;
-    'chars: for c in text.chars() {
-        if count == room.len() {
-            return None;
-        }
-        room[count] = c;
-        count += 1;
-    }
-    Some(count)
-}
-
-/// The characters of a text.
-pub(crate) fn chars_of(alloc: Global, text: &str) -> Result<Vec<char>, AllocError>
-    ensures { IfOk result (λ v. v.items ≡ chars text.now) }
-{
-    let mut list = Vec::with_capacity(alloc, text.len())?;
-    'chars: for c in text.chars() {
-        list.push(c)?;
-    }
-    Ok(list)
-}
 
 /// The date of a text in extended date format, or of the first of two with `/` between them that
 /// tells one. There is none where the text isn't so, or the calendar doesn't have the day.

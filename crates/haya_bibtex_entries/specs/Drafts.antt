@@ -17,9 +17,10 @@ pub record DraftView : Type 0 where
   pub series : List Tree
   pub original : List Tree
 
-abbrev pub new_draft : List ℕ → EntryType → DraftView
-new_draft key kind = record {
-  own = new_entry key kind;
+-- an entry of its own, and no parents
+abbrev pub draft_of : Tree → DraftView
+draft_of own = record {
+  own = own;
   host = [];
   conference = [];
   main = [];

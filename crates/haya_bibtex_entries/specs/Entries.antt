@@ -1,10 +1,10 @@
 -- What an entry says: the entry of its fields, with the parents that they make, and what is passed
 -- over.
 use Rattle.std.specs.Prelude.{ℕ, ◌++◌, not, List, [], ◌∷◌, filter, fold, map, is_some, Option, string_bytes, if◌then◌else◌}
-use Rattle.haya_entry.specs.Tree.{Tree, view}
+use Rattle.haya_entry.specs.Tree.{Tree, new_entry, view}
 use Rattle.haya_bibtex_inherited.specs.Entries.{EntryBytes, FieldBytes}
 use Rattle.haya_bibtex_entries.specs.Dates.{date_rows}
-use Rattle.haya_bibtex_entries.specs.Drafts.{RowView, SoFar, entry_made, new_draft, with_rows}
+use Rattle.haya_bibtex_entries.specs.Drafts.{RowView, SoFar, draft_of, entry_made, with_rows}
 use Rattle.haya_bibtex_entries.specs.Kinds.{kind_named, kind_of}
 use Rattle.haya_bibtex_entries.specs.Numbers.{number_rows, own_number_rows}
 use Rattle.haya_bibtex_entries.specs.People.{people_rows}
@@ -45,7 +45,7 @@ unplaced k fs = unplaced_of k fs fs
 -- the entry with its key and type alone
 abbrev pub at_first : EntryBytes → Kind → SoFar
 at_first e k = record {
-  draft = new_draft e.key k.entry;
+  draft = draft_of (new_entry e.key k.entry);
   passed_over = type_passed e.kind e.fields ++ unplaced k e.fields;
 }
 

@@ -1,8 +1,8 @@
 //! The entries that one entry makes: its own, and the parents that its fields go to.
 ghost use Rattle.std.specs.Prelude.{◌≡◌, ◌++◌, [], map, option_map, IfOk, OnOk, string_bytes};
 ghost use Rattle.haya_entry.specs.Tree.{view};
-ghost use Rattle.haya_bibtex_entries.specs.Drafts.{below, draft_view, draft_with, entry_made};
-ghost use Rattle.haya_bibtex_entries.specs.Drafts.{new_draft, parent_with, so_far, with_row};
+ghost use Rattle.haya_bibtex_entries.specs.Drafts.{below, draft_of, draft_view, draft_with};
+ghost use Rattle.haya_bibtex_entries.specs.Drafts.{entry_made, parent_with, so_far, with_row};
 ghost use Rattle.haya_bibtex_entries.specs.Rows.{commands, row};
 ghost use Rattle.haya_bibtex_entries.specs.Values.{value_view};
 
@@ -43,33 +43,20 @@ pub(crate) struct Draft {
 }
 
 impl Draft {
-    /// No field went to any entry so far, and these names are passed over.
-    pub(crate) fn new(
-        alloc: Global,
-        key: &str,
-        kind: EntryType,
-        passed_over: Vec<String>,
-    ) -> Result<Draft, OutOfMemory>
-        ensures { IfOk result (λ d. so_far d ≡ record {
-          draft = new_draft key.now kind;
-          passed_over = map string_bytes passed_over.items;
-        }) }
+    /// No field went to any entry but this one so far, and these names are passed over.
+    #[inline]
+    pub(crate) fn new(alloc: Global, own: Entry, passed_over: Vec<String>) -> Draft
+        ensures draft { draft_view result ≡ draft_of (view own) }
+        ensures passed_over { result.passed_over ≡ passed_over }
     {
-        // By a `match`: a `?` copies the entry once more.
-        match Entry::new(alloc, key, kind) {
-            Ok(own) => Ok(Draft {
-                own,
-                host: Vec::new(alloc),
-                conference: Vec::new(alloc),
-                main: Vec::new(alloc),
-                series: Vec::new(alloc),
-                original: Vec::new(alloc),
-                passed_over,
-            }),
-            Err(error) => {
-                drop(passed_over);
-                Err(error)
-            }
+        Draft {
+            own,
+            host: Vec::new(alloc),
+            conference: Vec::new(alloc),
+            main: Vec::new(alloc),
+            series: Vec::new(alloc),
+            original: Vec::new(alloc),
+            passed_over,
         }
     }
 

@@ -3,7 +3,7 @@ ghost use Rattle.std.specs.Prelude.{◌≡◌, ◌++◌, IfOk, OnOk, map, string
 ghost use Rattle.haya_bibtex_inherited.specs.Views.{entry_view, fields_view};
 ghost use Rattle.haya_bibtex_entries.specs.Drafts.{so_far};
 ghost use Rattle.haya_bibtex_entries.specs.Entries.{at_first, entry_said, filled, reading_view};
-ghost use Rattle.haya_bibtex_entries.specs.Entries.{type_passed, unplaced};
+ghost use Rattle.haya_bibtex_entries.specs.Entries.{said_of, type_passed, unplaced};
 
 use crate::dates::add_dates;
 use crate::draft::Draft;
@@ -65,19 +65,20 @@ fn push_unplaced(
     Ok(())
 }
 
-// The entry with its key and type alone.
-fn at_first(
+// What is passed over of an entry before its fields are read.
+fn passed_at_first(
     alloc: Global,
     entry: &EntryRef<'_>,
     fields: &Fields<'_>,
     kind: Kind,
-) -> Result<Draft, OutOfMemory>
+) -> Result<Vec<String>, OutOfMemory>
     requires { fields.now ≡ entry.now.fields.items }
-    ensures { IfOk result (λ d. so_far d ≡ at_first (entry_view entry.now) kind) }
+    ensures { IfOk result (λ v. map string_bytes v.items
+        ≡ (at_first (entry_view entry.now) kind).passed_over) }
 {
     let mut names = type_passed(alloc, entry.kind, fields)?;
     push_unplaced(alloc, &mut names, kind, fields)?;
-    Draft::new(alloc, entry.key, kind.entry, names)
+    Ok(names)
 }
 
 // Puts what all fields say where it goes.
@@ -102,20 +103,19 @@ fn fill(
     Ok(())
 }
 
-/// What an entry says: the entry that is read, by the tables of types and fields, and the names
-/// under which something is passed over. The error: there was no memory for it.
-#[tactic(auto, unfolding(crate::specs::Entries::entry_said))]
-pub fn read_entry(alloc: Global, entry: &EntryRef<'_>) -> Result<Reading, OutOfMemory>
-    ensures { IfOk result (λ r. reading_view r ≡ entry_said (entry_view entry.now)) }
+// What an entry with its key and type alone, and all its fields, says.
+fn read_fields(
+    alloc: Global,
+    mut draft: Draft,
+    entry: &EntryRef<'_>,
+    fields: &Fields<'_>,
+    kind: Kind,
+) -> Result<Reading, OutOfMemory>
+    requires fields { fields.now ≡ entry.now.fields.items }
+    requires first { so_far draft ≡ at_first (entry_view entry.now) kind }
+    ensures { IfOk result (λ r. reading_view r ≡ said_of (filled (entry_view entry.now) kind)) }
 {
-    let fields = Fields::new(entry.fields.as_slice());
-    let kind = kind_of(entry.kind, &fields);
-    // By a `match`: a `?` copies the entry once more.
-    let mut draft = match at_first(alloc, entry, &fields, kind) {
-        Ok(draft) => draft,
-        Err(error) => return Err(error),
-    };
-    fill(alloc, &mut draft, entry, &fields, kind)?;
+    fill(alloc, &mut draft, entry, fields, kind)?;
     draft.close(alloc)?;
     let Draft {
         own,
@@ -130,4 +130,25 @@ pub fn read_entry(alloc: Global, entry: &EntryRef<'_>) -> Result<Reading, OutOfM
         entry: own,
         passed_over,
     })
+}
+
+/// What an entry says: the entry that is read, by the tables of types and fields, and the names
+/// under which something is passed over. The error: there was no memory for it.
+pub fn read_entry(alloc: Global, entry: &EntryRef<'_>) -> Result<Reading, OutOfMemory>
+    ensures { IfOk result (λ r. reading_view r ≡ entry_said (entry_view entry.now)) }
+{
+    let fields = Fields::new(entry.fields.as_slice());
+    let kind = kind_of(entry.kind, &fields);
+    let passed_over = passed_at_first(alloc, entry, &fields, kind)?;
+    // By a `match`: a `?` copies the entry once more.
+    match Entry::new(alloc, entry.key, kind.entry) {
+        Ok(own) => {
+            let draft = Draft::new(alloc, own, passed_over);
+            read_fields(alloc, draft, entry, &fields, kind)
+        }
+        Err(error) => {
+            drop(passed_over);
+            Err(error)
+        }
+    }
 }

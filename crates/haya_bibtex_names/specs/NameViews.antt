@@ -1,8 +1,6 @@
--- Names and the texts of their parts by value.
-use Rattle.std.specs.Prelude.{List, map, string_bytes}
-use denote.Ref.{Bor}
+-- The texts of the parts of a name by value.
+use Rattle.std.specs.Prelude.{string_bytes}
 use Rattle.haya_bibtex_names.specs.Plain as plain
-use Rattle.haya_bibtex_names.specs.Words.{Text, texts}
 use Rattle.haya_bibtex_names.specs.declared.plain.NameTexts.{NameTexts}
 
 abbrev pub name_view : NameTexts → plain.NameTexts
@@ -12,7 +10,3 @@ name_view t = record {
   given = string_bytes t.given;
   suffix = string_bytes t.suffix;
 }
-
--- names, each as its words
-abbrev pub names_view : List (Bor (List (Bor Text))) → List (List Text)
-names_view pointers = map (λ n. texts n.now) pointers

@@ -7,7 +7,6 @@ pub mod Stopping
 pub mod Spending
 pub mod UsesLeft
 pub mod Collecting
-pub mod Characters
 pub mod Lookups
 pub mod Keeping
 pub mod Distinct
@@ -16,6 +15,5 @@ pub mod Reading
 pub mod SomeOutcome
 pub mod Outcome
 pub mod Plain
-pub mod Bits
 pub mod White
 pub mod Filled

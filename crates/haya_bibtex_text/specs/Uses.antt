@@ -69,8 +69,3 @@ room_of cs = min (64 * length cs + 65536) (2 ^ 64 - 1)
 -- uses leave this much room, or the fault is theirs
 abbrev pub Spends : {A : Type 0} → ℕ → List Use → ℕ → Result A Stop → Type 0
 Spends old us new r = MatchResult r (λ _. spend old us ≡ Ok new) (StopsBy (λ f. spend old us ≡ Err f))
-
--- there is room for all uses, or the fault is theirs
-abbrev pub FitsIn : {A : Type 0} → ℕ → List Use → Result A Stop → Type 0
-FitsIn room us r =
-    MatchResult r (λ _. (rest : ℕ) × (spend room us ≡ Ok rest)) (StopsBy (λ f. spend room us ≡ Err f))

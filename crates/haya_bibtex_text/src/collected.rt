@@ -23,7 +23,8 @@ use crate::items::{Item, WrittenEntry, next_item};
 use crate::kept::keep_last;
 use crate::names::{Names, add_name, no_names};
 use crate::resolved::{filled_fields, value_text};
-use crate::texts::{lowercase, text_of};
+use crate::texts::lowercase;
+use haya_characters::string_of;
 use std::alloc::Global;
 
 // Each of the fields defines its name from there on.
@@ -74,7 +75,7 @@ fn take_entry(
         (item_uses (strings_view strings.now) (names_view keys.old) (written_view entry.now))
         room.new result }
 {
-    let key = text_of(alloc, entry.key)?;
+    let key = string_of(alloc, entry.key)?;
     let kind = lowercase(alloc, entry.kind)?;
     if !add_name(alloc, keys, key.as_str())? {
         found.passed_over.push(PassedOver::Entry(kind))?;

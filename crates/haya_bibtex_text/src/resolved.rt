@@ -21,7 +21,8 @@ use crate::entry::{Field, PassedOver};
 use crate::fault::{FaultKind, Stop, stop_at};
 use crate::fields::WrittenField;
 use crate::pieces::Piece;
-use crate::texts::{lowercase, push_characters, text_of};
+use crate::texts::lowercase;
+use haya_characters::{push_chars, string_of};
 use std::alloc::{AllocError, Global};
 
 // Adds a text to another.
@@ -77,7 +78,7 @@ fn push_piece(
 {
     let (left, written) = match piece {
         Piece::Text(characters) => {
-            push_characters(text, characters)?;
+            push_chars(text, characters)?;
             return Ok(());
         }
         Piece::Name(left, characters) => (*left, characters),
@@ -85,7 +86,7 @@ fn push_piece(
     let name = lowercase(alloc, written)?;
     let Some(defined) = defined_text(strings, name.as_str()) else {
         passed_over.push(PassedOver::Name(name))?;
-        push_characters(text, written)?;
+        push_chars(text, written)?;
         return Ok(());
     };
     match take_room(room, left, defined) {
@@ -152,7 +153,7 @@ fn push_text_of(
     if are_white(characters) {
         return Ok(());
     }
-    let text = text_of(alloc, characters)?;
+    let text = string_of(alloc, characters)?;
     let name = lowercase(alloc, name)?;
     fields.push(Field { name, text })?;
     Ok(())

@@ -6,9 +6,8 @@ ghost use Rattle.std.specs.Str.{chars};
 ghost use Rattle.haya_bibtex_values.specs.Addresses.{behind_host, doi_in, is_address};
 ghost use Rattle.haya_bibtex_values.specs.Addresses.{is_more, without_blanks};
 
-use crate::fronts::{
-    ROOM, begins_in_any_case, begins_with, behind, chars_of, string_of, write_chars,
-};
+use crate::fronts::{ROOM, begins_in_any_case, begins_with, behind};
+use haya_characters::{chars_of, string_of, write_chars};
 use std::alloc::{AllocError, Global};
 
 // Whether a character is white.

@@ -4,7 +4,8 @@ ghost use Rattle.std.specs.Str.{chars};
 ghost use Rattle.haya_bibtex_values.specs.Archives.{arxiv_number, is_of_arxiv};
 
 use crate::addresses::without_blanks;
-use crate::fronts::{begins_in_any_case, behind, chars_of, string_of};
+use crate::fronts::{begins_in_any_case, behind};
+use haya_characters::{chars_of, string_of};
 use std::alloc::{AllocError, Global};
 
 /// Whether a number begins with `arXiv:`, in any case.

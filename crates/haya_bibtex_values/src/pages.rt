@@ -3,7 +3,8 @@ ghost use Rattle.std.specs.Prelude.{◌≡◌, IfOk, encode_utf8_all, string_byt
 ghost use Rattle.std.specs.Str.{chars};
 ghost use Rattle.haya_bibtex_values.specs.PageTexts.{begins_dash, is_dash, single_hyphens};
 
-use crate::fronts::{ROOM, chars_of, write_chars};
+use crate::fronts::ROOM;
+use haya_characters::{chars_of, write_chars};
 use std::alloc::{AllocError, Global};
 
 // Whether a character is a hyphen, a dash or a minus.

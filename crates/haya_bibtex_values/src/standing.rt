@@ -7,7 +7,8 @@ ghost use Rattle.haya_bibtex_values.specs.Standing.{dollar_at, escape_at, has_wo
 ghost use Rattle.haya_bibtex_values.specs.Standing.{inside, inside_by, is_escaped, piece_at};
 ghost use Rattle.haya_bibtex_values.specs.Standing.{piece_of, standing, tilde_before, white_at};
 
-use crate::fronts::{begins_letter, begins_white, begins_with, behind, chars_of, string_of};
+use crate::fronts::{begins_letter, begins_white, begins_with, behind};
+use haya_characters::{chars_of, string_of};
 use std::alloc::{AllocError, Global};
 
 /// What is at the front of a text.

@@ -1,6 +1,5 @@
 //! A reader: what is written so far, the groups around, and the accents that wait.
-ghost use Rattle.std.specs.Prelude.{◌≡◌, ◌∷◌, ◌++◌, [], reverse, encode_utf8_all, string_bytes};
-ghost use Rattle.std.specs.Prelude.{IfOk, OnOk};
+ghost use Rattle.std.specs.Prelude.{◌≡◌, ◌∷◌, ◌++◌, [], reverse, IfOk, OnOk};
 ghost use Rattle.haya_latex.specs.Reading.{close, count, end_group, enter, is_inside, leave, put};
 ghost use Rattle.haya_latex.specs.Reading.{put_formula, put_last, put_output, put_text, settle};
 ghost use Rattle.haya_latex.specs.Reading.{settle_inner, start, take_turn, under, wait, write};
@@ -12,6 +11,7 @@ use crate::formulas::push_formula;
 use crate::kinds::{Kind, Turn, sign_kind};
 use crate::scans::white_length;
 use crate::tokens::Output;
+use haya_characters::string_of;
 use haya_latex_words::{Accent, dotted};
 use std::alloc::{AllocError, Global};
 
@@ -187,17 +187,6 @@ fn put_formula(reader: &mut Reader, alloc: Global, formula: &[char]) -> Result<(
         push_formula(&mut reader.chars, formula)?;
     }
     Ok(())
-}
-
-// Characters as a text.
-fn string_of(alloc: Global, chars: &[char]) -> Result<String, AllocError>
-    ensures { IfOk result (λ s. string_bytes s ≡ encode_utf8_all chars.now) }
-{
-    let mut text = String::new(alloc);
-    'chars: for c in chars {
-        text.push(*c)?;
-    }
-    Ok(text)
 }
 
 // Counts a command.

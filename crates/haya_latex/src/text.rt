@@ -1,6 +1,6 @@
 //! The text of a value, and names.
-ghost use Rattle.std.specs.Prelude.{◌≡◌, ◌≤◌, ◌<◌, ◌^◌, [], true, flat_map, length, map, reverse};
-ghost use Rattle.std.specs.Prelude.{string_bytes, take, All, IfOk, IfSome, OnOk};
+ghost use Rattle.std.specs.Prelude.{◌≡◌, ◌<◌, ◌^◌, [], true, flat_map, length, map, reverse};
+ghost use Rattle.std.specs.Prelude.{string_bytes, All, IfOk, OnOk};
 ghost use Rattle.std.specs.Str.{chars};
 ghost use Rattle.haya_latex.specs.Reading.{read_all, write};
 ghost use Rattle.haya_latex.specs.ReadingViews.{reader_view};
@@ -16,6 +16,7 @@ use crate::runs::{Run, trimmed_runs};
 use crate::scans::begins_white;
 use crate::simple::{is_literal, is_plain, is_simple};
 use crate::tokens::token_at;
+use haya_characters::{chars_of, write_chars};
 use std::alloc::{AllocError, Global};
 
 /// What the text of a value says.
@@ -171,34 +172,6 @@ fn read(alloc: Global, kind: Kind, text: &str) -> Result<Reader, AllocError>
 
 // How many characters of a text are read without a list of them in memory.
 const ROOM: usize = 64;
-
-// Writes the characters of a text to the front of `room`, if they are no more, and returns how many
-// there are.
-fn write_chars(room: &mut [char], text: &str) -> Option<usize>
-    ensures chars { IfSome result (λ n. take n room.new ≡ chars text.now) }
-    ensures within { IfSome result (λ n. n ≤ length room.new) }
-{
-    let mut count = 0;
-    'chars: for c in text.chars() {
-        if count == room.len() {
-            return None;
-        }
-        room[count] = c;
-        count += 1;
-    }
-    Some(count)
-}
-
-// The characters of a text.
-fn chars_of(alloc: Global, text: &str) -> Result<Vec<char>, AllocError>
-    ensures { IfOk result (λ v. v.items ≡ chars text.now) }
-{
-    let mut list = Vec::with_capacity(alloc, text.len())?;
-    'chars: for c in text.chars() {
-        list.push(c)?;
-    }
-    Ok(list)
-}
 
 // What characters say that are text of a kind.
 fn read_all(alloc: Global, kind: Kind, text: &[char]) -> Result<Reader, AllocError>

@@ -1,4 +1,4 @@
-use Rattle.haya_bibtex_text.proofs.Characters.{chars-joined}
+use Rattle.haya_characters.proofs.Characters.{chars-joined}
 use Rattle.haya_bibtex_text.proofs.resolved.push_text.Goals as goal
 
 pub returns : goal.returns

@@ -1,6 +1,6 @@
 use Rattle.std.proofs.Common.{[]}
 use Rattle.std.proofs.lemmas.Str.{chars-nil}
-use Rattle.haya_bibtex_text.proofs.Characters.{chars-more, map-take-more}
+use Rattle.haya_characters.proofs.Characters.{chars-more, map-take-more}
 use Rattle.haya_bibtex_text.proofs.texts.lowercase.Goals as goal
 
 pub characters-init : goal.characters-init

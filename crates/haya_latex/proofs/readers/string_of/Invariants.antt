@@ -1,7 +1,0 @@
-use Rattle.std.proofs.Common.{◌≡◌, ◌++◌, drop}
-use Rattle.std.specs.Prelude.{encode_utf8_all, string_bytes}
-use Rattle.haya_latex.proofs.readers.string_of.Given as goal
-
--- what is written, and the rest, is the text
-abbrev pub invariant-chars : goal.invariant-chars
-invariant-chars l = encode_utf8_all l.fn.chars ≡ string_bytes l.text ++ encode_utf8_all (drop l.c-index l.fn.chars)

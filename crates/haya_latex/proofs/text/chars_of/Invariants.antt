@@ -1,6 +1,0 @@
-use Rattle.std.proofs.Common.{◌≡◌}
-use Rattle.haya_latex.proofs.text.chars_of.Given as goal
-
--- the characters so far are those that were given
-abbrev pub invariant-chars : goal.invariant-chars
-invariant-chars l = l.list.items ≡ l.yielded
